@@ -1,0 +1,2 @@
+mod IdentifierExamples
+mod DeviceNameExamples
