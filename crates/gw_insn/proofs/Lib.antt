@@ -1,0 +1,9 @@
+pub mod Examples
+pub mod Rows
+pub mod Numbers
+pub mod Items
+pub mod Listings
+pub mod OneListing
+pub mod ListingExamples
+pub mod Digits
+pub mod PlainListing

@@ -1,0 +1,133 @@
+use super::{ListRefusal, read_listing};
+use crate::insn::Raw;
+use std::alloc::{AllocError, Global};
+use std::test::Fail;
+
+// `ldh [12]`, `jeq #0x806, l2, l3`, `ret #0xffffffff`, `ret #0x0`
+const LISTING: &[u8] = b"4,40 0 0 12,21 0 1 2054,6 0 0 4294967295,6 0 0 0,";
+
+const RETURN_ONE: Raw = Raw {
+    code: 6,
+    jt: 0,
+    jf: 0,
+    k: 1,
+};
+
+fn raw(code: u16, jt: u8, jf: u8, k: u32) -> Raw {
+    Raw { code, jt, jf, k }
+}
+
+#[test]
+fn reads_the_spellings_of_a_listing(rt: HostRuntime) -> Result<(), Fail> {
+    for text in [
+        "1,6 0 0 1",
+        "1,6 0 0 1,",
+        "1,6 0 0 1\n",
+        "1,6 0 0 1, \t\r\n",
+        "0000000001,0000000006 00 000 01,",
+    ] {
+        let code = read_listing(rt.alloc(), text.as_bytes())?;
+        assert_eq!(rt; code.as_slice(), [RETURN_ONE].as_slice(), "at {text:?}");
+    }
+    for text in ["0,", "00, \n"] {
+        let code = read_listing(rt.alloc(), text.as_bytes())?;
+        assert!(rt; code.is_empty(), "at {text:?}");
+    }
+    let code = read_listing(rt.alloc(), LISTING)?;
+    let want = [
+        raw(40, 0, 0, 12),
+        raw(21, 0, 1, 2054),
+        raw(6, 0, 0, 4294967295),
+        raw(6, 0, 0, 0),
+    ];
+    assert_eq!(rt; code.as_slice(), want.as_slice());
+    Ok(())
+}
+
+#[test]
+fn refuses_at_the_first_fault(rt: HostRuntime) {
+    for (text, want) in [
+        ("", ListRefusal::BadCount),
+        ("1", ListRefusal::BadCount),
+        (" 1,6 0 0 1,", ListRefusal::BadCount),
+        ("65536,6 0 0 1,", ListRefusal::BadCount),
+        ("00000000001,6 0 0 1,", ListRefusal::BadCount),
+        ("1,", ListRefusal::BadField { index: 0 }),
+        ("1, 6 0 0 1,", ListRefusal::BadField { index: 0 }),
+        ("1,6  0 0 1,", ListRefusal::BadField { index: 0 }),
+        ("1,6 0 256 1,", ListRefusal::BadField { index: 0 }),
+        ("1,65536 0 0 1,", ListRefusal::BadField { index: 0 }),
+        ("1,6 0 0 4294967296", ListRefusal::BadField { index: 0 }),
+        ("1,6 0 0 12345678901", ListRefusal::BadField { index: 0 }),
+        ("2,6 0 0 1,", ListRefusal::BadField { index: 1 }),
+        ("2,6 0 0 1", ListRefusal::BadField { index: 0 }),
+        ("1,6 0 0 1,6 0 0 1,", ListRefusal::Trailing),
+        ("1,6 0 0 1 x", ListRefusal::Trailing),
+        ("1,6 0 0 1,,", ListRefusal::Trailing),
+        ("0,6 0 0 1,", ListRefusal::Trailing),
+    ] {
+        assert_eq!(rt;
+            read_listing(rt.alloc(), text.as_bytes()).err(),
+            Some(want),
+            "at {text:?}"
+        );
+    }
+}
+
+#[test]
+fn refuses_the_prefixes_of_a_listing(rt: HostRuntime) {
+    assert_eq!(rt; LISTING.len(), 49);
+    for len in 0..50 {
+        let want = match len {
+            0..=1 => Some(ListRefusal::BadCount),
+            2..=11 => Some(ListRefusal::BadField { index: 0 }),
+            12..=23 => Some(ListRefusal::BadField { index: 1 }),
+            24..=40 => Some(ListRefusal::BadField { index: 2 }),
+            41..=47 => Some(ListRefusal::BadField { index: 3 }),
+            _ => None,
+        };
+        assert_eq!(rt;
+            read_listing(rt.alloc(), &LISTING[..len]).err(),
+            want,
+            "at {len} octets"
+        );
+    }
+}
+
+#[test]
+fn reads_the_longest_listing(rt: HostRuntime) -> Result<(), Fail> {
+    let mut text = Vec::from_slice(rt.alloc(), b"65535,")?;
+    for _ in 0..65535 {
+        text.extend_from_slice(b"6 0 0 1,")?;
+    }
+    let code = read_listing(rt.alloc(), &text)?;
+    assert_eq!(rt; code.len(), 65535);
+    assert!(rt; code.iter().all(|raw| *raw == RETURN_ONE));
+    Ok(())
+}
+
+#[test]
+fn returns_on_any_octets(rt: HostRuntime) -> Result<(), Fail> {
+    let octets = fixed_sequence(rt.alloc())?;
+    let mut rest = octets.as_slice();
+    for turn in 0..2030 {
+        let (run, others) = rest.split_at(rest.len().min(turn % 64 + 1));
+        let _ = read_listing(rt.alloc(), run);
+        rest = others;
+    }
+    assert!(rt; rest.is_empty());
+    Ok(())
+}
+
+// the first 65536 octets of the sequence of multiplier 6364136223846793005 and increment 1442695040888963407
+fn fixed_sequence(alloc: Global) -> Result<Vec<u8>, AllocError> {
+    let mut s = 1u64;
+    let mut octets = Vec::new(alloc);
+    for _ in 0..65536 {
+        s = s
+            .wrapping_mul(6364136223846793005)
+            .wrapping_add(1442695040888963407);
+        octets.push((s >> 56) as u8)?;
+    }
+    Ok(octets)
+}
