@@ -1,0 +1,4 @@
+pub mod ClaimSets
+pub mod Tables
+pub mod Apart
+mod ClaimsExamples
