@@ -1,0 +1,3 @@
+pub mod PortLists
+pub mod PortBits
+mod PortExamples

@@ -1,0 +1,4 @@
+pub mod Bounds
+pub mod Ports
+pub mod PortWord
+pub mod Ledgers
