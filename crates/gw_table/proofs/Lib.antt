@@ -1,0 +1,14 @@
+mod EmissionExamples
+pub mod Yields
+pub mod Parts
+pub mod Groups
+pub mod Words
+pub mod Prologue
+pub mod FirstMatch
+pub mod Unset
+pub mod Fine
+pub mod Emitted
+pub mod Codes
+pub mod Trees
+pub mod TreesFit
+mod TreesExamples
