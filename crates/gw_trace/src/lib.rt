@@ -1,0 +1,8 @@
+//! Readers and writers that remember whether a call failed.
+#![tactic(auto)]
+
+mod reading;
+mod tried;
+mod writing;
+
+pub use tried::Tried;
