@@ -1,0 +1,5 @@
+pub mod Answers
+pub mod Refusals
+pub mod Texts
+pub mod Verdicts
+pub mod Commands

@@ -1,0 +1,58 @@
+-- The lines of refusals.
+use Rattle.std.specs.Prelude.{ℕ, List, [], ◌∷◌, ◌++◌, codes, decimal}
+use Rattle.std.specs.List.{flat_map}
+use Rattle.gw_frame.specs.Record.{refusal_number}
+use Rattle.gw_insn.specs.Listing as listing
+use Rattle.gw_insn.specs.declared.reading.ListRefusal.{ListRefusal}
+use Rattle.gw_insn.specs.declared.reading.ListRefusal.TheVariants.{BadField}
+use Rattle.gw_verify.specs.Cause.{cause_number}
+use Rattle.gw_verify.specs.declared.cause.Cause.{Cause}
+use Rattle.gw_verify.specs.declared.cause.Cause.TheVariants.{UnsetWord, OutOfMemory}
+use Rattle.gw_table.specs.TableText as table
+use Rattle.gw_table.specs.declared.reading.TableRefusal.{TableRefusal}
+use Rattle.gw_table.specs.declared.reading.TableRefusal.TheVariants.{BadRange}
+use Rattle.gw.specs.declared.refusal.Refusal.{Refusal}
+use Rattle.gw.specs.declared.refusal.Refusal.TheVariants as refusal
+use Rattle.gw.specs.declared.refusal.Refusal.TheVariants.{Record, RecordOnLine, Listing, Program, Table, ReadFault, TooMuchInput, NotUtf8}
+use Rattle.gw.specs.declared.refusal.RecordFault.{RecordFault}
+use Rattle.gw.specs.declared.refusal.RecordFault.TheVariants.{NoRecord, BadHex}
+
+abbrev pub record_number : RecordFault → ℕ
+record_number (NoRecord why octets) = refusal_number why
+record_number (BadHex error) = 97
+
+abbrev pub number_of : Refusal → ℕ
+number_of (Record fault) = record_number fault
+number_of (RecordOnLine line fault) = record_number fault
+number_of (Listing why) = listing.refusal_number why
+number_of (Program refused) = cause_number refused.why
+number_of ReadFault = 96
+number_of (Table why) = table.refusal_number why
+number_of TooMuchInput = 98
+number_of NotUtf8 = 98
+number_of refusal.OutOfMemory = 100
+
+-- what a refusal names: the line, the instruction that is not there, the place, the place and the scratch word, the rule
+abbrev pub listing_details : ListRefusal → List ℕ
+listing_details (BadField index) = index ∷ []
+listing_details _ = []
+
+abbrev pub cause_details : Cause → ℕ → List ℕ
+cause_details (UnsetWord word) place = place ∷ word ∷ []
+cause_details OutOfMemory place = []
+cause_details _ place = place ∷ []
+
+abbrev pub table_details : TableRefusal → List ℕ
+table_details (BadRange rule) = rule ∷ []
+table_details _ = []
+
+abbrev pub details_of : Refusal → List ℕ
+details_of (RecordOnLine line fault) = line ∷ []
+details_of (Listing why) = listing_details why
+details_of (Program refused) = cause_details refused.why refused.place
+details_of (Table why) = table_details why
+details_of _ = []
+
+-- `refused` and the numbers, with spaces between
+abbrev pub refusal_line : Refusal → List ℕ
+refusal_line r = codes "refused " ++ decimal (number_of r) ++ flat_map (λ n. 32 ∷ decimal n) (details_of r) ++ 10 ∷ []

@@ -1,0 +1,42 @@
+//! The gateway's program.
+#![tactic(auto)]
+
+mod claims;
+mod command;
+mod explanation;
+mod line;
+mod refusal;
+mod streams;
+mod tables;
+mod verdict;
+mod words;
+
+use command::command;
+use gw_trace::Tried;
+use std::alloc::AllocError;
+use std::env;
+use std::process::ExitCode;
+
+fn main(rt: HostRuntime) -> ExitCode {
+    let Ok(arguments) = env::args(&rt) else {
+        return ExitCode::from(2);
+    };
+    let words: Result<Vec<String>, AllocError> = arguments.skip(1).collect(rt.alloc());
+    let Ok(words) = words else {
+        return ExitCode::from(2);
+    };
+    let mut input = Tried::new(rt.stdin());
+    let mut output = Tried::new(rt.stdout());
+    let mut faults = Tried::new(rt.stderr());
+    let status = command(
+        rt.alloc(),
+        words.as_slice(),
+        &mut input,
+        &mut output,
+        &mut faults,
+    );
+    ExitCode::from(status)
+}
+
+#[cfg(test)]
+mod tests;

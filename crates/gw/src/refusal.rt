@@ -1,0 +1,116 @@
+//! Why the program refuses what it was given.
+
+ghost use Rattle.std.specs.Prelude.{◌≡◌, ◌≤◌, ◌++◌, ◌∷◌, length, decimal};
+ghost use Rattle.std.specs.List.{flat_map};
+ghost use Rattle.gw.specs.Refusals.{cause_details};
+
+use crate::line::Line;
+use gw_frame::FrameRefusal;
+use gw_insn::ListRefusal;
+use gw_table::TableRefusal;
+use gw_verify::{Cause, Refused};
+use hex::FromHexError;
+
+/// Why a text is no record.
+#[derive(Drop)]
+pub enum RecordFault {
+    /// 1 to 4: octets that are no record.
+    NoRecord { why: FrameRefusal, octets: Vec<u8> },
+    /// 97: a text that is not written in hexadecimal digits.
+    BadHex(FromHexError),
+}
+
+impl RecordFault {
+    ghost use Rattle.gw.specs.Refusals.{record_number};
+
+    /// The number that the fault is told by.
+    pub fn number(&self) -> u32
+        ensures { result ≡ record_number self.now }
+    {
+        match self {
+            RecordFault::NoRecord { why, .. } => why.number(),
+            RecordFault::BadHex(_) => 97,
+        }
+    }
+}
+
+/// Why the program refuses what it was given.
+#[derive(Drop)]
+pub enum Refusal {
+    /// 1 to 4 and 97: a text that is no record.
+    Record(RecordFault),
+    /// The same of a line of the input, counted from 1.
+    RecordOnLine { line: usize, fault: RecordFault },
+    /// 10 to 13: a text that is no listing.
+    Listing(ListRefusal),
+    /// 20 to 30: code that is not accepted.
+    Program(Refused),
+    /// 96: a read failed.
+    ReadFault,
+    /// 50 to 55: a text that is no table.
+    Table(TableRefusal),
+    /// 98: an input of more than 1048576 octets.
+    TooMuchInput,
+    /// 98: a text that is not UTF-8.
+    NotUtf8,
+    /// 100: a growth of the program's own was refused.
+    OutOfMemory,
+}
+
+impl Refusal {
+    ghost use Rattle.std.specs.Prelude.{◌≡◌};
+    ghost use Rattle.gw.specs.Refusals.{number_of, refusal_line};
+
+    /// The number that the refusal is told by.
+    pub fn number(&self) -> u32
+        ensures { result ≡ number_of self.now }
+    {
+        match self {
+            Refusal::Record(fault) => fault.number(),
+            Refusal::RecordOnLine { fault, .. } => fault.number(),
+            Refusal::Listing(why) => why.number(),
+            Refusal::Program(refused) => refused.why.number(),
+            Refusal::ReadFault => 96,
+            Refusal::Table(why) => u32::from(why.number()),
+            Refusal::TooMuchInput => 98,
+            Refusal::NotUtf8 => 98,
+            Refusal::OutOfMemory => 100,
+        }
+    }
+
+    /// The line that tells the refusal.
+    pub fn line(&self) -> Line
+        ensures { result ≡ refusal_line self.now }
+    {
+        let line = Line::new()
+            .text("refused ")
+            .number(u64::from(self.number()));
+        let line = match self {
+            Refusal::RecordOnLine { line: at, .. } => line.text(" ").number(*at as u64),
+            Refusal::Listing(ListRefusal::BadField { index }) => line
+                .text(" ")
+                .number(*index as u64),
+            Refusal::Table(TableRefusal::BadRange { rule }) => line.text(" ").number(*rule as u64),
+            Refusal::Program(refused) => place_of(line, refused.why, refused.place),
+            _ => line,
+        };
+        line.text("\n")
+    }
+}
+
+/// The place that a cause names, and the scratch word.
+fn place_of(line: Line, why: Cause, place: usize) -> Line
+    requires { length line ≤ 32 }
+    ensures octets { result ≡ line ++ flat_map (λ n. 32 ∷ decimal n) (cause_details why place) }
+    ensures len { length result ≤ 80 }
+{
+    match why {
+        Cause::OutOfMemory => line,
+        Cause::UnsetWord { word } => line
+            .text(" ")
+            .number(place as u64)
+            .text(" ")
+            .number(u64::from(word)),
+        _ => line.text(" ").number(place as u64),
+    }
+}

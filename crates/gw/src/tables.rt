@@ -1,0 +1,45 @@
+//! Policy tables: their programs, and their verdicts.
+
+ghost use Rattle.std.specs.Prelude.{◌≡◌, ◌≤◌, length, map, IfOk};
+ghost use Rattle.gw_insn.specs.Table.{raw_of};
+
+use crate::refusal::Refusal;
+use gw_frame::Frame;
+use gw_insn::{Raw, encode, write_listing};
+use gw_table::{Table, compile};
+use gw_verify::Program;
+use std::alloc::{AllocError, Global};
+
+/// The table of an input.
+pub fn read_table(alloc: Global, input: &[u8]) -> Result<Table, Refusal> {
+    let Ok(text) = str::from_utf8(input) else {
+        return Err(Refusal::NotUtf8);
+    };
+    Table::read(alloc, text).map_err(Refusal::Table)
+}
+
+/// The listing of the program that a table is compiled to, and a line feed.
+pub fn compiled_listing(alloc: Global, table: &Table) -> Result<Vec<u8>, AllocError> {
+    let code = raws(alloc, &compile(alloc, table)?)?;
+    let mut listing = write_listing(alloc, &code)?;
+    listing.push(b'\n')?;
+    Ok(listing)
+}
+
+/// The fields of a program's instructions.
+fn raws(alloc: Global, program: &Program) -> Result<Vec<Raw>, AllocError>
+    ensures fields { IfOk result (λ raws. raws.items ≡ map raw_of program.now) }
+    ensures few { IfOk result (λ raws. length raws.items ≤ 65535) }
+{
+    let code = program.code();
+    code.iter().map(|insn| encode(*insn)).collect(alloc)
+}
+
+/// The line of a table's verdict on a frame that was taken at a port.
+pub fn verdict_word(table: &Table, frame: &Frame, port: u8) -> &'static [u8] {
+    if table.verdict(frame, port) {
+        b"pass\n"
+    } else {
+        b"block\n"
+    }
+}

@@ -1,0 +1,479 @@
+//! The worked examples, and streams that fail, through `command`.
+
+use crate::command::command;
+use gw_trace::Tried;
+use std::alloc::Global;
+use std::io;
+use std::io::{ErrorKind, Read, Write};
+use std::process::Abort;
+use std::test::Fail;
+
+const R: &str = "8CF0040008000000FFFFFFFFFFFFFFFF";
+
+const FIRST_RUN: &str =
+    "8CF0040008000000FFFFFFFFFFFFFFFF\n4,48 0 0 1,21 0 1 240,6 0 0 1,6 0 0 0,\n";
+
+/// What a command did: its status, and what it wrote to the output and to the fault stream.
+#[derive(Drop)]
+struct Outcome {
+    status: u8,
+    output: Vec<u8>,
+    faults: Vec<u8>,
+}
+
+fn outcome_of(alloc: Global, words: &[&str], input: &[u8]) -> Outcome {
+    let mut output = Vec::new(alloc);
+    let mut faults = Vec::new(alloc);
+    let mut reader = input;
+    let status = command(
+        alloc,
+        words,
+        &mut Tried::new(&mut reader),
+        &mut Tried::new(&mut output),
+        &mut Tried::new(&mut faults),
+    );
+    Outcome {
+        status,
+        output,
+        faults,
+    }
+}
+
+/// Whether each input under the words gives the status and the output of its row.
+fn answers(rt: &(impl Abort), alloc: Global, words: &[&str], rows: &[(&str, u8, &str)]) {
+    for &(input, status, output) in rows {
+        let outcome = outcome_of(alloc, words, input.as_bytes());
+        assert_eq!(rt; outcome.status, status, "on {input}");
+        assert_eq!(rt; outcome.output.as_slice(), output.as_bytes(), "on {input}");
+    }
+}
+
+#[test]
+fn first_run(rt: HostRuntime) {
+    let rows = [
+        (FIRST_RUN, 0, "pass 1\n"),
+        (
+            "8CEF040008000000FFFFFFFFFFFFFFFF\n4,48 0 0 1,21 0 1 240,6 0 0 1,6 0 0 0,\n",
+            0,
+            "block\n",
+        ),
+        (
+            "8CF0040008000000FFFFFFFFFFFFFFFF\r\n4,48 0 0 1,21 0 1 240,6 0 0 1,6 0 0 0,\r\n",
+            0,
+            "pass 1\n",
+        ),
+        ("", 1, "refused 1\n"),
+        (R, 1, "refused 10\n"),
+        ("8CG0", 1, "refused 97\n"),
+    ];
+    answers(&rt, rt.alloc(), &[], &rows);
+}
+
+#[test]
+fn checks(rt: HostRuntime) {
+    let rows = [
+        (
+            "4,21 0 1 0,2 0 0 3,96 0 0 3,22 0 0 0,",
+            1,
+            "path 0 2\nrefused 29 2 3\n",
+        ),
+        ("3,5 0 0 1,96 0 0 3,6 0 0 1,", 0, "accepted 3\n"),
+        ("0,", 1, "refused 20 0\n"),
+        ("2,52 0 0 0,6 0 0 0,", 1, "refused 23 0\n"),
+        ("2,100 0 0 32,6 0 0 0,", 1, "refused 24 0\n"),
+        ("2,2 0 0 16,6 0 0 0,", 1, "refused 25 0\n"),
+        ("1,14 0 0 0,", 1, "refused 22 0\n"),
+        ("2,5 0 0 1,6 0 0 0,", 1, "refused 26 0\n"),
+        ("2,32 0 0 4294963200,6 0 0 0,", 1, "refused 27 0\n"),
+        ("1,7 0 0 0,", 1, "refused 28 0\n"),
+        ("3,52 0 0 0,14 0 0 0,7 0 0 0,", 1, "refused 23 0\n"),
+        ("3,96 0 0 3,52 0 0 0,6 0 0 0,", 1, "refused 23 1\n"),
+        ("2,96 0 0 3,7 0 0 0,", 1, "refused 28 1\n"),
+        (
+            "6,21 0 2 0,2 0 0 3,5 0 0 1,2 0 0 3,96 0 0 3,22 0 0 0,",
+            0,
+            "accepted 6\n",
+        ),
+        ("2,97 0 0 0,22 0 0 0,", 1, "path 0\nrefused 29 0 0\n"),
+        (
+            "4,7 0 0 0,135 0 0 0,96 0 0 15,22 0 0 0,",
+            1,
+            "path 0 1 2\nrefused 29 2 15\n",
+        ),
+        ("2,32 0 0 4294963208,22 0 0 0,", 0, "accepted 2\n"),
+        ("2,40 0 0 4294963208,6 0 0 0,", 1, "refused 27 0\n"),
+    ];
+    answers(&rt, rt.alloc(), &["check"], &rows);
+}
+
+#[test]
+fn listing_refusals(rt: HostRuntime) {
+    let rows = [
+        ("1,6 0 0 1", 0, "accepted 1\n"),
+        ("1,6 0 0 1,", 0, "accepted 1\n"),
+        ("1,6 0 0 1,6 0 0 1,", 1, "refused 12\n"),
+        ("2,6 0 0 1,", 1, "refused 11 1\n"),
+        ("1,6 0 256 1,", 1, "refused 11 0\n"),
+        ("1,6 0 0 4294967296", 1, "refused 11 0\n"),
+        ("6 0 0 1", 1, "refused 10\n"),
+    ];
+    answers(&rt, rt.alloc(), &["check"], &rows);
+}
+
+#[test]
+fn verdicts(rt: HostRuntime) {
+    let alloc = rt.alloc();
+    let ends = "8CF00400080000000102030405060708";
+    let rows = [
+        ("2,48 0 0 15,22 0 0 0,", 0, "pass 8\n"),
+        ("2,40 0 0 14,22 0 0 0,", 0, "pass 1800\n"),
+        ("2,40 0 0 15,6 0 0 1,", 0, "block\n"),
+    ];
+    answers(&rt, alloc, &["verdict", ends], &rows);
+    let indexed = "8CF00400080007000102030405060708";
+    let rows = [
+        ("3,1 0 0 10,80 0 0 4294967292,22 0 0 0,", 0, "pass 7\n"),
+        ("3,1 0 0 0,60 0 0 0,6 0 0 1,", 0, "block\n"),
+    ];
+    answers(&rt, alloc, &["verdict", indexed], &rows);
+    let rows = [
+        (
+            "6,21 0 2 0,2 0 0 3,5 0 0 1,2 0 0 3,96 0 0 3,22 0 0 0,",
+            0,
+            "block\n",
+        ),
+        (
+            "5,1 0 0 7,3 0 0 15,97 0 0 15,135 0 0 0,22 0 0 0,",
+            0,
+            "pass 7\n",
+        ),
+        ("2,32 0 0 4294963208,22 0 0 0,", 0, "block\n"),
+    ];
+    answers(&rt, alloc, &["verdict", R], &rows);
+    let rows = [("2,32 0 0 4294963208,22 0 0 0,", 0, "pass 3\n")];
+    answers(&rt, alloc, &["verdict", "--port", "3", R], &rows);
+}
+
+#[test]
+fn bounds_of_a_record(rt: HostRuntime) {
+    let listing = "2,128 0 0 0,22 0 0 0,";
+    let rows = [
+        ("8CF00400000000", 1, "refused 1\n"),
+        ("8CF0040000000000", 0, "pass 8\n"),
+        ("8CF0040008000000FFFFFFFFFFFFFFFF00", 1, "refused 2\n"),
+        ("8CF0040009000000FFFFFFFFFFFFFFFF", 1, "refused 3\n"),
+        ("8CF0040008000000FFFFFFFFFFFFFF", 1, "refused 4\n"),
+        ("8CF0040003000000010203AABBCCDDEE", 0, "pass 16\n"),
+    ];
+    for (record, status, output) in rows {
+        answers(
+            &rt,
+            rt.alloc(),
+            &["verdict", record],
+            &[(listing, status, output)],
+        );
+    }
+}
+
+#[test]
+fn claims(rt: HostRuntime) {
+    let rows = [
+        (
+            "98EEFF80080000000500000000000000\n98EEFF80080000000700000000000000\n98EEFF80080000000500000000000000\n",
+            0,
+            "128 0000000000000005\n",
+        ),
+        (
+            "98EEFF80080000000500000000000000\n98EEFFFE080000000500000000000000\n",
+            0,
+            "",
+        ),
+        (
+            "98EEFF80080000000500000000000000\r\n\r\n\n98EEFF81080000000500000000000000",
+            0,
+            "129 0000000000000005\n",
+        ),
+        (
+            "98EEFF80080000000500000000000000\n98EEFF81080000000700000000000000\n98EEFF80080000000700000000000000\n",
+            0,
+            "128 0000000000000005\n",
+        ),
+        (
+            "98EEFF81080000000700000000000000\n98EEFF80080000000500000000000080\n",
+            0,
+            "128 8000000000000005\n129 0000000000000007\n",
+        ),
+        (
+            "98EEFF80080000000500000000000000\n\n98EEFF8G\n8CF004\n",
+            1,
+            "refused 97 3\n",
+        ),
+        ("\n8CF004\n", 1, "refused 1 2\n"),
+        ("", 0, ""),
+    ];
+    answers(&rt, rt.alloc(), &["claims"], &rows);
+}
+
+#[test]
+fn tables(rt: HostRuntime) {
+    let alloc = rt.alloc();
+    let rows = [
+        (
+            "",
+            0,
+            "22,32 0 0 0,84 0 0 3758096384,21 1 0 2147483648,6 0 0 0,48 0 0 3,2 0 0 1,48 0 0 1,53 7 0 240,48 0 0 2,2 0 0 2,32 0 0 0,116 0 0 8,84 0 0 261888,2 0 0 0,5 0 0 6,0 0 0 255,2 0 0 2,32 0 0 0,116 0 0 8,84 0 0 262143,2 0 0 0,6 0 0 0,\n",
+        ),
+        ("x = 1", 1, "refused 51\n"),
+        ("rule = 3", 1, "refused 51\n"),
+        ("default = \"drop\"", 1, "refused 52\n"),
+        ("[[rule]]", 1, "refused 52\n"),
+        (
+            "[[rule]]\naction = \"pass\"\npgn = [5, 4]",
+            1,
+            "refused 53 0\n",
+        ),
+        (
+            "[[rule]]\naction = \"pass\"\nsource = 256",
+            1,
+            "refused 53 0\n",
+        ),
+        (
+            "[[rule]]\naction = \"pass\"\nfrom = 256",
+            1,
+            "refused 53 0\n",
+        ),
+        ("default =", 1, "refused 50\n"),
+    ];
+    answers(&rt, alloc, &["table"], &rows);
+    answers(
+        &rt,
+        alloc,
+        &["table", "--frame", "ZZ"],
+        &[("default =", 1, "refused 97\n")],
+    );
+    let from_1 = "[[rule]]\naction = \"pass\"\nfrom = 1";
+    answers(
+        &rt,
+        alloc,
+        &["table", "--frame", R, "--port", "1"],
+        &[(from_1, 0, "pass\n")],
+    );
+    answers(
+        &rt,
+        alloc,
+        &["table", "--frame", R, "--port", "0"],
+        &[(from_1, 0, "block\n")],
+    );
+    let latin = outcome_of(alloc, &["table"], &[255]);
+    assert_eq!(rt; latin.output.as_slice(), b"refused 98\n".as_slice());
+}
+
+/// A listing of so many instructions, `ld #0` but for a last `ret #1`.
+fn long_listing(alloc: Global, count: u32) -> Result<String, Fail> {
+    let mut listing = format!(in alloc; "{count},")?;
+    for _ in 1..count {
+        listing.push_str("0 0 0 0,")?;
+    }
+    listing.push_str("6 0 0 1,")?;
+    Ok(listing)
+}
+
+#[test]
+fn longest_program(rt: HostRuntime) -> Result<(), Fail> {
+    let alloc = rt.alloc();
+    let longest = long_listing(alloc, 4096)?;
+    let longer = long_listing(alloc, 4097)?;
+    let rows = [
+        (longest.as_str(), 0, "accepted 4096\n"),
+        (longer.as_str(), 1, "refused 21 4096\n"),
+    ];
+    answers(&rt, alloc, &["check"], &rows);
+    answers(
+        &rt,
+        alloc,
+        &["verdict", R],
+        &[(longest.as_str(), 0, "pass 1\n")],
+    );
+    Ok(())
+}
+
+#[test]
+fn greatest_input(rt: HostRuntime) -> Result<(), Fail> {
+    let alloc = rt.alloc();
+    let mut input = vec![in alloc; b' '; 1048577]?;
+    let too_much = outcome_of(alloc, &["check"], &input);
+    assert_eq!(rt; too_much.status, 1);
+    assert_eq!(rt; too_much.output.as_slice(), b"refused 98\n".as_slice());
+    input.truncate(1048576);
+    let whole = outcome_of(alloc, &["check"], &input);
+    assert_eq!(rt; whole.output.as_slice(), b"refused 10\n".as_slice());
+    Ok(())
+}
+
+#[test]
+fn explanations(rt: HostRuntime) {
+    let rows = [
+        (
+            "4,21 0 1 0,2 0 0 3,96 0 0 3,22 0 0 0,",
+            "instruction 2 loads M[3], which the path 0 2 leaves unset\n",
+        ),
+        ("1,7 0 0 0,", "instruction 0, the last, is no return\n"),
+        (
+            "2,5 0 0 1,6 0 0 0,",
+            "instruction 0 jumps out of the code\n",
+        ),
+    ];
+    for (listing, explanation) in rows {
+        let checked = outcome_of(rt.alloc(), &["check"], listing.as_bytes());
+        assert_eq!(rt; checked.faults.as_slice(), explanation.as_bytes());
+        let judged = outcome_of(rt.alloc(), &["verdict", R], listing.as_bytes());
+        assert_eq!(rt; judged.faults.as_slice(), explanation.as_bytes());
+    }
+    let record = "8CF0040009000000FFFFFFFFFFFFFFFF";
+    let judged = outcome_of(rt.alloc(), &["verdict", record], b"1,6 0 0 1,");
+    let explanation = b"octet 4 says 9 octets of payload; at most 8 fit\n";
+    assert_eq!(rt; judged.faults.as_slice(), explanation.as_slice());
+}
+
+#[test]
+fn words(rt: HostRuntime) {
+    let alloc = rt.alloc();
+    let help = outcome_of(alloc, &["--help"], b"");
+    assert_eq!(rt; help.status, 0);
+    assert!(rt; !help.output.is_empty() && help.faults.is_empty());
+    let wrong: [&[&str]; 6] = [
+        &["bogus"],
+        &["verdict", "--port", "16", R],
+        &["verdict", R, R],
+        &["check", "now"],
+        &["replay"],
+        &["--"],
+    ];
+    for words in wrong {
+        let refused = outcome_of(alloc, words, b"1,6 0 0 1,");
+        assert_eq!(rt; refused.status, 2, "on {words:?}");
+        assert!(rt; refused.output.is_empty() && !refused.faults.is_empty());
+    }
+}
+
+/// A reader that gives one octet a call, and fails once it gave so many.
+#[derive(Drop)]
+struct Breaking<'a> {
+    octets: &'a [u8],
+    left: usize,
+}
+
+impl Read for Breaking<'_> {
+    fn read(&mut self, buf: &mut [u8]) -> io::Result<usize> {
+        if self.left == 0 {
+            return Err(io::Error::from(ErrorKind::Other));
+        }
+        self.left -= 1;
+        match self.octets.split_first() {
+            Some((first, rest)) if !buf.is_empty() => {
+                buf[0] = *first;
+                self.octets = rest;
+                Ok(1)
+            }
+            _ => Ok(0),
+        }
+    }
+}
+
+/// A writer that takes one octet a call, and fails once it took so many.
+#[derive(Drop)]
+struct Filling {
+    taken: Vec<u8>,
+    room: usize,
+}
+
+impl Write for Filling {
+    fn write(&mut self, buf: &[u8]) -> io::Result<usize> {
+        if self.taken.len() >= self.room || buf.is_empty() {
+            return Err(io::Error::from(ErrorKind::Other));
+        }
+        self.taken.push(buf[0])?;
+        Ok(1)
+    }
+
+    fn flush(&mut self) -> io::Result<()> {
+        Ok(())
+    }
+}
+
+/// The words of commands, each with an input and the output that it gives.
+const WHOLE_RUNS: [(&[&str], &str, &str); 4] = [
+    (&[], FIRST_RUN, "pass 1\n"),
+    (&["check"], "3,5 0 0 1,96 0 0 3,6 0 0 1,", "accepted 3\n"),
+    (
+        &["claims"],
+        "98EEFF80080000000500000000000000\n",
+        "128 0000000000000005\n",
+    ),
+    (&["table", "--frame", R], "default = \"pass\"\n", "pass\n"),
+];
+
+#[test]
+fn breaking_readers(rt: HostRuntime) {
+    let alloc = rt.alloc();
+    for (words, input, _) in WHOLE_RUNS {
+        let octets = input.as_bytes();
+        for left in 0..=octets.len() {
+            let mut output = Vec::new(alloc);
+            let mut faults = Vec::new(alloc);
+            let status = command(
+                alloc,
+                words,
+                &mut Tried::new(Breaking { octets, left }),
+                &mut Tried::new(&mut output),
+                &mut Tried::new(&mut faults),
+            );
+            assert_eq!(rt; status, 1);
+            assert_eq!(rt; output.as_slice(), b"refused 96\n".as_slice());
+        }
+    }
+}
+
+#[test]
+fn filling_writers(rt: HostRuntime) {
+    let alloc = rt.alloc();
+    for (words, input, whole) in WHOLE_RUNS {
+        for room in 0..whole.len() {
+            let mut octets = input.as_bytes();
+            let mut output = Filling {
+                taken: Vec::new(alloc),
+                room,
+            };
+            let mut faults = Vec::new(alloc);
+            let status = command(
+                alloc,
+                words,
+                &mut Tried::new(&mut octets),
+                &mut Tried::new(&mut output),
+                &mut Tried::new(&mut faults),
+            );
+            assert_eq!(rt; status, 1);
+            assert_eq!(rt; output.taken.as_slice(), &whole.as_bytes()[..room]);
+        }
+    }
+}
+
+#[test]
+fn filling_fault_stream(rt: HostRuntime) {
+    let alloc = rt.alloc();
+    let mut input: &[u8] = b"8CG0";
+    let mut output = Vec::new(alloc);
+    let mut faults = Filling {
+        taken: Vec::new(alloc),
+        room: 3,
+    };
+    let status = command::<&str, _, _, _>(
+        alloc,
+        &[],
+        &mut Tried::new(&mut input),
+        &mut Tried::new(&mut output),
+        &mut Tried::new(&mut faults),
+    );
+    assert_eq!(rt; status, 1);
+    assert_eq!(rt; output.as_slice(), b"refused 97\n".as_slice());
+}
