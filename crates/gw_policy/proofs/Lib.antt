@@ -1,0 +1,4 @@
+mod Judged
+mod PairLists
+mod PolicyExamples
+mod PolicySets

@@ -1,0 +1,62 @@
+-- Batches of policies for ports, and the policy in force. A list of batches has the newest first.
+use Rattle.std.specs.Prelude.{◌≡◌, ℕ, ◌+◌, min, Bool, false, ◌==◌, nat_lt, if◌then◌else◌, List, [], ◌∷◌, length, reverse, Option, Some, None, option_map, slice_get}
+use Rattle.std.specs.List.{find, filter_map, list_any}
+use Rattle.std.specs.Option.{option_flatten, option_map_or}
+use Rattle.std.specs.declared.sync.Arc.{Arc}
+use Rattle.std.specs.declared.alloc.Global.{Global}
+use Rattle.gw_policy.specs.Filter.{Filter, filter_passes, filter_steps}
+
+-- a port, and the policy that is to be in force for it
+pub record Pair : Type 0 where
+  pub port : ℕ
+  pub policy : Filter
+
+abbrev pub pair_of : Option (ℕ × Arc Filter Global) → Option Pair
+pair_of p = option_map (λ pair. record { port = pair.0; policy = pair.1.value }) p
+
+-- the pairs of a batch in the order in which they joined
+abbrev pub pairs_of : List (Option (ℕ × Arc Filter Global)) → List Pair
+pairs_of items = filter_map pair_of items
+
+abbrev pub names : ℕ → Pair → Bool
+names port pair = pair.port == port
+
+abbrev pub names_port : ℕ → List Pair → Bool
+names_port port pairs = list_any (names port) pairs
+
+-- the policy of the last pair that names the port, else the one before
+abbrev pub policy_after : ℕ → List Pair → Option Filter → Option Filter
+policy_after port pairs before = option_map_or (λ pair. Some pair.policy) (find (names port) (reverse pairs)) before
+
+abbrev pub last_policy : ℕ → List (List Pair) → Option Filter
+last_policy port [] = None
+last_policy port (newest ∷ earlier) = policy_after port newest (last_policy port earlier)
+
+-- the policy in force for a port after these batches: none is the opening block
+abbrev pub in_force : ℕ → List (List Pair) → Option Filter
+in_force port batches = if nat_lt port 16 then last_policy port batches else None
+
+-- the opening block passes nothing and counts as one instruction
+abbrev pub passes : Option Filter → List ℕ → ℕ → Bool
+passes policy octets port = option_map_or (λ filter. filter_passes filter octets port) policy false
+
+abbrev pub steps : Option Filter → List ℕ → ℕ → ℕ
+steps policy octets port = option_map_or (λ filter. filter_steps filter octets port) policy 1
+
+-- the policies in force, by port, and the number of batches that put them there
+pub record Places : Type 0 where
+  pub policies : List (Option Filter)
+  pub front : ℕ
+
+abbrev pub policy_at : ℕ → Places → Option Filter
+policy_at port places = option_flatten (slice_get places.policies port)
+
+-- the policies in force after these batches
+pub record StandsAfter (places : Places) (batches : List (List Pair)) : Type 0 where
+  pub front : places.front ≡ min (length batches) 4294967295
+  pub policies : (port : ℕ) → policy_at port places ≡ in_force port batches
+
+-- one batch more: of the sixteen ports each that it names has the policy of the last pair that names it
+pub record Absorbs (old : Places) (batch : List Pair) (new : Places) : Type 0 where
+  pub front : new.front ≡ min (old.front + 1) 4294967295
+  pub policies : (port : ℕ) → policy_at port new ≡ (if nat_lt port 16 then policy_after port batch (policy_at port old) else None)

@@ -1,0 +1,74 @@
+//! A policy: a program, or a table with the program that it was compiled to.
+
+ghost use Rattle.std.specs.Prelude.{◌≡◌, Some, None, IfOk, IfErr};
+ghost use Rattle.gw_table.specs.Emission.{emission};
+
+use gw_frame::Frame;
+use gw_machine::run;
+use gw_table::{Table, compile};
+use gw_verify::Program;
+use std::alloc::Global;
+use std::marker::Model;
+
+/// What decides whether a frame may leave at a port: an accepted program, or a table with the program that it was
+/// compiled to. The type keeps that both mean the same for every record and every taking port.
+#[derive(Drop)]
+pub struct Policy {
+    program: Program,
+    table: Option<Table>,
+}
+
+impl Model for Policy {
+    ghost use Rattle.gw_policy.specs.Filter.{Filter, IsFilter};
+
+    ghost Value = { Filter };
+
+    ghost view = { λ p. record { code = p.program; table = p.table } };
+
+    ghost invariant = { λ p. IsFilter (record { code = p.program; table = p.table }) };
+}
+
+impl Policy {
+    ghost use Rattle.gw_policy.specs.Filter.{filter_passes, IsFilter};
+
+    /// The policy of a program: it passes the frames on which the program's answer is not 0.
+    pub fn from_program(program: Program) -> Policy
+        ensures { result ≡ record { code = program; table = None } }
+    {
+        Policy {
+            program,
+            table: None,
+        }
+    }
+
+    /// The policy of a table, which is compiled. The table comes back where memory for its program is wanting.
+    pub fn from_table(alloc: Global, table: Table) -> Result<Policy, Table>
+        ensures policy { IfOk result (λ policy. policy ≡ record { code = emission table; table = Some table }) }
+        ensures handed_back { IfErr result (λ back. back ≡ table) }
+    {
+        match compile(alloc, &table) {
+            Ok(program) => Ok(Policy {
+                program,
+                table: Some(table),
+            }),
+            Err(_) => Err(table),
+        }
+    }
+
+    /// The program, which a table was compiled to.
+    pub fn program(&self) -> &Program
+        ensures program { result.now ≡ self.now.code }
+        ensures means { IsFilter self.now }
+    {
+        &self.program
+    }
+
+    /// Whether a frame that was taken at the port `from` passes. The program is run, also for a table.
+    pub fn verdict(&self, frame: &Frame, from: u8) -> bool
+        ensures { result ≡ filter_passes self.now frame.now from }
+    {
+        // A table and its program mean the same on records, and a frame's octets are one.
+        let _record = frame.bytes();
+        run(&self.program, frame, from) != 0
+    }
+}
