@@ -211,11 +211,14 @@ fn bad_rule(rules: &[Value]) -> Option<usize>
     rules.iter().position(|rule| rule_in(rule).is_none())
 }
 
-/// The rules that the values are, without those that are none.
+/// The rules that the values are, without those that are none. Their room is made beforehand: `collect` would ask again, and
+/// for less, where a growth is refused.
 fn read_rules(alloc: Global, rules: &[Value]) -> Result<Vec<Rule>, AllocError>
     ensures { IfOk result (λ read. read.items ≡ filter_map rule_in (map view rules.now)) }
 {
-    rules.iter().filter_map(rule_in).collect(alloc)
+    let mut read = Vec::with_capacity(alloc, rules.len())?;
+    read.extend(rules.iter().filter_map(rule_in))?;
+    Ok(read)
 }
 
 /// A rule with its action and its four ranges, or `None` where one of the five is none.
