@@ -1,0 +1,94 @@
+//! What a call answered, as one line without memory.
+
+use gw_insn::ListRefusal;
+use gw_table::TableRefusal;
+use gw_verify::{Cause, Path};
+use std::fmt;
+use std::fmt::{Display, Formatter};
+
+/// What a call answered.
+#[derive(Drop)]
+pub enum Answer {
+    /// Code of so many instructions.
+    Instructions(usize),
+    /// The listing that was written.
+    Listing(Vec<u8>),
+    /// An accepted program of so many instructions.
+    Accepted(usize),
+    /// Code that was refused, and whether the very code came back.
+    NotAccepted {
+        why: Cause,
+        place: usize,
+        is_back: bool,
+    },
+    /// The path that leaves the scratch word unset, if there is one.
+    Path(Option<Path>),
+    /// A table of so many rules.
+    Rules(usize),
+    /// Why a text is no listing.
+    NoListing(ListRefusal),
+    /// Why a text is no table.
+    NoTable(TableRefusal),
+    /// Want of memory, where the call has no number of its own for it.
+    OutOfMemory,
+}
+
+impl Display for Answer {
+    fn fmt<W: fmt::Write>(&self, f: &mut Formatter<W>) -> fmt::Result {
+        match self {
+            Answer::Instructions(count) => write!(f, "{count} instructions"),
+            Answer::Listing(octets) => f.write_str(str::from_utf8(octets).unwrap_or("no text")),
+            Answer::Accepted(count) => write!(f, "accepted {count}"),
+            Answer::NotAccepted {
+                why,
+                place,
+                is_back,
+            } => not_accepted(f, *why, *place, *is_back),
+            Answer::Path(Some(path)) => places(f, path),
+            Answer::Path(None) => f.write_str("no path"),
+            Answer::Rules(count) => write!(f, "{count} rules"),
+            Answer::NoListing(why) => no_listing(f, *why),
+            Answer::NoTable(why) => {
+                let number = why.number();
+                write!(f, "refused {number}")
+            }
+            Answer::OutOfMemory => f.write_str("refused 100"),
+        }
+    }
+}
+
+fn not_accepted<W: fmt::Write>(
+    f: &mut Formatter<W>,
+    why: Cause,
+    place: usize,
+    is_back: bool,
+) -> fmt::Result {
+    let number = why.number();
+    write!(f, "refused {number}")?;
+    match why {
+        Cause::OutOfMemory => {}
+        Cause::UnsetWord { word } => write!(f, " {place} {word}")?,
+        _ => write!(f, " {place}")?,
+    }
+    f.write_str(if is_back {
+        ", the code is back"
+    } else {
+        ", other code is back"
+    })
+}
+
+fn places<W: fmt::Write>(f: &mut Formatter<W>, path: &Path) -> fmt::Result {
+    f.write_str("path")?;
+    for place in &path.places {
+        write!(f, " {place}")?;
+    }
+    Ok(())
+}
+
+fn no_listing<W: fmt::Write>(f: &mut Formatter<W>, why: ListRefusal) -> fmt::Result {
+    let number = why.number();
+    match why {
+        ListRefusal::BadField { index } => write!(f, "refused {number} {index}"),
+        _ => write!(f, "refused {number}"),
+    }
+}

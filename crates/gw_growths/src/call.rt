@@ -1,0 +1,175 @@
+//! The library calls that take memory, each on fixed input.
+
+ghost use Rattle.std.specs.Prelude.{◌≤◌, length, IfOk};
+
+use crate::answer::Answer;
+use crate::fault::Fault;
+use gw_insn::{Raw, read_listing, write_listing};
+use gw_table::{Table, compile};
+use gw_verify::{Program, explain};
+use std::alloc::Global;
+use std::io::Write;
+
+/// `ldh [12]`, `jne #0x806, drop`, `ret #-1`, `drop: ret #0`.
+const LISTING: &str = "4,40 0 0 12,21 0 1 2054,6 0 0 4294967295,6 0 0 0,";
+
+/// The same, cut within instruction 2.
+const CUT_LISTING: &str = "4,40 0 0 12,21 0 1 2054,6 0 0 42949";
+
+/// A load of an unset word that no path reaches: accepted.
+const UNREACHABLE_LOAD: &str = "3,5 0 0 1,96 0 0 3,6 0 0 1,";
+
+/// A load, at place 2, of word 3, which one branch leaves unset: not accepted.
+const UNSET_WORD: &str = "4,21 0 1 0,2 0 0 3,96 0 0 3,22 0 0 0,";
+
+/// A table of two rules with one PGN.
+const TABLE: &str = r#"default = "pass"
+[[rule]]
+action = "pass"
+pgn = 61184
+source = 1
+[[rule]]
+action = "block"
+pgn = 61184
+"#;
+
+/// A library call that takes memory.
+#[derive(Clone, Copy, PartialEq, Eq, Debug)]
+pub enum Call {
+    /// `read_listing` on a listing.
+    ReadListing,
+    /// `read_listing` on a text that is no listing.
+    ReadCutListing,
+    /// `write_listing`.
+    WriteListing,
+    /// `Program::check` on accepted code.
+    Check,
+    /// `Program::check` on code that is not accepted.
+    CheckUnsetWord,
+    /// `explain`.
+    Explain,
+    /// `Table::read`.
+    ReadTable,
+    /// `compile`.
+    Compile,
+}
+
+impl Call {
+    /// Every call.
+    pub const ALL: [Call; 8] = [
+        Call::ReadListing,
+        Call::ReadCutListing,
+        Call::WriteListing,
+        Call::Check,
+        Call::CheckUnsetWord,
+        Call::Explain,
+        Call::ReadTable,
+        Call::Compile,
+    ];
+
+    /// The word that names the call.
+    pub fn name(self) -> &'static str {
+        match self {
+            Call::ReadListing => "read_listing",
+            Call::ReadCutListing => "read_cut_listing",
+            Call::WriteListing => "write_listing",
+            Call::Check => "check",
+            Call::CheckUnsetWord => "check_unset_word",
+            Call::Explain => "explain",
+            Call::ReadTable => "read_table",
+            Call::Compile => "compile",
+        }
+    }
+
+    /// The call that a word names.
+    pub fn named(word: &str) -> Option<Call> {
+        Call::ALL.iter().copied().find(|call| call.name() == word)
+    }
+
+    /// Prepares the call's arguments, writes `ready`, and makes the call.
+    pub fn make<W: Write>(self, alloc: Global, output: &mut W) -> Result<Answer, Fault> {
+        match self {
+            Call::ReadListing => make_read_listing(alloc, LISTING, output),
+            Call::ReadCutListing => make_read_listing(alloc, CUT_LISTING, output),
+            Call::WriteListing => make_write_listing(alloc, output),
+            Call::Check => make_check(alloc, UNREACHABLE_LOAD, output),
+            Call::CheckUnsetWord => make_check(alloc, UNSET_WORD, output),
+            Call::Explain => make_explain(alloc, output),
+            Call::ReadTable => make_read_table(alloc, output),
+            Call::Compile => make_compile(alloc, output),
+        }
+    }
+}
+
+fn make_read_listing<W: Write>(alloc: Global, text: &str, output: &mut W) -> Result<Answer, Fault> {
+    say_ready(output)?;
+    Ok(match read_listing(alloc, text.as_bytes()) {
+        Ok(code) => Answer::Instructions(code.len()),
+        Err(why) => Answer::NoListing(why),
+    })
+}
+
+fn make_write_listing<W: Write>(alloc: Global, output: &mut W) -> Result<Answer, Fault> {
+    let code = code_of(alloc, LISTING)?;
+    say_ready(output)?;
+    Ok(match write_listing(alloc, &code) {
+        Ok(listing) => Answer::Listing(listing),
+        Err(_) => Answer::OutOfMemory,
+    })
+}
+
+fn make_check<W: Write>(alloc: Global, listing: &str, output: &mut W) -> Result<Answer, Fault> {
+    let code = code_of(alloc, listing)?;
+    let copy = code.clone()?;
+    say_ready(output)?;
+    Ok(match Program::check(alloc, code) {
+        Ok(program) => Answer::Accepted(program.len()),
+        Err(refused) => Answer::NotAccepted {
+            why: refused.why,
+            place: refused.place,
+            is_back: refused.code == copy,
+        },
+    })
+}
+
+fn make_explain<W: Write>(alloc: Global, output: &mut W) -> Result<Answer, Fault> {
+    let code = code_of(alloc, UNSET_WORD)?;
+    say_ready(output)?;
+    Ok(match explain(alloc, &code, 2, 3) {
+        Ok(path) => Answer::Path(path),
+        Err(_) => Answer::OutOfMemory,
+    })
+}
+
+fn make_read_table<W: Write>(alloc: Global, output: &mut W) -> Result<Answer, Fault> {
+    say_ready(output)?;
+    Ok(match Table::read(alloc, TABLE) {
+        Ok(table) => Answer::Rules(table.rules().len()),
+        Err(why) => Answer::NoTable(why),
+    })
+}
+
+fn make_compile<W: Write>(alloc: Global, output: &mut W) -> Result<Answer, Fault> {
+    let table = Table::read(alloc, TABLE).map_err(|_| Fault::Unprepared)?;
+    say_ready(output)?;
+    Ok(match compile(alloc, &table) {
+        Ok(program) => Answer::Instructions(program.len()),
+        Err(_) => Answer::OutOfMemory,
+    })
+}
+
+/// Says that a call's arguments are there.
+fn say_ready<W: Write>(output: &mut W) -> Result<(), Fault> {
+    writeln!(output, "ready")?;
+    Ok(())
+}
+
+/// The code of a listing.
+fn code_of(alloc: Global, listing: &str) -> Result<Vec<Raw>, Fault>
+    ensures { IfOk result (λ code. length code.items ≤ 65535) }
+{
+    match read_listing(alloc, listing.as_bytes()) {
+        Ok(code) if code.len() <= 65535 => Ok(code),
+        _ => Err(Fault::Unprepared),
+    }
+}

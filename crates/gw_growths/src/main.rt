@@ -1,0 +1,55 @@
+//! Makes each library call that takes memory once, on fixed input, so that its growths can be refused in turn.
+//!
+//! Without words it makes all of them, and with a word the call of that name. Each writes `ready` once its arguments are
+//! there, and then its answer. The status is 0, or that of a fault.
+#![tactic(auto)]
+
+mod answer;
+mod call;
+mod fault;
+
+use call::Call;
+use fault::Fault;
+use std::alloc::Global;
+use std::env;
+use std::io::Write;
+use std::process::ExitCode;
+
+fn main(rt: HostRuntime) -> ExitCode {
+    match make_calls(&rt) {
+        Ok(()) => ExitCode::SUCCESS,
+        Err(fault) => {
+            let _ = writeln!(rt.stderr(), "{fault}");
+            ExitCode::from(fault.status())
+        }
+    }
+}
+
+/// Makes the calls that the words name.
+fn make_calls(rt: &HostRuntime) -> Result<(), Fault> {
+    let mut words = env::args(rt).map_err(|_| Fault::Unprepared)?.skip(1);
+    match (words.next(), words.next()) {
+        (None, _) => tell_all(rt.alloc(), &mut rt.stdout()),
+        (Some(word), None) => match Call::named(word.as_str()) {
+            Some(call) => tell(call, rt.alloc(), &mut rt.stdout()),
+            None => Err(Fault::WrongWords),
+        },
+        _ => Err(Fault::WrongWords),
+    }
+}
+
+/// Makes all calls, and writes their answers.
+fn tell_all<W: Write>(alloc: Global, output: &mut W) -> Result<(), Fault> {
+    for call in &Call::ALL {
+        tell(*call, alloc, output)?;
+    }
+    Ok(())
+}
+
+/// Makes a call, and writes its answer.
+fn tell<W: Write>(call: Call, alloc: Global, output: &mut W) -> Result<(), Fault> {
+    let answer = call.make(alloc, output)?;
+    let name = call.name();
+    writeln!(output, "{name}: {answer}")?;
+    Ok(())
+}
