@@ -1,32 +1,23 @@
-//! The machine as a static library, for the benchmark that times it beside libpcap's.
+//! The machine, and tables with their compiler, as a static library for the benchmark that times them beside libpcap's.
 #![tactic(auto)]
 
-ghost use Rattle.std.specs.Prelude.{◌≡◌, length};
+ghost use Rattle.std.specs.Prelude.{◌≡◌, ◌≢◌, drop, length};
+ghost use Rattle.std.specs.Bool.{OnFalse, OnTrue};
+ghost use Rattle.gw_bench.specs.Exports.{IsCompiled, IsJudged, IsRun};
 
-use gw_frame::Frame;
-use gw_insn::Raw;
-use gw_machine::run;
-use gw_verify::Program;
+mod interchange;
+mod loading;
+mod rounds;
+
+use gw_table::compile;
+pub use interchange::{BpfInsn, Record};
+use loading::{load_frames, load_program, load_table, store_code};
+use rounds::{judge_rounds, run_rounds};
 use std::alloc::Global;
 
-/// `struct bpf_insn`.
-#[repr(C)]
-#[derive(Clone, Copy)]
-pub struct BpfInsn {
-    pub code: u16,
-    pub jt: u8,
-    pub jf: u8,
-    pub k: u32,
-}
-
-/// The octets of a record.
-#[repr(C)]
-#[derive(Clone, Copy)]
-pub struct Record {
-    pub octets: [u8; 16],
-}
-
-/// Runs code on each record.
+/// Runs code on each record, taken at port 0, in so many rounds. True: the answers are those of the code's program, or
+/// with no round what they were. False: the code is refused (`Program::check`), the octets of a record are no
+/// record (`Frame::read`), or memory was wanting; the answers are what they were.
 #[unsafe(no_mangle)]
 pub extern "C" fn gw_bench_run(
     alloc: Global,
@@ -36,37 +27,65 @@ pub extern "C" fn gw_bench_run(
     answers: &mut [u32],
 ) -> bool
     requires { length answers.old ≡ length records.now }
+    ensures ran { OnTrue result (IsRun code.now records.now rounds answers.old answers.new) }
+    ensures refused { OnFalse result (answers.new ≡ answers.old) }
 {
-    let mut raws = Vec::new(alloc);
-    for insn in code {
-        if raws
-            .push(Raw {
-                code: insn.code,
-                jt: insn.jt,
-                jf: insn.jf,
-                k: insn.k,
-            })
-            .is_err()
-        {
-            return false;
-        }
-    }
-    let Ok(program) = Program::check(alloc, raws) else {
+    let Some(program) = load_program(alloc, code) else {
         return false;
     };
-    let mut frames = Vec::new(alloc);
-    for record in records {
-        let Ok(frame) = Frame::read(&record.octets) else {
-            return false;
-        };
-        if frames.push(frame).is_err() {
-            return false;
-        }
-    }
-    for _ in 0..rounds {
-        for (frame, answer) in frames.iter().zip(answers.iter_mut()) {
-            *answer = run(&program, frame, 0);
-        }
-    }
+    let Some(frames) = load_frames(alloc, records) else {
+        return false;
+    };
+    run_rounds(&program, &frames, rounds, answers);
     true
 }
+
+/// Judges each record, taken at port 0, by the table of a TOML text in so many rounds. True: the verdicts are the
+/// table's (true passes), or with no round what they were. False: the text is no table (`Table::read`), the
+/// octets of a record are no record, or memory was wanting; the verdicts are what they were.
+#[unsafe(no_mangle)]
+pub extern "C" fn gw_bench_judge(
+    alloc: Global,
+    text: &[u8],
+    records: &[Record],
+    rounds: u32,
+    verdicts: &mut [bool],
+) -> bool
+    requires { length verdicts.old ≡ length records.now }
+    ensures judged { OnTrue result (IsJudged text.now records.now rounds verdicts.old verdicts.new) }
+    ensures refused { OnFalse result (verdicts.new ≡ verdicts.old) }
+{
+    let Some(table) = load_table(alloc, text) else {
+        return false;
+    };
+    let Some(frames) = load_frames(alloc, records) else {
+        return false;
+    };
+    judge_rounds(&table, &frames, rounds, verdicts);
+    true
+}
+
+/// Writes the program that the table of a TOML text is compiled to, and returns how many instructions it has: at
+/// least 22. What stands behind them in `code` is left. 0, with nothing written: the text is no table, the code has no room
+/// for the program, or memory was wanting.
+#[unsafe(no_mangle)]
+pub extern "C" fn gw_bench_compile(alloc: Global, text: &[u8], code: &mut [BpfInsn]) -> usize
+    ensures compiled { result ≢ 0 → IsCompiled text.now result code.new }
+    ensures behind { drop result code.new ≡ drop result code.old }
+{
+    let Some(table) = load_table(alloc, text) else {
+        return 0;
+    };
+    let Ok(program) = compile(alloc, &table) else {
+        return 0;
+    };
+    let insns = program.code();
+    if insns.len() > code.len() {
+        return 0;
+    }
+    store_code(insns, code);
+    insns.len()
+}
+
+#[cfg(test)]
+mod tests;
