@@ -1,0 +1,35 @@
+/* What the files of the driver share. */
+#ifndef BENCH_H
+#define BENCH_H
+
+#include <pcap/pcap.h>
+#include <stdbool.h>
+#include <stddef.h>
+#include <stdint.h>
+#include <sys/types.h>
+
+enum { RECORDS = 1024, REPEATS = 100, LONGEST = 4096 };
+
+/* The exports of gw_bench. A slice is passed as a pointer and a length. */
+bool gw_bench_run(const struct bpf_insn *code, size_t length, const uint8_t (*records)[16], size_t count,
+                  uint32_t rounds, uint32_t *answers, size_t room);
+bool gw_bench_judge(const char *text, size_t length, const uint8_t (*records)[16], size_t count, uint32_t rounds,
+                    bool *verdicts, size_t room);
+size_t gw_bench_compile(const char *text, size_t length, struct bpf_insn *code, size_t room);
+
+struct program {
+    const char *name;
+    size_t length;
+    struct bpf_insn code[LONGEST];
+};
+
+/* The four programs. */
+void write_filter(struct program *p);
+void write_empty_table(struct program *p);
+void write_rules(struct program *p);
+void write_long_table(struct program *p);
+
+/* The first records of a vehicle's bus. */
+void write_records(uint8_t (*records)[16]);
+
+#endif
