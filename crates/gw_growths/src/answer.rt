@@ -25,6 +25,15 @@ pub enum Answer {
     Path(Option<Path>),
     /// A table of so many rules.
     Rules(usize),
+    /// A table that became no policy, and whether the very table came back.
+    NoPolicy {
+        is_back: bool,
+    },
+    /// A set of policies after so many batches, and whether the port that the last one names passes a frame.
+    InForce {
+        front: u32,
+        passes: bool,
+    },
     /// Why a text is no listing.
     NoListing(ListRefusal),
     /// Why a text is no table.
@@ -47,6 +56,15 @@ impl Display for Answer {
             Answer::Path(Some(path)) => places(f, path),
             Answer::Path(None) => f.write_str("no path"),
             Answer::Rules(count) => write!(f, "{count} rules"),
+            Answer::NoPolicy { is_back } => f.write_str(if *is_back {
+                "refused, the table is back"
+            } else {
+                "refused, another table is back"
+            }),
+            Answer::InForce { front, passes } => {
+                let verdict = if *passes { "pass" } else { "block" };
+                write!(f, "front {front}, {verdict}")
+            }
             Answer::NoListing(why) => no_listing(f, *why),
             Answer::NoTable(why) => {
                 let number = why.number();

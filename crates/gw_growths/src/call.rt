@@ -4,11 +4,14 @@ ghost use Rattle.std.specs.Prelude.{◌≤◌, length, IfOk};
 
 use crate::answer::Answer;
 use crate::fault::Fault;
+use gw_frame::Frame;
 use gw_insn::{Raw, read_listing, write_listing};
+use gw_policy::{Batch, Policy, PolicySet};
 use gw_table::{Table, compile};
 use gw_verify::{Program, explain};
 use std::alloc::Global;
 use std::io::Write;
+use std::sync::Arc;
 
 /// `ldh [12]`, `jne #0x806, drop`, `ret #-1`, `drop: ret #0`.
 const LISTING: &str = "4,40 0 0 12,21 0 1 2054,6 0 0 4294967295,6 0 0 0,";
@@ -33,6 +36,19 @@ action = "block"
 pgn = 61184
 "#;
 
+/// `ret #1`, and `ret #0`.
+const PASS: &str = "1,6 0 0 1,";
+
+const BLOCK: &str = "1,6 0 0 0,";
+
+/// EEC1 of an engine.
+const ENGINE_SPEED: [u8; 16] = [
+    0x8C, 0xF0, 0x04, 0x00, 8, 0, 0, 0, 255, 255, 255, 255, 255, 255, 255, 255,
+];
+
+/// The port whose policy is replaced.
+const PORT: u8 = 3;
+
 /// A library call that takes memory.
 #[derive(Clone, Copy, PartialEq, Eq, Debug)]
 pub enum Call {
@@ -52,11 +68,15 @@ pub enum Call {
     ReadTable,
     /// `compile`.
     Compile,
+    /// `Policy::from_table`.
+    FromTable,
+    /// `PolicySet::absorb`, which copies an `Arc` and so takes no memory of the allocator.
+    Absorb,
 }
 
 impl Call {
     /// Every call.
-    pub const ALL: [Call; 8] = [
+    pub const ALL: [Call; 10] = [
         Call::ReadListing,
         Call::ReadCutListing,
         Call::WriteListing,
@@ -65,6 +85,8 @@ impl Call {
         Call::Explain,
         Call::ReadTable,
         Call::Compile,
+        Call::FromTable,
+        Call::Absorb,
     ];
 
     /// The word that names the call.
@@ -78,6 +100,8 @@ impl Call {
             Call::Explain => "explain",
             Call::ReadTable => "read_table",
             Call::Compile => "compile",
+            Call::FromTable => "from_table",
+            Call::Absorb => "absorb",
         }
     }
 
@@ -97,6 +121,8 @@ impl Call {
             Call::Explain => make_explain(alloc, output),
             Call::ReadTable => make_read_table(alloc, output),
             Call::Compile => make_compile(alloc, output),
+            Call::FromTable => make_from_table(alloc, output),
+            Call::Absorb => make_absorb(alloc, output),
         }
     }
 }
@@ -156,6 +182,52 @@ fn make_compile<W: Write>(alloc: Global, output: &mut W) -> Result<Answer, Fault
         Ok(program) => Answer::Instructions(program.len()),
         Err(_) => Answer::OutOfMemory,
     })
+}
+
+fn make_from_table<W: Write>(alloc: Global, output: &mut W) -> Result<Answer, Fault> {
+    let table = Table::read(alloc, TABLE).map_err(|_| Fault::Unprepared)?;
+    let (default, other) = (table.default(), table.other());
+    let rules = table.rules().to_vec(alloc)?;
+    say_ready(output)?;
+    Ok(match Policy::from_table(alloc, table) {
+        Ok(policy) => Answer::Instructions(policy.program().len()),
+        Err(back) => Answer::NoPolicy {
+            is_back: back.default() == default
+                && back.other() == other
+                && back.rules() == rules.as_slice(),
+        },
+    })
+}
+
+/// The set has one batch, which blocks, and is to absorb one that passes.
+fn make_absorb<W: Write>(alloc: Global, output: &mut W) -> Result<Answer, Fault> {
+    let frame = Frame::read(&ENGINE_SPEED).map_err(|_| Fault::Unprepared)?;
+    let mut set = PolicySet::new();
+    set.absorb(&batch_of(alloc, BLOCK)?)?;
+    let batch = batch_of(alloc, PASS)?;
+    say_ready(output)?;
+    Ok(match set.absorb(&batch) {
+        Ok(()) => Answer::InForce {
+            front: set.front(),
+            passes: set.verdict(PORT, &frame, 0),
+        },
+        Err(_) => Answer::OutOfMemory,
+    })
+}
+
+/// A batch of one pair: the port, and the policy of a listing.
+fn batch_of(alloc: Global, listing: &str) -> Result<Batch, Fault> {
+    let Ok(program) = Program::check(alloc, code_of(alloc, listing)?) else {
+        return Err(Fault::Unprepared);
+    };
+    let Ok(policy) = Arc::new(alloc, Policy::from_program(program)) else {
+        return Err(Fault::Unprepared);
+    };
+    let mut batch = Batch::new();
+    match batch.add(PORT, policy) {
+        Ok(()) => Ok(batch),
+        Err(_) => Err(Fault::Unprepared),
+    }
 }
 
 /// Says that a call's arguments are there.
