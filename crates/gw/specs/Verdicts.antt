@@ -1,7 +1,7 @@
 -- What a program answers on a record, both given as text.
 use Rattle.std.specs.Prelude.{◌≡◌, ℕ, List, map, Some, Ok, Err}
 use Rattle.hex.specs.Hex.{decode_of}
-use Rattle.gw_frame.specs.Record.{IsRecord, IsRefused}
+use Rattle.gw_frame.specs.Record.{IsRecord, refusal_of}
 use Rattle.gw_insn.specs.declared.insn.Raw.{Raw}
 use Rattle.gw_insn.specs.declared.insn.Insn.{Insn}
 use Rattle.gw_insn.specs.Table.{insn_of}
@@ -45,7 +45,7 @@ IsProgramRefusal listing _ = ⊥
 -- digits that are no hex, or octets that are no record
 abbrev pub IsRecordFault : List ℕ → RecordFault → Type 0
 IsRecordFault text (BadHex error) = decode_of text ≡ Err error
-IsRecordFault text (NoRecord why octets) = (decode_of text ≡ Ok octets.items) × IsRefused octets.items why
+IsRecordFault text (NoRecord why octets) = (decode_of text ≡ Ok octets.items) × (refusal_of octets.items ≡ Some why)
 
 -- what refuses a record's text: its fault, or want of memory
 abbrev pub IsRecordRefusal : List ℕ → Refusal → Type 0

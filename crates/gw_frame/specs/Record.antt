@@ -24,14 +24,7 @@ pub record IsRecord (octets : List ℕ) : Type 0 where
   pub length_fits : payload_length octets ≤ 8
   pub not_cut : 8 + payload_length octets ≤ length octets
 
--- the first of these that holds
-abbrev pub IsRefused : List ℕ → FrameRefusal → Type 0
-IsRefused octets TooShort = length octets < 8
-IsRefused octets TooLong = 16 < length octets
-IsRefused octets BadLength = (8 ≤ length octets) × (length octets ≤ 16) × (8 < payload_length octets)
-IsRefused octets PayloadCut = (8 ≤ length octets) × (payload_length octets ≤ 8) × (length octets < 8 + payload_length octets)
-
--- the same as a function of the octets: their first refusal, and none for a record
+-- why octets are no record: the first of these that holds
 abbrev pub refusal_of : List ℕ → Option FrameRefusal
 refusal_of octets =
     if nat_lt (length octets) 8 then Some TooShort

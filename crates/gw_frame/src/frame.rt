@@ -1,8 +1,8 @@
 //! A frame, as the octets of its record.
 
-ghost use Rattle.std.specs.Prelude.{◌≡◌, length, IfOk, IfErr};
+ghost use Rattle.std.specs.Prelude.{◌≡◌, length, IfOk};
 ghost use Rattle.std.specs.Result.{result_err};
-ghost use Rattle.gw_frame.specs.Record.{IsRecord, IsRefused, refusal_of, refusal_number, word_of, payload_length, payload_of};
+ghost use Rattle.gw_frame.specs.Record.{IsRecord, refusal_of, refusal_number, word_of, payload_length, payload_of};
 
 use byteorder::{BigEndian, ByteOrder};
 use gw_ident::CanId;
@@ -72,8 +72,7 @@ impl Frame {
     /// Reads a record: all octets of the slice, no more and no fewer.
     pub fn read(octets: &[u8]) -> Result<Frame, FrameRefusal>
         ensures read { IfOk result (λ frame. IsRecord octets.now × (frame ≡ octets.now)) }
-        ensures refused { IfErr result (IsRefused octets.now) }
-        ensures first { refusal_of octets.now ≡ result_err result }
+        ensures refused { refusal_of octets.now ≡ result_err result }
     {
         let len = octets.len();
         if len < PAYLOAD {
