@@ -1,16 +1,14 @@
-//! The worked examples, and streams that fail, through `command`.
+//! The worked examples through `command`.
 
 use crate::command::command;
 use gw_trace::Tried;
 use std::alloc::Global;
-use std::io;
-use std::io::{ErrorKind, Read, Write};
 use std::process::Abort;
 use std::test::Fail;
 
-const R: &str = "8CF0040008000000FFFFFFFFFFFFFFFF";
+pub const R: &str = "8CF0040008000000FFFFFFFFFFFFFFFF";
 
-const FIRST_RUN: &str =
+pub const FIRST_RUN: &str =
     "8CF0040008000000FFFFFFFFFFFFFFFF\n4,48 0 0 1,21 0 1 240,6 0 0 1,6 0 0 0,\n";
 
 /// What a command did: its status, and what it wrote to the output and to the fault stream.
@@ -354,126 +352,4 @@ fn words(rt: HostRuntime) {
         assert_eq!(rt; refused.status, 2, "on {words:?}");
         assert!(rt; refused.output.is_empty() && !refused.faults.is_empty());
     }
-}
-
-/// A reader that gives one octet a call, and fails once it gave so many.
-#[derive(Drop)]
-struct Breaking<'a> {
-    octets: &'a [u8],
-    left: usize,
-}
-
-impl Read for Breaking<'_> {
-    fn read(&mut self, buf: &mut [u8]) -> io::Result<usize> {
-        if self.left == 0 {
-            return Err(io::Error::from(ErrorKind::Other));
-        }
-        self.left -= 1;
-        match self.octets.split_first() {
-            Some((first, rest)) if !buf.is_empty() => {
-                buf[0] = *first;
-                self.octets = rest;
-                Ok(1)
-            }
-            _ => Ok(0),
-        }
-    }
-}
-
-/// A writer that takes one octet a call, and fails once it took so many.
-#[derive(Drop)]
-struct Filling {
-    taken: Vec<u8>,
-    room: usize,
-}
-
-impl Write for Filling {
-    fn write(&mut self, buf: &[u8]) -> io::Result<usize> {
-        if self.taken.len() >= self.room || buf.is_empty() {
-            return Err(io::Error::from(ErrorKind::Other));
-        }
-        self.taken.push(buf[0])?;
-        Ok(1)
-    }
-
-    fn flush(&mut self) -> io::Result<()> {
-        Ok(())
-    }
-}
-
-/// The words of commands, each with an input and the output that it gives.
-const WHOLE_RUNS: [(&[&str], &str, &str); 4] = [
-    (&[], FIRST_RUN, "pass 1\n"),
-    (&["check"], "3,5 0 0 1,96 0 0 3,6 0 0 1,", "accepted 3\n"),
-    (
-        &["claims"],
-        "98EEFF80080000000500000000000000\n",
-        "128 0000000000000005\n",
-    ),
-    (&["table", "--frame", R], "default = \"pass\"\n", "pass\n"),
-];
-
-#[test]
-fn breaking_readers(rt: HostRuntime) {
-    let alloc = rt.alloc();
-    for (words, input, _) in WHOLE_RUNS {
-        let octets = input.as_bytes();
-        for left in 0..=octets.len() {
-            let mut output = Vec::new(alloc);
-            let mut faults = Vec::new(alloc);
-            let status = command(
-                alloc,
-                words,
-                &mut Tried::new(Breaking { octets, left }),
-                &mut Tried::new(&mut output),
-                &mut Tried::new(&mut faults),
-            );
-            assert_eq!(rt; status, 1);
-            assert_eq!(rt; output.as_slice(), b"refused 96\n".as_slice());
-        }
-    }
-}
-
-#[test]
-fn filling_writers(rt: HostRuntime) {
-    let alloc = rt.alloc();
-    for (words, input, whole) in WHOLE_RUNS {
-        for room in 0..whole.len() {
-            let mut octets = input.as_bytes();
-            let mut output = Filling {
-                taken: Vec::new(alloc),
-                room,
-            };
-            let mut faults = Vec::new(alloc);
-            let status = command(
-                alloc,
-                words,
-                &mut Tried::new(&mut octets),
-                &mut Tried::new(&mut output),
-                &mut Tried::new(&mut faults),
-            );
-            assert_eq!(rt; status, 1);
-            assert_eq!(rt; output.taken.as_slice(), &whole.as_bytes()[..room]);
-        }
-    }
-}
-
-#[test]
-fn filling_fault_stream(rt: HostRuntime) {
-    let alloc = rt.alloc();
-    let mut input: &[u8] = b"8CG0";
-    let mut output = Vec::new(alloc);
-    let mut faults = Filling {
-        taken: Vec::new(alloc),
-        room: 3,
-    };
-    let status = command::<&str, _, _, _>(
-        alloc,
-        &[],
-        &mut Tried::new(&mut input),
-        &mut Tried::new(&mut output),
-        &mut Tried::new(&mut faults),
-    );
-    assert_eq!(rt; status, 1);
-    assert_eq!(rt; output.as_slice(), b"refused 97\n".as_slice());
 }
