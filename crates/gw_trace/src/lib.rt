@@ -6,3 +6,6 @@ mod tried;
 mod writing;
 
 pub use tried::Tried;
+
+#[cfg(test)]
+mod tests;
