@@ -1,13 +1,9 @@
--- What the command `verdict` does: it reads the input whole, judges a record by a listing, and writes one line.
--- Without words it is the command without a record's word, for port 0.
+-- What a command does: it reads its input whole, and writes the answer to it or its first refusal.
 use Rattle.std.specs.Prelude.{◌≡◌, ℕ, ◌<◌, ◌≤◌, ◌⊎◌, Bool, true, List, length, Option}
 use Rattle.std.specs.Io.KnownBytes.{Appends, IsAtEnd, Consumes}
 use Rattle.gw.specs.declared.refusal.Refusal.{Refusal}
 use Rattle.gw.specs.declared.refusal.Refusal.TheVariants.{ReadFault, TooMuchInput, OutOfMemory}
 use Rattle.gw.specs.Refusals.{refusal_line}
-use Rattle.gw.specs.Answers.{verdict_line}
-use Rattle.gw.specs.Texts.{record_text, listing_text}
-use Rattle.gw.specs.Verdicts.{IsVerdict, IsVerdictRefusal}
 
 -- the most octets of an input
 abbrev pub most_input : ℕ
@@ -26,31 +22,30 @@ IsInputRefusal before after failed TooMuchInput = (octets : List ℕ) × Consume
 IsInputRefusal before after failed OutOfMemory = Unit {0}
 IsInputRefusal before after failed _ = ⊥
 
--- the answer on what the reader gave
-pub record IsJudged (before after : Option (List ℕ)) (word : Option (List ℕ)) (port answer : ℕ) : Type 0 where
+-- the line answers what the reader gave
+pub record IsAnswer (Answers : List ℕ → List ℕ → Type 0) (before after : Option (List ℕ)) (line : List ℕ) : Type 0 where
   pub input : List ℕ
   pub read : IsInput before after input
-  pub verdict : IsVerdict (record_text word input) (listing_text word input) port answer
+  pub answers : Answers input line
 
--- the first refusal of an input that was read
-pub record RefusesInput (before after : Option (List ℕ)) (word : Option (List ℕ)) (refusal : Refusal) : Type 0 where
+-- what the reader gave is refused
+pub record RefusesInput (Refuses : List ℕ → Refusal → Type 0) (before after : Option (List ℕ)) (refusal : Refusal) : Type 0 where
   pub input : List ℕ
   pub read : IsInput before after input
-  pub first : IsVerdictRefusal (record_text word input) (listing_text word input) refusal
+  pub first : Refuses input refusal
 
 -- the first refusal: that of the reading comes before every other
-abbrev pub IsJudgedRefusal : Option (List ℕ) → Option (List ℕ) → Bool → Option (List ℕ) → Refusal → Type 0
-IsJudgedRefusal before after failed word refusal =
-    IsInputRefusal before after failed refusal ⊎ RefusesInput before after word refusal
+abbrev pub IsFirstRefusal : (List ℕ → Refusal → Type 0) → Option (List ℕ) → Option (List ℕ) → Bool → Refusal → Type 0
+IsFirstRefusal Refuses before after failed refusal = IsInputRefusal before after failed refusal ⊎ RefusesInput Refuses before after refusal
 
--- status 0: the line of the verdict was written
-pub record WritesVerdict (before after : Option (List ℕ)) (word : Option (List ℕ)) (port : ℕ) (old new : Option (List ℕ)) : Type 0 where
-  pub answer : ℕ
-  pub judged : IsJudged before after word port answer
-  pub written : Appends old new (verdict_line answer)
+-- status 0: the line that answers was written
+pub record WritesAnswer (Answers : List ℕ → List ℕ → Type 0) (before after old new : Option (List ℕ)) : Type 0 where
+  pub line : List ℕ
+  pub answer : IsAnswer Answers before after line
+  pub written : Appends old new line
 
 -- status 1 and no failed write: the line of the first refusal was written
-pub record WritesRefusal (before after : Option (List ℕ)) (failed : Bool) (word : Option (List ℕ)) (old new : Option (List ℕ)) : Type 0 where
+pub record WritesRefusal (Refuses : List ℕ → Refusal → Type 0) (before after : Option (List ℕ)) (failed : Bool) (old new : Option (List ℕ)) : Type 0 where
   pub refusal : Refusal
-  pub first : IsJudgedRefusal before after failed word refusal
+  pub first : IsFirstRefusal Refuses before after failed refusal
   pub written : Appends old new (refusal_line refusal)

@@ -1,5 +1,6 @@
 pub mod Answers
+pub mod Commands
 pub mod Refusals
+pub mod Tables
 pub mod Texts
 pub mod Verdicts
-pub mod Commands

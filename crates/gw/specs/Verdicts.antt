@@ -1,5 +1,5 @@
 -- What a program answers on a record, both given as text.
-use Rattle.std.specs.Prelude.{◌≡◌, ℕ, List, map, Some, Ok, Err}
+use Rattle.std.specs.Prelude.{◌≡◌, ℕ, List, map, Option, Some, Ok, Err}
 use Rattle.hex.specs.Hex.{decode_of}
 use Rattle.gw_frame.specs.Record.{IsRecord, refusal_of}
 use Rattle.gw_insn.specs.declared.insn.Raw.{Raw}
@@ -13,6 +13,8 @@ use Rattle.gw.specs.declared.refusal.Refusal.{Refusal}
 use Rattle.gw.specs.declared.refusal.Refusal.TheVariants.{Record, Listing, Program, OutOfMemory}
 use Rattle.gw.specs.declared.refusal.RecordFault.{RecordFault}
 use Rattle.gw.specs.declared.refusal.RecordFault.TheVariants.{NoRecord, BadHex}
+use Rattle.gw.specs.Answers.{verdict_line}
+use Rattle.gw.specs.Texts.{record_text, listing_text}
 
 -- the hex text of a record
 pub record NamesRecord (text : List ℕ) (octets : List ℕ) : Type 0 where
@@ -60,3 +62,12 @@ IsVerdictRefusal text listing (Listing why) =
 IsVerdictRefusal text listing (Program refused) =
     (octets : List ℕ) × NamesRecord text octets × IsProgramRefusal listing (Program refused)
 IsVerdictRefusal text listing refusal = IsRecordRefusal text refusal
+
+-- What the command `verdict` answers and refuses, with a word of the command line for the record's text or without, and for
+-- a taking port.
+abbrev pub AnswersVerdict : Option (List ℕ) → ℕ → List ℕ → List ℕ → Type 0
+AnswersVerdict word port input line =
+    (answer : ℕ) × IsVerdict (record_text word input) (listing_text word input) port answer × (line ≡ verdict_line answer)
+
+abbrev pub RefusesVerdict : Option (List ℕ) → List ℕ → Refusal → Type 0
+RefusesVerdict word input refusal = IsVerdictRefusal (record_text word input) (listing_text word input) refusal

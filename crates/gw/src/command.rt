@@ -1,10 +1,13 @@
 //! The program's commands, over a reader and two writers.
 
-ghost use Rattle.std.specs.Prelude.{◌≡◌, ◌⊎◌, length, true, false, None, option_copied, IfOk, IfErr};
+ghost use Rattle.std.specs.Prelude.{◌≡◌, ◌⊎◌, length, true, false, if◌then◌else◌, is_ok, None, option_copied, IfOk, IfErr};
 ghost use Rattle.std.specs.Io.KnownBytes.{Appends};
 ghost use Rattle.gw_trace.specs.Tries.{inner_of, has_failed, reads_of};
 ghost use Rattle.gw.specs.Refusals.{refusal_line};
-ghost use Rattle.gw.specs.Commands.{IsJudged, IsJudgedRefusal, WritesVerdict, WritesRefusal};
+ghost use Rattle.gw.specs.Commands.{IsAnswer, IsFirstRefusal, WritesAnswer, WritesRefusal};
+ghost use Rattle.gw.specs.Answers.{verdict_line};
+ghost use Rattle.gw.specs.Verdicts.{AnswersVerdict, RefusesVerdict};
+ghost use Rattle.gw.specs.Tables.{AnswersTable, RefusesTable};
 
 use crate::claims::{heard, holders};
 use crate::explanation::{Explanation, Places};
@@ -38,10 +41,10 @@ pub fn command<S: AsStr, R: Read, W: Write, F: Write>(
 
     // Without words: the record's line and the listing, judged for port 0.
     ensures status { length words.now ≡ 0 → (result ≡ 0) ⊎ (result ≡ 1) }
-    ensures verdict { length words.now ≡ 0 → result ≡ 0 → WritesVerdict (R.remaining (inner_of input.old)) (R.remaining (inner_of input.new)) None 0
+    ensures verdict { length words.now ≡ 0 → result ≡ 0 → WritesAnswer (AnswersVerdict None 0) (R.remaining (inner_of input.old)) (R.remaining (inner_of input.new))
         (W.contents (inner_of output.old)) (W.contents (inner_of output.new)) }
     ensures refusal { length words.now ≡ 0 → result ≡ 1 → (has_failed output.new ≡ true)
-        ⊎ WritesRefusal (R.remaining (inner_of input.old)) (R.remaining (inner_of input.new)) (has_failed input.new) None
+        ⊎ WritesRefusal (RefusesVerdict None) (R.remaining (inner_of input.old)) (R.remaining (inner_of input.new)) (has_failed input.new)
         (W.contents (inner_of output.old)) (W.contents (inner_of output.new)) }
 {
     if words.is_empty() {
@@ -71,10 +74,10 @@ fn give_verdict<R: Read, W: Write, F: Write>(
     requires output { has_failed output.old ≡ false }
     requires faults { has_failed faults.old ≡ false }
     ensures status { (result ≡ 0) ⊎ (result ≡ 1) }
-    ensures verdict { result ≡ 0 → WritesVerdict (R.remaining (inner_of input.old)) (R.remaining (inner_of input.new)) (option_copied word.entry) port
+    ensures verdict { result ≡ 0 → WritesAnswer (AnswersVerdict (option_copied word.entry) port) (R.remaining (inner_of input.old)) (R.remaining (inner_of input.new))
         (W.contents (inner_of output.old)) (W.contents (inner_of output.new)) }
     ensures refusal { result ≡ 1 → (has_failed output.new ≡ true)
-        ⊎ WritesRefusal (R.remaining (inner_of input.old)) (R.remaining (inner_of input.new)) (has_failed input.new) (option_copied word.entry)
+        ⊎ WritesRefusal (RefusesVerdict (option_copied word.entry)) (R.remaining (inner_of input.old)) (R.remaining (inner_of input.new)) (has_failed input.new)
         (W.contents (inner_of output.old)) (W.contents (inner_of output.new)) }
 {
     match judged(alloc, port, word, input) {
@@ -97,8 +100,8 @@ fn judged<R: Read>(
     input: &mut Tried<R>,
 ) -> Result<u32, Refusal>
     requires { has_failed input.old ≡ false }
-    ensures answer { IfOk result (λ answer. IsJudged (R.remaining (inner_of input.old)) (R.remaining (inner_of input.new)) (option_copied word.entry) port answer) }
-    ensures refused { IfErr result (λ refusal. IsJudgedRefusal (R.remaining (inner_of input.old)) (R.remaining (inner_of input.new)) (has_failed input.new) (option_copied word.entry) refusal) }
+    ensures answer { IfOk result (λ answer. IsAnswer (AnswersVerdict (option_copied word.entry) port) (R.remaining (inner_of input.old)) (R.remaining (inner_of input.new)) (verdict_line answer)) }
+    ensures refused { IfErr result (IsFirstRefusal (RefusesVerdict (option_copied word.entry)) (R.remaining (inner_of input.old)) (R.remaining (inner_of input.new)) (has_failed input.new)) }
 {
     let octets = read_input(alloc, input)?;
     let (text, listing) = parts(word, &octets);
@@ -209,6 +212,12 @@ fn table<R: Read, W: Write, F: Write>(
 ) -> u8
     requires input { has_failed input.old ≡ false }
     requires output { has_failed output.old ≡ false }
+    ensures status { (result ≡ 0) ⊎ (result ≡ 1) }
+    ensures answer { result ≡ 0 → WritesAnswer (AnswersTable (option_copied frame.entry) port) (R.remaining (inner_of input.old)) (R.remaining (inner_of input.new))
+        (W.contents (inner_of output.old)) (W.contents (inner_of output.new)) }
+    ensures refusal { result ≡ 1 → (has_failed output.new ≡ true)
+        ⊎ WritesRefusal (RefusesTable (option_copied frame.entry)) (R.remaining (inner_of input.old)) (R.remaining (inner_of input.new)) (has_failed input.new)
+        (W.contents (inner_of output.old)) (W.contents (inner_of output.new)) }
 {
     match table_answer(alloc, port, frame, input) {
         Ok(answer) => status(write_all(output, &answer)),
@@ -227,6 +236,8 @@ fn table_answer<R: Read>(
     input: &mut Tried<R>,
 ) -> Result<Vec<u8>, Refusal>
     requires { has_failed input.old ≡ false }
+    ensures answer { IfOk result (λ answer. IsAnswer (AnswersTable (option_copied frame.entry) port) (R.remaining (inner_of input.old)) (R.remaining (inner_of input.new)) answer.items) }
+    ensures refused { IfErr result (IsFirstRefusal (RefusesTable (option_copied frame.entry)) (R.remaining (inner_of input.old)) (R.remaining (inner_of input.new)) (has_failed input.new)) }
 {
     let octets = read_input(alloc, input)?;
     let answer = match frame {
@@ -278,6 +289,8 @@ fn answer_words<W: Write, F: Write>(
 }
 
 /// The status after the last write.
-fn status(written: Result<(), WriteFault>) -> u8 {
+fn status(written: Result<(), WriteFault>) -> u8
+    ensures { result ≡ (if is_ok written then 0 else 1) }
+{
     if written.is_ok() { 0 } else { 1 }
 }

@@ -1,7 +1,10 @@
 //! Policy tables: their programs, and their verdicts.
 
-ghost use Rattle.std.specs.Prelude.{◌≡◌, ◌≤◌, length, map, IfOk};
+ghost use Rattle.std.specs.Prelude.{◌≡◌, ◌≤◌, length, map, IfOk, IfErr};
 ghost use Rattle.gw_insn.specs.Table.{raw_of};
+ghost use Rattle.gw_table.specs.Table.{table_passes};
+ghost use Rattle.gw_table.specs.TableText.{IsTableText};
+ghost use Rattle.gw.specs.Tables.{compiled_line, passes_line, RefusesText};
 
 use crate::refusal::Refusal;
 use gw_frame::Frame;
@@ -11,7 +14,10 @@ use gw_verify::Program;
 use std::alloc::{AllocError, Global};
 
 /// The table of an input.
-pub fn read_table(alloc: Global, input: &[u8]) -> Result<Table, Refusal> {
+pub fn read_table(alloc: Global, input: &[u8]) -> Result<Table, Refusal>
+    ensures table { IfOk result (λ table. IsTableText input.now table) }
+    ensures refused { IfErr result (RefusesText input.now) }
+{
     let Ok(text) = str::from_utf8(input) else {
         return Err(Refusal::NotUtf8);
     };
@@ -19,7 +25,9 @@ pub fn read_table(alloc: Global, input: &[u8]) -> Result<Table, Refusal> {
 }
 
 /// The listing of the program that a table is compiled to, and a line feed.
-pub fn compiled_listing(alloc: Global, table: &Table) -> Result<Vec<u8>, AllocError> {
+pub fn compiled_listing(alloc: Global, table: &Table) -> Result<Vec<u8>, AllocError>
+    ensures { IfOk result (λ listing. listing.items ≡ compiled_line table.now) }
+{
     let code = raws(alloc, &compile(alloc, table)?)?;
     let mut listing = write_listing(alloc, &code)?;
     listing.push(b'\n')?;
@@ -36,7 +44,9 @@ fn raws(alloc: Global, program: &Program) -> Result<Vec<Raw>, AllocError>
 }
 
 /// The line of a table's verdict on a frame that was taken at a port.
-pub fn verdict_word(table: &Table, frame: &Frame, port: u8) -> &'static [u8] {
+pub fn verdict_word(table: &Table, frame: &Frame, port: u8) -> &'static [u8]
+    ensures { result.now ≡ passes_line (table_passes table.now frame.now port) }
+{
     if table.verdict(frame, port) {
         b"pass\n"
     } else {
