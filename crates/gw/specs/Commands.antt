@@ -1,5 +1,5 @@
 -- What a command does: it reads its input whole, and writes the answer to it or its first refusal.
-use Rattle.std.specs.Prelude.{◌≡◌, ℕ, ◌<◌, ◌≤◌, ◌⊎◌, Bool, true, List, length, Option}
+use Rattle.std.specs.Prelude.{◌≡◌, ℕ, ◌<◌, ◌≤◌, ◌⊎◌, Bool, true, List, ◌++◌, length, Option}
 use Rattle.std.specs.Io.KnownBytes.{Appends, IsAtEnd, Consumes}
 use Rattle.gw.specs.declared.refusal.Refusal.{Refusal}
 use Rattle.gw.specs.declared.refusal.Refusal.TheVariants.{ReadFault, TooMuchInput, OutOfMemory}
@@ -49,3 +49,11 @@ pub record WritesRefusal (Refuses : List ℕ → Refusal → Type 0) (before aft
   pub refusal : Refusal
   pub first : IsFirstRefusal Refuses before after failed refusal
   pub written : Appends old new (refusal_line refusal)
+
+-- the same, with lines before it that explain the refusal
+pub record WritesExplained (Refuses : List ℕ → Refusal → Type 0) (Explains : Refusal → List ℕ → Type 0) (before after : Option (List ℕ)) (failed : Bool) (old new : Option (List ℕ)) : Type 0 where
+  pub refusal : Refusal
+  pub explanation : List ℕ
+  pub first : IsFirstRefusal Refuses before after failed refusal
+  pub explains : Explains refusal explanation
+  pub written : Appends old new (explanation ++ refusal_line refusal)

@@ -1,4 +1,5 @@
 pub mod Answers
+pub mod Checks
 pub mod Commands
 pub mod Refusals
 pub mod Tables

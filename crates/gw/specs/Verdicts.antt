@@ -41,7 +41,7 @@ pub record IsVerdict (text listing : List ℕ) (port answer : ℕ) : Type 0 wher
 abbrev pub IsProgramRefusal : List ℕ → Refusal → Type 0
 IsProgramRefusal listing (Listing why) = IsListRefusal listing why
 IsProgramRefusal listing (Program refused) =
-    (code : List Raw) × IsListing listing code × IsRefusal (forms_of code) refused.why refused.place
+    IsListing listing refused.code.items × IsRefusal (forms_of refused.code.items) refused.why refused.place
 IsProgramRefusal listing _ = ⊥
 
 -- digits that are no hex, or octets that are no record

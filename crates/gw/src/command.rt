@@ -1,16 +1,17 @@
 //! The program's commands, over a reader and two writers.
 
-ghost use Rattle.std.specs.Prelude.{◌≡◌, ◌⊎◌, length, true, false, if◌then◌else◌, is_ok, None, option_copied, IfOk, IfErr};
+ghost use Rattle.std.specs.Prelude.{◌≡◌, ◌⊎◌, length, true, false, if◌then◌else◌, is_ok, None, option_copied, string_bytes, IfOk, IfErr};
 ghost use Rattle.std.specs.Io.KnownBytes.{Appends};
 ghost use Rattle.gw_trace.specs.Tries.{inner_of, has_failed, reads_of};
 ghost use Rattle.gw.specs.Refusals.{refusal_line};
-ghost use Rattle.gw.specs.Commands.{IsAnswer, IsFirstRefusal, WritesAnswer, WritesRefusal};
-ghost use Rattle.gw.specs.Answers.{verdict_line};
-ghost use Rattle.gw.specs.Verdicts.{AnswersVerdict, RefusesVerdict};
+ghost use Rattle.gw.specs.Commands.{IsAnswer, IsFirstRefusal, WritesAnswer, WritesRefusal, WritesExplained};
+ghost use Rattle.gw.specs.Answers.{verdict_line, accepted_line};
+ghost use Rattle.gw.specs.Checks.{AnswersCheck, IsPathOf, Explains, IsVerifiers, path_line};
+ghost use Rattle.gw.specs.Verdicts.{AnswersVerdict, RefusesVerdict, IsProgramRefusal};
 ghost use Rattle.gw.specs.Tables.{AnswersTable, RefusesTable};
 
 use crate::claims::{heard, holders};
-use crate::explanation::{Explanation, Places};
+use crate::explanation::Explanation;
 use crate::line::{accepted_line, verdict_line};
 use crate::refusal::Refusal;
 use crate::streams::{WriteFault, read_input, write_all};
@@ -125,7 +126,9 @@ fn refuse<W: Write, F: Write>(
 }
 
 /// For a scratch word that may be unset, a path to its load that leaves it unset.
-fn unset_path(alloc: Global, refusal: &Refusal) -> Result<Option<Path>, AllocError> {
+fn unset_path(alloc: Global, refusal: &Refusal) -> Result<Option<Path>, AllocError>
+    ensures { IsVerifiers refusal.now → IfOk result (IsPathOf refusal.now) }
+{
     match refusal {
         Refusal::Program(refused) => match refused.why {
             Cause::UnsetWord { word } if word < 16 && refused.code.len() <= 65535 => {
@@ -146,28 +149,34 @@ fn check<R: Read, W: Write, F: Write>(
 ) -> u8
     requires input { has_failed input.old ≡ false }
     requires output { has_failed output.old ≡ false }
+    ensures status { (result ≡ 0) ⊎ (result ≡ 1) }
+    ensures answer { result ≡ 0 → WritesAnswer AnswersCheck (R.remaining (inner_of input.old)) (R.remaining (inner_of input.new))
+        (W.contents (inner_of output.old)) (W.contents (inner_of output.new)) }
+    ensures refusal { result ≡ 1 → (has_failed output.new ≡ true)
+        ⊎ WritesExplained IsProgramRefusal Explains (R.remaining (inner_of input.old)) (R.remaining (inner_of input.new)) (has_failed input.new)
+        (W.contents (inner_of output.old)) (W.contents (inner_of output.new)) }
 {
     let refusal = match checked(alloc, input) {
         Ok(program) => return status(write_all(output, accepted_line(program.len()).as_bytes())),
         Err(refusal) => refusal,
     };
-    let written = match path_line(alloc, &refusal) {
-        Ok(None) => true,
-        Ok(Some(line)) => write_all(output, line.as_str().as_bytes()).is_ok(),
-        Err(_) => {
-            refuse(alloc, &Refusal::OutOfMemory, output, faults);
-            return 1;
-        }
+    let Ok(line) = explanation(alloc, &refusal) else {
+        refuse(alloc, &Refusal::OutOfMemory, output, faults);
+        return 1;
     };
-    if written {
-        refuse(alloc, &refusal, output, faults);
-    }
+    let Ok(()) = write_all(output, line.as_str().as_bytes()) else {
+        return 1;
+    };
+    refuse(alloc, &refusal, output, faults);
     1
 }
 
 /// The accepted program of the input of `check`.
 fn checked<R: Read>(alloc: Global, input: &mut Tried<R>) -> Result<Program, Refusal>
     requires { has_failed input.old ≡ false }
+    ensures answer { IfOk result (λ program. IsAnswer AnswersCheck (R.remaining (inner_of input.old)) (R.remaining (inner_of input.new)) (accepted_line (length program))) }
+    ensures refused { IfErr result (IsFirstRefusal IsProgramRefusal (R.remaining (inner_of input.old)) (R.remaining (inner_of input.new)) (has_failed input.new)) }
+    ensures explainable { IfErr result IsVerifiers }
 {
     let listing = read_input(alloc, input)?;
     program(alloc, &listing)
@@ -251,12 +260,27 @@ fn table_answer<R: Read>(
     answer.map_err(|_| Refusal::OutOfMemory)
 }
 
-/// The line `path` with the places of a path, for a scratch word that may be unset.
-fn path_line(alloc: Global, refusal: &Refusal) -> Result<Option<String>, AllocError> {
+/// For a scratch word that may be unset, the line of a path that leaves it unset, else nothing.
+fn explanation(alloc: Global, refusal: &Refusal) -> Result<String, AllocError>
+    requires { IsVerifiers refusal.now }
+    ensures { IfOk result (λ line. Explains refusal.now (string_bytes line)) }
+{
     match unset_path(alloc, refusal)? {
-        Some(path) => Ok(Some(format!(in alloc; "path {}\n", Places(&path))?)),
-        None => Ok(None),
+        Some(path) => path_line(alloc, &path.places),
+        None => Ok(String::new(alloc)),
     }
+}
+
+/// The word `path` and the places.
+fn path_line(alloc: Global, places: &[u32]) -> Result<String, AllocError>
+    ensures { IfOk result (λ line. string_bytes line ≡ path_line places.now) }
+{
+    let mut line = String::from_str(alloc, "path")?;
+    for place in places {
+        write!(line, " {place}")?;
+    }
+    line.push_str("\n")?;
+    Ok(line)
 }
 
 /// Writes `clap`'s answer: help with status 0, or what is wrong with status 2.

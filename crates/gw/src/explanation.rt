@@ -145,7 +145,7 @@ fn unset_word<W: fmt::Write>(
 
 /// The places of a path, with spaces between.
 #[derive(Clone, Copy)]
-pub struct Places<'a>(pub &'a Path);
+struct Places<'a>(&'a Path);
 
 impl Display for Places<'_> {
     fn fmt<W: fmt::Write>(&self, f: &mut Formatter<W>) -> fmt::Result {

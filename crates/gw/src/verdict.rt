@@ -3,6 +3,7 @@
 ghost use Rattle.std.specs.Prelude.{◌≡◌, IfOk, IfErr, option_copied};
 ghost use Rattle.std.specs.List.{position_or_len};
 ghost use Rattle.gw.specs.Texts.{is_line_feed, record_text, listing_text, without_return};
+ghost use Rattle.gw.specs.Checks.{IsVerifiers};
 ghost use Rattle.gw.specs.Verdicts.{NamesRecord, NamesProgram, IsVerdict, IsRecordRefusal, IsProgramRefusal, IsVerdictRefusal};
 
 use crate::refusal::{RecordFault, Refusal};
@@ -72,6 +73,7 @@ pub fn record(alloc: Global, text: &[u8]) -> Result<Frame, Refusal>
 pub fn program(alloc: Global, listing: &[u8]) -> Result<Program, Refusal>
     ensures named { IfOk result (λ program. NamesProgram listing.now program) }
     ensures refused { IfErr result (IsProgramRefusal listing.now) }
+    ensures explainable { IfErr result IsVerifiers }
 {
     match read_listing(alloc, listing) {
         Ok(code) => match Program::check(alloc, code) {
