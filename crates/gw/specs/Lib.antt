@@ -1,5 +1,6 @@
 pub mod Answers
 pub mod Checks
+pub mod ClaimLines
 pub mod Commands
 pub mod Refusals
 pub mod Tables

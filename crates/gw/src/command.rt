@@ -6,6 +6,7 @@ ghost use Rattle.gw_trace.specs.Tries.{inner_of, has_failed, reads_of};
 ghost use Rattle.gw.specs.Refusals.{refusal_line};
 ghost use Rattle.gw.specs.Commands.{IsAnswer, IsFirstRefusal, WritesAnswer, WritesRefusal, WritesExplained};
 ghost use Rattle.gw.specs.Answers.{verdict_line, accepted_line};
+ghost use Rattle.gw.specs.ClaimLines.{AnswersClaims, RefusesClaims};
 ghost use Rattle.gw.specs.Checks.{AnswersCheck, IsPathOf, Explains, IsVerifiers, path_line};
 ghost use Rattle.gw.specs.Verdicts.{AnswersVerdict, RefusesVerdict, IsProgramRefusal};
 ghost use Rattle.gw.specs.Tables.{AnswersTable, RefusesTable};
@@ -191,6 +192,12 @@ fn claims<R: Read, W: Write, F: Write>(
 ) -> u8
     requires input { has_failed input.old ≡ false }
     requires output { has_failed output.old ≡ false }
+    ensures status { (result ≡ 0) ⊎ (result ≡ 1) }
+    ensures answer { result ≡ 0 → WritesAnswer AnswersClaims (R.remaining (inner_of input.old)) (R.remaining (inner_of input.new))
+        (W.contents (inner_of output.old)) (W.contents (inner_of output.new)) }
+    ensures refusal { result ≡ 1 → (has_failed output.new ≡ true)
+        ⊎ WritesRefusal RefusesClaims (R.remaining (inner_of input.old)) (R.remaining (inner_of input.new)) (has_failed input.new)
+        (W.contents (inner_of output.old)) (W.contents (inner_of output.new)) }
 {
     match held(alloc, input) {
         Ok(lines) => status(write_all(output, lines.as_str().as_bytes())),
@@ -204,6 +211,8 @@ fn claims<R: Read, W: Write, F: Write>(
 /// The lines of the input of `claims`.
 fn held<R: Read>(alloc: Global, input: &mut Tried<R>) -> Result<String, Refusal>
     requires { has_failed input.old ≡ false }
+    ensures answer { IfOk result (λ lines. IsAnswer AnswersClaims (R.remaining (inner_of input.old)) (R.remaining (inner_of input.new)) (string_bytes lines)) }
+    ensures refused { IfErr result (IsFirstRefusal RefusesClaims (R.remaining (inner_of input.old)) (R.remaining (inner_of input.new)) (has_failed input.new)) }
 {
     let octets = read_input(alloc, input)?;
     let claims = heard(alloc, &octets)?;

@@ -1,0 +1,65 @@
+-- What the command `claims` answers and refuses: its input has one record a line, in hexadecimal digits, and empty lines.
+use Rattle.std.specs.Prelude.{◌≡◌, ℕ, suc, ◌-◌, ◌==◌, Bool, false, not, ◌&&◌, if◌then◌else◌, List, [], ◌∷◌, ◌++◌, length, replicate, reverse, decimal, Option, Some, None, is_none, slice_get, position}
+use Rattle.std.specs.List.{filter_map, flat_map, list_any, range_with_len, slice_split}
+use Rattle.std.specs.Option.{option_and_then, option_map_or}
+use Rattle.std.specs.Result.{result_ok}
+use Rattle.std.specs.Fmt.{digits}
+use Rattle.hex.specs.Hex.{decode_of}
+use Rattle.gw_frame.specs.Record.{refusal_of}
+use Rattle.gw_claims.specs.Holders.{holder_of, HoldsAfter}
+use Rattle.gw.specs.declared.refusal.Refusal.{Refusal}
+use Rattle.gw.specs.declared.refusal.Refusal.TheVariants.{RecordOnLine, OutOfMemory}
+use Rattle.gw.specs.Texts.{is_line_feed, without_return}
+use Rattle.gw.specs.Verdicts.{IsRecordFault}
+
+-- the lines of an input, without the line feeds
+abbrev pub lines_of : List ℕ → List (List ℕ)
+lines_of input = slice_split is_line_feed input
+
+abbrev pub is_blank : List ℕ → Bool
+is_blank line = length (without_return line) == 0
+
+-- octets, where they are a record
+abbrev pub if_record : List ℕ → Option (List ℕ)
+if_record octets = if is_none (refusal_of octets) then Some octets else None
+
+-- the record that a line names; an empty line names none
+abbrev pub record_on : List ℕ → Option (List ℕ)
+record_on line = if is_blank line then None else option_and_then if_record (result_ok (decode_of (without_return line)))
+
+-- a line that is to name a record and does not
+abbrev pub is_bad : List ℕ → Bool
+is_bad line = not (is_blank line) && is_none (record_on line)
+
+abbrev pub records_on : List (List ℕ) → List (List ℕ)
+records_on lines = filter_map record_on lines
+
+-- a NAME in 16 hexadecimal digits
+abbrev pub name_digits : ℕ → List ℕ
+name_digits name = replicate (16 - length (digits 16 false name)) 48 ++ digits 16 false name
+
+-- the line of an address and the NAME that holds it
+abbrev pub holder_line : ℕ → ℕ → List ℕ
+holder_line address name = decimal address ++ 32 ∷ name_digits name ++ 10 ∷ []
+
+-- the lines of the addresses that are held, in ascending order
+abbrev pub line_at : List (Option ℕ) → ℕ → List ℕ
+line_at table address = option_map_or (holder_line address) (holder_of table address) []
+
+unfoldable pub holder_lines : List (Option ℕ) → List ℕ
+holder_lines table = flat_map (line_at table) (range_with_len 0 254)
+
+-- the holders after the records that the lines name, the last one heard newest, where no line is bad
+pub record AnswersClaims (input line : List ℕ) : Type 0 where
+  pub table : List (Option ℕ)
+  pub heard : HoldsAfter table (reverse (records_on (lines_of input)))
+  pub good : list_any is_bad (lines_of input) ≡ false
+  pub lines : line ≡ holder_lines table
+
+-- the first bad line, counted from 1, and what is wrong with it; memory may always be wanting
+abbrev pub RefusesClaims : List ℕ → Refusal → Type 0
+RefusesClaims input (RecordOnLine number fault) =
+    (place : ℕ) × (line : List ℕ) × (position is_bad (lines_of input) ≡ Some place) × (slice_get (lines_of input) place ≡ Some line)
+    × (number ≡ suc place) × IsRecordFault (without_return line) fault
+RefusesClaims input OutOfMemory = Unit {0}
+RefusesClaims input _ = ⊥
