@@ -39,8 +39,11 @@ fn raws(alloc: Global, program: &Program) -> Result<Vec<Raw>, AllocError>
     ensures fields { IfOk result (λ raws. raws.items ≡ map raw_of program.now) }
     ensures few { IfOk result (λ raws. length raws.items ≤ 65535) }
 {
-    let code = program.code();
-    code.iter().map(|insn| encode(*insn)).collect(alloc)
+    let mut raws = Vec::with_capacity(alloc, program.len())?;
+    for insn in program.code() {
+        raws.push_reserved(encode(*insn));
+    }
+    Ok(raws)
 }
 
 /// The line of a table's verdict on a frame that was taken at a port.
