@@ -2,8 +2,9 @@
 
 ghost use Rattle.std.specs.Prelude.{◌≡◌, length, IfOk};
 ghost use Rattle.std.specs.Result.{result_err};
-ghost use Rattle.gw_frame.specs.Record.{IsRecord, refusal_of, refusal_number, word_of, payload_length, payload_of};
+ghost use Rattle.gw_frame.specs.Record.{IsRecord, refusal_of, word_of, payload_length, payload_of};
 
+use crate::refusal::FrameRefusal;
 use byteorder::{BigEndian, ByteOrder};
 use gw_ident::CanId;
 use std::marker::Model;
@@ -13,33 +14,6 @@ const MOST: usize = 16;
 
 /// Where the payload begins in a record.
 const PAYLOAD: usize = 8;
-
-/// Why octets are no record. Of several causes the first of these is given.
-#[derive(Clone, Copy, PartialEq, Eq, Debug)]
-pub enum FrameRefusal {
-    /// Refusal 1: below 8 octets.
-    TooShort,
-    /// Refusal 2: above 16 octets.
-    TooLong,
-    /// Refusal 3: the payload length, octet 4, is above 8.
-    BadLength,
-    /// Refusal 4: fewer octets than 8 and the payload length together.
-    PayloadCut,
-}
-
-impl FrameRefusal {
-    /// The number of the refusal, 1 to 4.
-    pub fn number(self) -> u32
-        ensures { result ≡ refusal_number self }
-    {
-        match self {
-            FrameRefusal::TooShort => 1,
-            FrameRefusal::TooLong => 2,
-            FrameRefusal::BadLength => 3,
-            FrameRefusal::PayloadCut => 4,
-        }
-    }
-}
 
 /// A CAN frame: the 8 to 16 octets of a record of LINKTYPE_CAN_SOCKETCAN (link type 227), unchanged.
 ///
@@ -76,16 +50,18 @@ impl Frame {
     {
         let len = octets.len();
         if len < PAYLOAD {
-            return Err(FrameRefusal::TooShort);
+            return Err(FrameRefusal::TooShort { len });
         }
         if len > MOST {
-            return Err(FrameRefusal::TooLong);
+            return Err(FrameRefusal::TooLong { len });
         }
-        if octets[4] > 8 {
-            return Err(FrameRefusal::BadLength);
+        let said = octets[4];
+        if said > 8 {
+            return Err(FrameRefusal::BadLength { said });
         }
-        if len < PAYLOAD + usize::from(octets[4]) {
-            return Err(FrameRefusal::PayloadCut);
+        let there = len - PAYLOAD;
+        if there < usize::from(said) {
+            return Err(FrameRefusal::PayloadCut { said, there });
         }
         let mut kept = [0; MOST];
         kept[..len].copy_from_slice(octets);

@@ -2,5 +2,7 @@
 #![tactic(auto)]
 
 mod frame;
+mod refusal;
 
-pub use frame::{Frame, FrameRefusal};
+pub use frame::Frame;
+pub use refusal::{FrameRefusal, RECORD_FORM};
