@@ -8,6 +8,9 @@ ghost use Rattle.gw_insn.specs.Listing.{IsWhite, decimal, StartsWithDigit, HasNu
 
 use crate::insn::Raw;
 use std::alloc::Global;
+use std::error::Error;
+use std::fmt;
+use std::fmt::{Display, Formatter};
 
 /// Why octets are no listing.
 #[derive(Clone, Copy, PartialEq, Eq, Debug)]
@@ -37,6 +40,30 @@ impl ListRefusal {
         }
     }
 }
+
+impl Display for ListRefusal {
+    fn fmt<W: fmt::Write>(&self, f: &mut Formatter<W>) -> fmt::Result {
+        match self {
+            ListRefusal::BadCount => f.write_str(
+                "the listing does not begin with the number of its instructions, at most 65535, and a comma, \
+                 as `1,6 0 0 1,` does (for `tcpdump -ddd`, make each line end a comma)",
+            ),
+            ListRefusal::BadField { index } => write!(
+                f,
+                "instruction {index}, counted from 0, is not there as `code jt jf k` and a comma, as `21 0 1 2054,` is: \
+                 decimal numbers, at most 65535, 255, 255 and 4294967295, with one space between"
+            ),
+            ListRefusal::Trailing => f.write_str(
+                "something other than white space follows the last of the instructions that the count tells",
+            ),
+            ListRefusal::OutOfMemory => f.write_str(
+                "memory was refused for the listing's instructions",
+            ),
+        }
+    }
+}
+
+impl Error for ListRefusal {}
 
 /// Reads a listing: a count, a comma, and so many instructions, each of them `code jt jf k` in decimal digits with one
 /// space between two of them, and a comma, which the last may lack. White space may follow, and stands nowhere else.

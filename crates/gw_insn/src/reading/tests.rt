@@ -75,6 +75,34 @@ fn refuses_at_the_first_fault(rt: HostRuntime) {
 }
 
 #[test]
+fn texts_of_refusals(rt: HostRuntime) -> Result<(), Fail> {
+    for (refusal, expected) in [
+        (
+            ListRefusal::BadCount,
+            "the listing does not begin with the number of its instructions, at most 65535, and a comma, \
+             as `1,6 0 0 1,` does (for `tcpdump -ddd`, make each line end a comma)",
+        ),
+        (
+            ListRefusal::BadField { index: 3 },
+            "instruction 3, counted from 0, is not there as `code jt jf k` and a comma, as `21 0 1 2054,` is: \
+             decimal numbers, at most 65535, 255, 255 and 4294967295, with one space between",
+        ),
+        (
+            ListRefusal::Trailing,
+            "something other than white space follows the last of the instructions that the count tells",
+        ),
+        (
+            ListRefusal::OutOfMemory,
+            "memory was refused for the listing's instructions",
+        ),
+    ] {
+        let text = format!(in rt.alloc(); "{refusal}")?;
+        assert_eq!(rt; text.as_str(), expected);
+    }
+    Ok(())
+}
+
+#[test]
 fn refuses_the_prefixes_of_a_listing(rt: HostRuntime) {
     assert_eq!(rt; LISTING.len(), 49);
     for len in 0..50 {
