@@ -3,6 +3,9 @@
 ghost use Rattle.std.specs.Prelude.{◌≡◌, ◌≤◌, ◌↔◌, IsOk, IfOk};
 ghost use Rattle.gw_ledger.specs.Bounds.{IsWithinBounds, bad_limit_number};
 
+use std::error::Error;
+use std::fmt;
+use std::fmt::{Display, Formatter};
 use std::marker::Model;
 
 /// Refusal 70: a limit is outside its range.
@@ -17,6 +20,17 @@ impl BadLimit {
         70
     }
 }
+
+impl Display for BadLimit {
+    fn fmt<W: fmt::Write>(&self, f: &mut Formatter<W>) -> fmt::Result {
+        f.write_str(
+            "a limit is outside its range: 2 to 16 ports, 1 to 1024 copies in a lane, 1 to 65535 versions, \
+             and 1 to 4294967295 frames at a port",
+        )
+    }
+}
+
+impl Error for BadLimit {}
 
 /// The limits of a gateway, each within its range.
 #[derive(Clone, Copy, PartialEq, Eq, Debug)]
