@@ -5,4 +5,5 @@ pub mod Arrivals
 pub mod Paths
 pub mod Faults
 pub mod Refusals
+pub mod Explained
 pub mod Examples

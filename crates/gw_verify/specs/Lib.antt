@@ -6,3 +6,4 @@ pub mod Next
 pub mod OwnFault
 pub mod UnsetLoad
 pub mod Arrivals
+pub mod Explanation

@@ -2,8 +2,6 @@
 
 ghost use Rattle.std.specs.Prelude.{◌≡◌};
 
-use gw_insn::Raw;
-
 /// What is wrong with refused code. The checks are Linux's checks of classic programs (net/core/filter.c), in
 /// this project's profile. They come in this order: 20, 21, then the least place with one of 22 to 27, then
 /// 28, then the least place with 29, then 30.
@@ -57,15 +55,4 @@ impl Cause {
             Cause::OutOfMemory => 30,
         }
     }
-}
-
-/// A refusal, with the code that it hands back.
-#[derive(Drop, Debug, PartialEq, Eq)]
-pub struct Refused {
-    /// What is wrong.
-    pub why: Cause,
-    /// Where it is wrong: the place of an instruction, counted from 0, or what the cause says.
-    pub place: usize,
-    /// The code, as it was handed in.
-    pub code: Vec<Raw>,
 }

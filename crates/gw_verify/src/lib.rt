@@ -10,11 +10,13 @@ mod next;
 mod own_fault;
 mod path;
 mod program;
+mod refused;
 
-pub use cause::{Cause, Refused};
+pub use cause::Cause;
 pub use law::{accepted_is_orderly, one_refusal};
 pub use path::{Path, explain, holds};
 pub use program::Program;
+pub use refused::Refused;
 
 #[cfg(test)]
 mod tests;

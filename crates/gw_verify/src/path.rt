@@ -11,12 +11,27 @@ use crate::arrival::{Arrival, arrivals, stores};
 use crate::next::{Next, next_of};
 use gw_insn::{Insn, Raw, decode};
 use std::alloc::{AllocError, Global};
+use std::fmt;
+use std::fmt::{Display, Formatter};
 
 /// A list of places of a code, each an instruction counted from 0.
 #[derive(Drop, Debug, PartialEq, Eq)]
 pub struct Path {
     /// The places, the first place of the code first.
     pub places: Vec<u32>,
+}
+
+/// The places, with spaces between.
+impl Display for Path {
+    fn fmt<W: fmt::Write>(&self, f: &mut Formatter<W>) -> fmt::Result {
+        for (i, place) in self.places.iter().enumerate() {
+            if i > 0 {
+                f.write_str(" ")?;
+            }
+            write!(f, "{place}")?;
+        }
+        Ok(())
+    }
 }
 
 /// Whether the places are a path of the code on which no place before the last stores the word. Where they

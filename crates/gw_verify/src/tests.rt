@@ -210,24 +210,85 @@ fn explained_places(rt: HostRuntime) -> Result<(), Fail> {
 }
 
 #[test]
-fn explained_refusal(rt: HostRuntime) -> Result<(), Fail> {
+fn explained_refusals(rt: HostRuntime) -> Result<(), Fail> {
     let a = rt.alloc();
-    let code = raws(
-        a,
-        &[(7, 0, 0, 0), (135, 0, 0, 0), (96, 0, 0, 15), (22, 0, 0, 0)],
-    )?;
-    let Err(refused) = Program::check(a, code) else {
-        return Err(Fail::from("accepted"));
-    };
-    let Cause::UnsetWord { word } = refused.why else {
-        return Err(Fail::from("another cause"));
-    };
-    assert_eq!(rt; (refused.place, word), (2, 15));
+    let stored_later: [Row; 4] = [(7, 0, 0, 0), (135, 0, 0, 0), (96, 0, 0, 15), (22, 0, 0, 0)];
+    let cases: [(&[Row], Option<&str>); 3] = [
+        (&stored_later, Some("0 1 2")),
+        (&UNSET_ON_ONE_BRANCH, Some("0 2")),
+        (&[(7, 0, 0, 0)], None),
+    ];
+    for (rows, expected) in cases {
+        let Err(refused) = Program::check(a, raws(a, rows)?) else {
+            return Err(Fail::from("accepted"));
+        };
+        let path = match refused.explain(a)? {
+            Some(path) => Some(format!(in a; "{path}")?),
+            None => None,
+        };
+        let path = path.as_ref().map(|path| path.as_str());
+        assert_eq!(rt; path, expected, "{rows:?}");
+    }
+    Ok(())
+}
+
+#[test]
+fn texts_of_refusals(rt: HostRuntime) -> Result<(), Fail> {
+    let a = rt.alloc();
+    let cases: [(&[Row], &str); 9] = [
+        (
+            &[],
+            "the code has no instructions, and at least a return is needed",
+        ),
+        (
+            &[(14, 0, 0, 0)],
+            "instruction 0 has the code 14, which is none of the 49 of classic BPF",
+        ),
+        (
+            &[(52, 0, 0, 0), (6, 0, 0, 0)],
+            "instruction 0 divides by the constant 0",
+        ),
+        (
+            &[(100, 0, 0, 32), (6, 0, 0, 0)],
+            "instruction 0 shifts by 32, and at most 31 is meant",
+        ),
+        (
+            &[(2, 0, 0, 16), (6, 0, 0, 0)],
+            "instruction 0 names M[16], and the words are M[0] to M[15]",
+        ),
+        (
+            &[(5, 0, 0, 1), (6, 0, 0, 0)],
+            "instruction 0 jumps out of the code, which has 2 instructions",
+        ),
+        (
+            &[(32, 0, 0, 4294963200), (6, 0, 0, 0)],
+            "instruction 0 loads from 4294963200, an extension of Linux that is not `ld ifidx` (`32 0 0 4294963208`)",
+        ),
+        (
+            &[(7, 0, 0, 0)],
+            "instruction 0, the last, is no return, as `6 0 0 1` is",
+        ),
+        (
+            &UNSET_ON_ONE_BRANCH,
+            "instruction 2 loads M[3], which a path to it leaves unset",
+        ),
+    ];
+    for (rows, expected) in cases {
+        assert_eq!(rt; text(a, raws(a, rows)?)?.as_str(), expected, "{rows:?}");
+    }
     assert_eq!(rt;
-        explain(a, &refused.code, refused.place, word)?,
-        Some(path(a, &[0, 1, 2])?)
+        text(a, long_code(a, 4096)?)?.as_str(),
+        "the code has 4097 instructions, and at most 4096 are accepted"
     );
     Ok(())
+}
+
+/// What the refusal of code says.
+fn text(alloc: Global, code: Vec<Raw>) -> Result<String, AllocError> {
+    match Program::check(alloc, code) {
+        Ok(_) => String::from_str(alloc, "accepted"),
+        Err(refused) => format!(in alloc; "{refused}"),
+    }
 }
 
 /// A fixed sequence of octets, by a linear congruence.

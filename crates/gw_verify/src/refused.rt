@@ -1,0 +1,101 @@
+//! Code that is refused.
+
+ghost use Rattle.gw_verify.specs.Flow.{forms_of};
+ghost use Rattle.gw_verify.specs.Accepted.{IsRefusal};
+
+use crate::cause::Cause;
+use crate::path::{Path, explain};
+use gw_insn::Raw;
+use std::alloc::{AllocError, Global};
+use std::error::Error;
+use std::fmt;
+use std::fmt::{Display, Formatter};
+
+/// A refusal, with the code that it hands back. The type keeps that the refusal is the code's.
+#[derive(Drop, Debug, PartialEq, Eq)]
+pub struct Refused {
+    /// What is wrong.
+    pub why: Cause,
+    /// Where it is wrong: the place of an instruction, counted from 0, or what the cause says.
+    pub place: usize,
+    /// The code, as it was handed in.
+    pub code: Vec<Raw>,
+    ghost of_the_code: { ∥ IsRefusal (forms_of code.items) why place ∥₁ },
+}
+
+impl Refused {
+    ghost use Rattle.std.specs.Prelude.{IfOk};
+    ghost use Rattle.gw_verify.specs.Explanation.{IsExplanation};
+
+    /// For a load of an unset word (29) a path to it that leaves the word unset, and `None` for the other causes.
+    pub fn explain(&self, alloc: Global) -> Result<Option<Path>, AllocError>
+        ensures { IfOk result (IsExplanation self.now.why (forms_of self.now.code.items) self.now.place) }
+    {
+        match self.why {
+            Cause::UnsetWord { word } => explain(alloc, &self.code, self.place, word),
+            _ => Ok(None),
+        }
+    }
+}
+
+impl Display for Refused {
+    fn fmt<W: fmt::Write>(&self, f: &mut Formatter<W>) -> fmt::Result {
+        let place = self.place;
+        let len = self.code.len();
+        match self.why {
+            Cause::Empty => f.write_str(
+                "the code has no instructions, and at least a return is needed",
+            ),
+            Cause::TooLong => write!(
+                f,
+                "the code has {len} instructions, and at most 4096 are accepted"
+            ),
+            Cause::UnknownCode => {
+                let code = self.code[place].code;
+                write!(
+                    f,
+                    "instruction {place} has the code {code}, which is none of the 49 of classic BPF"
+                )
+            }
+            Cause::DivideByZero => write!(f, "instruction {place} divides by the constant 0"),
+            Cause::ShiftTooFar => {
+                let k = self.code[place].k;
+                write!(
+                    f,
+                    "instruction {place} shifts by {k}, and at most 31 is meant"
+                )
+            }
+            Cause::NoSuchWord => {
+                let k = self.code[place].k;
+                write!(
+                    f,
+                    "instruction {place} names M[{k}], and the words are M[0] to M[15]"
+                )
+            }
+            Cause::JumpOut => write!(
+                f,
+                "instruction {place} jumps out of the code, which has {len} instructions"
+            ),
+            Cause::Ancillary => {
+                let k = self.code[place].k;
+                write!(
+                    f,
+                    "instruction {place} loads from {k}, an extension of Linux that is not `ld ifidx` (`32 0 0 4294963208`)"
+                )
+            }
+            Cause::NoReturnAtEnd => write!(
+                f,
+                "instruction {place}, the last, is no return, as `6 0 0 1` is"
+            ),
+            Cause::UnsetWord { word } => {
+                write!(
+                    f,
+                    "instruction {place} loads M[{word}], which a path to it leaves unset"
+                )
+            }
+            Cause::OutOfMemory => f.write_str("memory was refused for the program"),
+        }
+    }
+}
+
+impl Error for Refused {}
