@@ -1,0 +1,56 @@
+//! Why there is no verdict.
+
+use gw_frame::FrameRefusal;
+use gw_insn::ListRefusal;
+use gw_table::TableRefusal;
+use gw_verify::Cause;
+use std::fmt::{Display, Formatter};
+use std::{fmt, io};
+
+/// Why there is no verdict.
+#[derive(Drop, Debug)]
+pub enum Fault {
+    /// 1 to 4: octets that are no record.
+    Record(FrameRefusal),
+    /// 10 to 13: a text that is no listing.
+    Listing(ListRefusal),
+    /// 20 to 30: code that is not accepted, and the place.
+    Program { why: Cause, place: usize },
+    /// 50 to 55: a text that is no table.
+    Table(TableRefusal),
+    /// 100: memory was refused for a policy, or for an owner of one.
+    OutOfMemory,
+    /// A write failed.
+    WriteFailed,
+}
+
+impl Display for Fault {
+    fn fmt<W: fmt::Write>(&self, f: &mut Formatter<W>) -> fmt::Result {
+        match self {
+            Fault::Record(why) => {
+                let number = why.number();
+                write!(f, "refused {number}")
+            }
+            Fault::Listing(why) => {
+                let number = why.number();
+                write!(f, "refused {number}")
+            }
+            Fault::Program { why, place } => {
+                let number = why.number();
+                write!(f, "refused {number} {place}")
+            }
+            Fault::Table(why) => {
+                let number = why.number();
+                write!(f, "refused {number}")
+            }
+            Fault::OutOfMemory => f.write_str("refused 100"),
+            Fault::WriteFailed => f.write_str("a write failed"),
+        }
+    }
+}
+
+impl From<io::Error> for Fault {
+    fn from(_: io::Error) -> Fault {
+        Fault::WriteFailed
+    }
+}
