@@ -5,7 +5,17 @@
 run:
 	@cd crates/gw && rt run < stdin
 
-# The gate: every proof from nothing, the edits that must fail, the tests and the programs, and each growth refused in turn.
+# Puts the program that `make run` built into PREFIX/bin, below DESTDIR where that is given.
+PREFIX ?= /usr/local
+.PHONY: install
+install: crates/gw/out/gw
+	@install -D -m 755 $< $(DESTDIR)$(PREFIX)/bin/gw
+
+crates/gw/out/gw:
+	@$(MAKE) --no-print-directory run
+
+# The gate: every proof from nothing, the edits that must fail, the tests and the programs, each growth refused in turn, the
+# examples, and the pages.
 .PHONY: test
 test:
 	@./gate
