@@ -1,23 +1,24 @@
 -- Lines that name records, one after another.
-use Rattle.std.proofs.Common.{◌≡◌, ℕ, zero, suc, ◌+◌, ◌<◌, ◌-◌, ◌^◌, ◌||◌, Bool, true, false, not, ◌&&◌, List, [], ◌∷◌, ◌++◌, length, map, replicate, take, get_or, reverse, flat_map, Option, Some, None, refl, ap, sym, ◌∙◌, add-zero, add-one, zero-add, append_assoc, subst, arith}
-use Rattle.std.specs.Prelude.{is_none, option_map}
+use Rattle.std.proofs.Common.{◌≡◌, ℕ, zero, suc, ◌+◌, ◌<◌, ◌-◌, ◌^◌, ◌||◌, Bool, true, false, not, ◌&&◌, List, [], ◌∷◌, ◌++◌, Result, Ok, Err, length, replicate, take, get_or, reverse, flat_map, Option, Some, None, refl, ap, sym, ◌∙◌, add-zero, add-one, zero-add, append_assoc, subst, arith}
+use Rattle.std.specs.Prelude.{is_none, is_err, option_map}
 use Rattle.std.specs.List.{list_any, position, range_with_len}
 use Rattle.std.specs.Option.{option_and_then, option_map_or}
 use Rattle.std.specs.Result.{result_ok}
 use Rattle.std.specs.Fmt.{AppendsText, char_count, decimal, digits, format_spec, padded_integral, ◌++?◌}
 use Rattle.std.proofs.lemmas.Bool.{false≢true, le-ltb, lt-ltb}
-use Rattle.std.proofs.lemmas.List.{append-nil, get_or-map, get_or-take, length-take, length-map, reverse-append, take_more}
+use Rattle.std.proofs.lemmas.List.{append-nil, get_or-take, length-take, reverse-append, take_more}
 use Rattle.std.proofs.lemmas.List.Elements.{filter_map-append}
 use Rattle.std.proofs.lemmas.Grind.{flat_map-append}
 use Rattle.std.proofs.lemmas.List.Folds.{list_any_at, list_any_more}
 use Rattle.std.proofs.lemmas.List.Sums.{position_or_len_is}
 use Rattle.gw_frame.specs.Record.{IsRecord, refusal_of}
 use Rattle.gw_claims.specs.Holders.{holder_of}
-use Rattle.gw.specs.declared.refusal.RecordFault.{RecordFault}
-use Rattle.gw.specs.declared.refusal.RecordFault.TheVariants.{NoRecord, BadHex}
-use Rattle.gw.specs.Texts.{without_return}
-use Rattle.gw.specs.Verdicts.{NamesRecord, IsRecordFault}
-use Rattle.gw.specs.ClaimLines.{is_blank, if_record, record_on, is_bad, records_on, name_digits, holder_line, line_at, holder_lines}
+use Rattle.hex.specs.Hex.{decode_of}
+use Rattle.hex.specs.declared.error.FromHexError.{FromHexError}
+use Rattle.gw.specs.declared.record.RecordFault.{RecordFault}
+use Rattle.gw.specs.declared.record.RecordFault.TheVariants.{NoDigit, OddDigits, NoRecord}
+use Rattle.gw.specs.Records.{NamesRecord, IsRecordFault}
+use Rattle.gw.specs.ClaimLines.{is_blank, if_record, record_on, heard_on, is_bad, records_on, name_digits, holder_line, line_at, holder_lines}
 
 no_refusal : (octets : List ℕ) → IsRecord octets → refusal_of octets ≡ None
 no_refusal octets r =
@@ -27,15 +28,15 @@ no_refusal octets r =
     let cut = le-ltb _ _ r.not_cut in
     rw (short, long, bad, cut) refl
 
--- a blank line names no record
+-- an empty line names no record, and is not bad
 pub blank_names_none : (line : List ℕ) → is_blank line ≡ true → record_on line ≡ None
 blank_names_none line blank = rw blank refl
 
 pub blank_is_good : (line : List ℕ) → is_blank line ≡ true → is_bad line ≡ false
 blank_is_good line blank = rw blank refl
 
--- a line with a record names it
-pub names_record : (line octets : List ℕ) → is_blank line ≡ false → NamesRecord (without_return line) octets → record_on line ≡ Some octets
+-- a line with a record names it, and is not bad
+pub names_record : (line octets : List ℕ) → is_blank line ≡ false → NamesRecord line octets → record_on line ≡ Some octets
 names_record line octets blank named =
     let valid = no_refusal octets named.valid in
     rw blank (ap (λ read. option_and_then if_record (result_ok read)) named.hex ∙ (rw valid refl))
@@ -49,43 +50,41 @@ no_record_is_bad : (line : List ℕ) → is_blank line ≡ false → record_on l
 no_record_is_bad line blank none =
     ap (λ known. not (is_blank line) && is_none known) none ∙ ap (λ b. not b && true) blank
 
-pub fault_is_bad : (line : List ℕ) (fault : RecordFault) → is_blank line ≡ false → IsRecordFault (without_return line) fault → is_bad line ≡ true
-fault_is_bad line (BadHex error) blank read =
-    let none : record_on line ≡ None = rw blank (ap (λ known. option_and_then if_record (result_ok known)) read) in
+none_of_error : (read : Result (List ℕ) FromHexError) → is_err read ≡ true → option_and_then if_record (result_ok read) ≡ None
+none_of_error (Ok octets) failed = absurd (false≢true failed)
+none_of_error (Err e) failed = refl
+
+pub fault_is_bad : (line : List ℕ) (fault : RecordFault) → is_blank line ≡ false → IsRecordFault line fault → is_bad line ≡ true
+fault_is_bad line (NoDigit at octet) blank fault =
+    let none : record_on line ≡ None = rw blank (none_of_error (decode_of line) fault.0) in
     no_record_is_bad line blank none
-fault_is_bad line (NoRecord why octets) blank read =
-    let refused = read.1 in
-    let none : record_on line ≡ None = rw blank (ap (λ known. option_and_then if_record (result_ok known)) read.0 ∙ (rw refused refl)) in
+fault_is_bad line (OddDigits digits) blank fault =
+    let none : record_on line ≡ None = rw blank (ap (λ known. option_and_then if_record (result_ok known)) fault.0) in
+    no_record_is_bad line blank none
+fault_is_bad line (NoRecord why) blank fault =
+    let refused = fault.2 in
+    let none : record_on line ≡ None = rw blank (ap (λ known. option_and_then if_record (result_ok known)) fault.1 ∙ (rw refused refl)) in
     no_record_is_bad line blank none
 
--- the records of one line more
-pub records_skip : (lines : List (List ℕ)) (n : ℕ) (line : List ℕ) → n < length lines → line ≡ get_or lines n line → record_on line ≡ None
-    → records_on (take (n + 1) lines) ≡ records_on (take n lines)
-records_skip lines n line within at none =
-    ap records_on (take_more lines n line within) ∙ filter_map-append record_on (take n lines) (get_or lines n line ∷ [])
-    ∙ ap (λ known. records_on (take n lines) ++ records_on (known ∷ [])) (sym at)
-    ∙ (rw none (append-nil (records_on (take n lines))))
-
-pub records_more : (lines : List (List ℕ)) (n : ℕ) (line octets : List ℕ) → n < length lines → line ≡ get_or lines n line → record_on line ≡ Some octets
-    → reverse (records_on (take (n + 1) lines)) ≡ octets ∷ reverse (records_on (take n lines))
-records_more lines n line octets within at named =
+-- what was heard, with one line more
+pub heard_more : (lines : List (List ℕ)) (n : ℕ) (line : List ℕ) → n < length lines → line ≡ get_or lines n line
+    → heard_on line (reverse (records_on (take n lines))) ≡ reverse (records_on (take (n + 1) lines))
+heard_more lines n line within at =
+    sym (
     ap (λ known. reverse (records_on known)) (take_more lines n line within) ∙ ap reverse (filter_map-append record_on (take n lines) (get_or lines n line ∷ []))
-    ∙ ap (λ known. reverse (records_on (take n lines) ++ records_on (known ∷ []))) (sym at)
-    ∙ (rw named (reverse-append (records_on (take n lines)) (octets ∷ [])))
+    ∙ ap (λ known. reverse (records_on (take n lines) ++ records_on (known ∷ []))) (sym at) ∙ go (record_on line) refl
+    )
+  where
+    go : (named : Option (List ℕ)) → record_on line ≡ named
+        → reverse (records_on (take n lines) ++ records_on (line ∷ [])) ≡ heard_on line (reverse (records_on (take n lines)))
+    go None is = rw is (ap reverse (append-nil (records_on (take n lines))))
+    go (Some octets) is = rw is (reverse-append (records_on (take n lines)) (octets ∷ []))
 
 pub good_more : (lines : List (List ℕ)) (n : ℕ) (line : List ℕ) → n < length lines → line ≡ get_or lines n line → list_any is_bad (take n lines) ≡ false
     → is_bad line ≡ false → list_any is_bad (take (n + 1) lines) ≡ false
 good_more lines n line within at before good =
     list_any_more is_bad lines n line within ∙ ap (λ known. list_any is_bad (take n lines) || is_bad known) (sym at)
     ∙ ap (λ b. b || is_bad line) before ∙ good
-
--- the line at a place, behind the reference that holds it
-pub line_behind : {R : Type 0} (now : R → List ℕ) (items held : List R) (lines : List (List ℕ)) (i : ℕ) (d : R) → items ≡ held → map now held ≡ lines
-    → i < length items → (i < length lines) × (now (get_or items i d) ≡ get_or lines i (now (get_or items i d)))
-line_behind now items held lines i d same named within =
-    let known = ap (map now) same ∙ named in
-    let long = sym (length-map items now) ∙ ap length known in
-    (omega arith, sym (get_or-map now items i d (now (get_or items i d)) within) ∙ ap (λ all. get_or all i (now (get_or items i d))) known)
 
 none_at : {X : Type 0} (p : X → Bool) (xs : List X) (k : ℕ) (d : X) → k < length xs → list_any p xs ≡ false → p (get_or xs k d) ≡ false
 none_at p xs k d within none = go (p (get_or xs k d)) refl

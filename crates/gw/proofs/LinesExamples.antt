@@ -1,11 +1,11 @@
 -- Lines of the worked examples.
-use Rattle.std.proofs.Common.{◌≡◌, ℕ, List, [], ◌∷◌, true, false, refl}
+use Rattle.std.proofs.Common.{◌≡◌, [], ◌∷◌, true, false, refl}
 use Rattle.std.specs.Prelude.{codes}
 use Rattle.std.specs.Fmt.{digits}
-use Rattle.gw.specs.Answers.{verdict_line, accepted_line}
+use Rattle.gw.specs.Answers.{verdict_line, accepted_line, passes_line}
 use Rattle.gw.specs.Checks.{path_line}
-use Rattle.gw.specs.ClaimLines.{lines_of, is_blank, name_digits, holder_line}
-use Rattle.gw.specs.Tables.{passes_line}
+use Rattle.gw.specs.ClaimLines.{name_digits, holder_line}
+use Rattle.gw.specs.Lines.{lines_of}
 
 pass_7 : verdict_line 7 ≡ codes "pass 7\n"
 unfolding digits
@@ -40,11 +40,9 @@ address_128 : holder_line 128 5 ≡ codes "128 0000000000000005\n"
 unfolding digits
 address_128 = refl
 
-three_lines : lines_of (codes "a\n\nb") ≡ codes "a" ∷ [] ∷ codes "b" ∷ []
+-- a carriage return is dropped before a line feed alone
+three_lines : lines_of (codes "a\r\n\r\nb\r") ≡ codes "a" ∷ [] ∷ codes "b\r" ∷ []
 three_lines = refl
 
-blank_line : is_blank (13 ∷ []) ≡ true
-blank_line = refl
-
-line_with_a_digit : is_blank (codes "8") ≡ false
-line_with_a_digit = refl
+empty_last_line : lines_of (codes "a\n") ≡ codes "a" ∷ [] ∷ []
+empty_last_line = refl

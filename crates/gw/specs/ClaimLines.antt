@@ -1,31 +1,30 @@
 -- What the command `claims` answers and refuses: its input has one record a line, in hexadecimal digits, and empty lines.
 use Rattle.std.specs.Prelude.{◌≡◌, ℕ, suc, ◌-◌, ◌==◌, Bool, false, not, ◌&&◌, if◌then◌else◌, List, [], ◌∷◌, ◌++◌, length, replicate, reverse, decimal, Option, Some, None, is_none, slice_get, position}
-use Rattle.std.specs.List.{filter_map, flat_map, list_any, range_with_len, slice_split}
+use Rattle.std.specs.List.{filter_map, flat_map, list_any, range_with_len}
 use Rattle.std.specs.Option.{option_and_then, option_map_or}
 use Rattle.std.specs.Result.{result_ok}
 use Rattle.std.specs.Fmt.{digits}
 use Rattle.hex.specs.Hex.{decode_of}
 use Rattle.gw_frame.specs.Record.{refusal_of}
 use Rattle.gw_claims.specs.Holders.{holder_of, HoldsAfter}
+use Rattle.gw.specs.declared.answer.Answer.{Answer}
+use Rattle.gw.specs.declared.answer.Answer.TheVariants.{Text}
+use Rattle.gw.specs.declared.record.RecordFault.{RecordFault}
 use Rattle.gw.specs.declared.refusal.Refusal.{Refusal}
 use Rattle.gw.specs.declared.refusal.Refusal.TheVariants.{RecordOnLine, OutOfMemory}
-use Rattle.gw.specs.Texts.{is_line_feed, without_return}
-use Rattle.gw.specs.Verdicts.{IsRecordFault}
-
--- the lines of an input, without the line feeds
-abbrev pub lines_of : List ℕ → List (List ℕ)
-lines_of input = slice_split is_line_feed input
-
-abbrev pub is_blank : List ℕ → Bool
-is_blank line = length (without_return line) == 0
+use Rattle.gw.specs.Lines.{lines_of}
+use Rattle.gw.specs.Records.{IsRecordFault}
 
 -- octets, where they are a record
 abbrev pub if_record : List ℕ → Option (List ℕ)
 if_record octets = if is_none (refusal_of octets) then Some octets else None
 
+abbrev pub is_blank : List ℕ → Bool
+is_blank line = length line == 0
+
 -- the record that a line names; an empty line names none
 abbrev pub record_on : List ℕ → Option (List ℕ)
-record_on line = if is_blank line then None else option_and_then if_record (result_ok (decode_of (without_return line)))
+record_on line = if is_blank line then None else option_and_then if_record (result_ok (decode_of line))
 
 -- a line that is to name a record and does not
 abbrev pub is_bad : List ℕ → Bool
@@ -33,6 +32,10 @@ is_bad line = not (is_blank line) && is_none (record_on line)
 
 abbrev pub records_on : List (List ℕ) → List (List ℕ)
 records_on lines = filter_map record_on lines
+
+-- what was heard, newest first, with the record that one more line names
+abbrev pub heard_on : List ℕ → List (List ℕ) → List (List ℕ)
+heard_on line heard = option_map_or (λ octets. octets ∷ heard) (record_on line) heard
 
 -- a NAME in 16 hexadecimal digits
 abbrev pub name_digits : ℕ → List ℕ
@@ -50,16 +53,27 @@ unfoldable pub holder_lines : List (Option ℕ) → List ℕ
 holder_lines table = flat_map (line_at table) (range_with_len 0 254)
 
 -- the holders after the records that the lines name, the last one heard newest, where no line is bad
-pub record AnswersClaims (input line : List ℕ) : Type 0 where
+pub record IsHeld (input lines : List ℕ) : Type 0 where
   pub table : List (Option ℕ)
   pub heard : HoldsAfter table (reverse (records_on (lines_of input)))
   pub good : list_any is_bad (lines_of input) ≡ false
-  pub lines : line ≡ holder_lines table
+  pub all : lines ≡ holder_lines table
 
--- the first bad line, counted from 1, and what is wrong with it; memory may always be wanting
+abbrev pub AnswersClaims : List ℕ → Answer → Type 0
+AnswersClaims input (Text lines) = IsHeld input lines.items
+AnswersClaims input _ = ⊥
+
+-- the first bad line, counted from 1, and what is wrong with it
+pub record IsFirstBad (input : List ℕ) (number : ℕ) (fault : RecordFault) : Type 0 where
+  pub place : ℕ
+  pub line : List ℕ
+  pub first : position is_bad (lines_of input) ≡ Some place
+  pub there : slice_get (lines_of input) place ≡ Some line
+  pub counted : number ≡ suc place
+  pub bad : IsRecordFault line fault
+
+-- memory may be wanting for the answer alone
 abbrev pub RefusesClaims : List ℕ → Refusal → Type 0
-RefusesClaims input (RecordOnLine number fault) =
-    (place : ℕ) × (line : List ℕ) × (position is_bad (lines_of input) ≡ Some place) × (slice_get (lines_of input) place ≡ Some line)
-    × (number ≡ suc place) × IsRecordFault (without_return line) fault
-RefusesClaims input OutOfMemory = Unit {0}
+RefusesClaims input (RecordOnLine number fault) = IsFirstBad input number fault
+RefusesClaims input OutOfMemory = list_any is_bad (lines_of input) ≡ false
 RefusesClaims input _ = ⊥

@@ -1,8 +1,10 @@
+-- All of it is public meaning: what the command line promises of its input, its output and its status.
 pub mod Answers
 pub mod Checks
 pub mod ClaimLines
 pub mod Commands
+pub mod Lines
+pub mod Records
 pub mod Refusals
 pub mod Tables
-pub mod Texts
 pub mod Verdicts

@@ -13,19 +13,21 @@ use Rattle.gw_table.specs.declared.reading.TableRefusal.{TableRefusal}
 use Rattle.gw_table.specs.declared.reading.TableRefusal.TheVariants.{BadRange}
 use Rattle.gw.specs.declared.refusal.Refusal.{Refusal}
 use Rattle.gw.specs.declared.refusal.Refusal.TheVariants as refusal
-use Rattle.gw.specs.declared.refusal.Refusal.TheVariants.{Record, RecordOnLine, Listing, Program, Table, ReadFault, TooMuchInput, NotUtf8}
-use Rattle.gw.specs.declared.refusal.RecordFault.{RecordFault}
-use Rattle.gw.specs.declared.refusal.RecordFault.TheVariants.{NoRecord, BadHex}
+use Rattle.gw.specs.declared.refusal.Refusal.TheVariants.{Record, RecordOnLine, Listing, Program, Unset, Table, ReadFault, TooMuchInput, NotUtf8}
+use Rattle.gw.specs.declared.record.RecordFault.{RecordFault}
+use Rattle.gw.specs.declared.record.RecordFault.TheVariants.{NoDigit, OddDigits, NoRecord}
 
 abbrev pub record_number : RecordFault → ℕ
-record_number (NoRecord why octets) = refusal_number why
-record_number (BadHex error) = 97
+record_number (NoDigit at octet) = 97
+record_number (OddDigits digits) = 97
+record_number (NoRecord why) = refusal_number why
 
 abbrev pub number_of : Refusal → ℕ
 number_of (Record fault) = record_number fault
 number_of (RecordOnLine line fault) = record_number fault
 number_of (Listing why) = listing.refusal_number why
-number_of (Program refused) = cause_number refused.why
+number_of (Program refused path) = cause_number refused.why
+number_of (Unset refused path output) = cause_number refused.why
 number_of ReadFault = 96
 number_of (Table why) = table.refusal_number why
 number_of TooMuchInput = 98
@@ -49,10 +51,19 @@ table_details _ = []
 abbrev pub details_of : Refusal → List ℕ
 details_of (RecordOnLine line fault) = line ∷ []
 details_of (Listing why) = listing_details why
-details_of (Program refused) = cause_details refused.why refused.place
+details_of (Program refused path) = cause_details refused.why refused.place
+details_of (Unset refused path output) = cause_details refused.why refused.place
 details_of (Table why) = table_details why
 details_of _ = []
 
 -- `refused` and the numbers, with spaces between
+abbrev pub refused_line : ℕ → List ℕ → List ℕ
+refused_line number details = codes "refused " ++ decimal number ++ flat_map (λ n. 32 ∷ decimal n) details ++ 10 ∷ []
+
 abbrev pub refusal_line : Refusal → List ℕ
-refusal_line r = codes "refused " ++ decimal (number_of r) ++ flat_map (λ n. 32 ∷ decimal n) (details_of r) ++ 10 ∷ []
+refusal_line r = refused_line (number_of r) (details_of r)
+
+-- the whole output on a refusal: `check` has the line of a path before that of an unset word
+abbrev pub refusal_text : Refusal → List ℕ
+refusal_text (Unset refused path output) = output.items
+refusal_text r = refusal_line r

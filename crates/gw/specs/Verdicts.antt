@@ -1,25 +1,36 @@
 -- What a program answers on a record, both given as text.
-use Rattle.std.specs.Prelude.{◌≡◌, ℕ, List, map, Option, Some, Ok, Err}
-use Rattle.hex.specs.Hex.{decode_of}
-use Rattle.gw_frame.specs.Record.{IsRecord, refusal_of}
+use Rattle.std.specs.Prelude.{◌≡◌, ℕ, ◌⊎◌, List, [], map, Option, Some, None, MatchOption}
 use Rattle.gw_insn.specs.declared.insn.Raw.{Raw}
 use Rattle.gw_insn.specs.declared.insn.Insn.{Insn}
 use Rattle.gw_insn.specs.Table.{insn_of}
 use Rattle.gw_insn.specs.Listing.{IsListing, IsListRefusal}
-use Rattle.gw_verify.specs.Flow.{forms_of}
+use Rattle.gw_verify.specs.declared.cause.Cause.{Cause}
+use Rattle.gw_verify.specs.declared.cause.Cause.TheVariants.{UnsetWord}
+use Rattle.gw_verify.specs.declared.path.Path.{Path}
+use Rattle.gw_verify.specs.Flow.{Forms, forms_of, IsBarePathTo}
 use Rattle.gw_verify.specs.Accepted.{IsAccepted, IsRefusal}
 use Rattle.gw_machine.specs.Runs.{Returns}
+use Rattle.gw.specs.declared.answer.Answer.{Answer}
+use Rattle.gw.specs.declared.answer.Answer.TheVariants.{Verdict}
+use Rattle.gw.specs.declared.record.RecordFault.{RecordFault}
 use Rattle.gw.specs.declared.refusal.Refusal.{Refusal}
-use Rattle.gw.specs.declared.refusal.Refusal.TheVariants.{Record, Listing, Program, OutOfMemory}
-use Rattle.gw.specs.declared.refusal.RecordFault.{RecordFault}
-use Rattle.gw.specs.declared.refusal.RecordFault.TheVariants.{NoRecord, BadHex}
-use Rattle.gw.specs.Answers.{verdict_line}
-use Rattle.gw.specs.Texts.{record_text, listing_text}
+use Rattle.gw.specs.declared.refusal.Refusal.TheVariants.{Record, Listing, Program}
+use Rattle.gw.specs.Lines.{first_line, behind_first}
+use Rattle.gw.specs.Records.{NamesRecord, IsRecordFault}
 
--- the hex text of a record
-pub record NamesRecord (text : List ℕ) (octets : List ℕ) : Type 0 where
-  pub hex : decode_of text ≡ Ok octets
-  pub valid : IsRecord octets
+-- the record's text: a word of the command line, else the input's first line
+abbrev pub record_text : Option (List ℕ) → List ℕ → List ℕ
+record_text (Some word) input = word
+record_text None input = first_line input
+
+-- the listing: the whole input, or what stands behind its first line
+abbrev pub behind : Option (List ℕ) → List ℕ
+behind (Some text) = text
+behind None = []
+
+abbrev pub listing_text : Option (List ℕ) → List ℕ → List ℕ
+listing_text (Some word) input = input
+listing_text None input = behind (behind_first input)
 
 -- the listing of accepted code, decoded
 pub record NamesProgram (listing : List ℕ) (program : List Insn) : Type 0 where
@@ -37,37 +48,33 @@ pub record IsVerdict (text listing : List ℕ) (port answer : ℕ) : Type 0 wher
   pub listed : NamesProgram listing program
   pub returns : Returns program octets port answer steps
 
+-- a path that leaves the word unset: for an unset word alone, and none where memory was wanting for it
+abbrev pub IsPathFor : Cause → Forms → ℕ → Option Path → Type 0
+IsPathFor (UnsetWord word) forms place path = MatchOption path (Unit {0}) (λ found. IsBarePathTo forms found.places.items place word)
+IsPathFor _ forms place path = path ≡ None
+
 -- what refuses a listing: its own refusal, or that of the code that it lists
 abbrev pub IsProgramRefusal : List ℕ → Refusal → Type 0
 IsProgramRefusal listing (Listing why) = IsListRefusal listing why
-IsProgramRefusal listing (Program refused) =
+IsProgramRefusal listing (Program refused path) =
     IsListing listing refused.code.items × IsRefusal (forms_of refused.code.items) refused.why refused.place
+    × IsPathFor refused.why (forms_of refused.code.items) refused.place path
 IsProgramRefusal listing _ = ⊥
-
--- digits that are no hex, or octets that are no record
-abbrev pub IsRecordFault : List ℕ → RecordFault → Type 0
-IsRecordFault text (BadHex error) = decode_of text ≡ Err error
-IsRecordFault text (NoRecord why octets) = (decode_of text ≡ Ok octets.items) × (refusal_of octets.items ≡ Some why)
-
--- what refuses a record's text: its fault, or want of memory
-abbrev pub IsRecordRefusal : List ℕ → Refusal → Type 0
-IsRecordRefusal text (Record fault) = IsRecordFault text fault
-IsRecordRefusal text OutOfMemory = Unit {0}
-IsRecordRefusal text _ = ⊥
 
 -- the first refusal: the record's, or with a record the listing's
 abbrev pub IsVerdictRefusal : List ℕ → List ℕ → Refusal → Type 0
-IsVerdictRefusal text listing (Listing why) =
-    (octets : List ℕ) × NamesRecord text octets × IsProgramRefusal listing (Listing why)
-IsVerdictRefusal text listing (Program refused) =
-    (octets : List ℕ) × NamesRecord text octets × IsProgramRefusal listing (Program refused)
-IsVerdictRefusal text listing refusal = IsRecordRefusal text refusal
+IsVerdictRefusal text listing refusal =
+    ((fault : RecordFault) × (refusal ≡ Record fault) × IsRecordFault text fault)
+    ⊎ ((octets : List ℕ) × NamesRecord text octets × IsProgramRefusal listing refusal)
+
+abbrev pub IsVerdictAnswer : List ℕ → List ℕ → ℕ → Answer → Type 0
+IsVerdictAnswer text listing port (Verdict answer) = IsVerdict text listing port answer
+IsVerdictAnswer text listing port _ = ⊥
 
 -- What the command `verdict` answers and refuses, with a word of the command line for the record's text or without, and for
 -- a taking port.
-abbrev pub AnswersVerdict : Option (List ℕ) → ℕ → List ℕ → List ℕ → Type 0
-AnswersVerdict word port input line =
-    (answer : ℕ) × IsVerdict (record_text word input) (listing_text word input) port answer × (line ≡ verdict_line answer)
+abbrev pub AnswersVerdict : Option (List ℕ) → ℕ → List ℕ → Answer → Type 0
+AnswersVerdict word port input answer = IsVerdictAnswer (record_text word input) (listing_text word input) port answer
 
 abbrev pub RefusesVerdict : Option (List ℕ) → List ℕ → Refusal → Type 0
 RefusesVerdict word input refusal = IsVerdictRefusal (record_text word input) (listing_text word input) refusal

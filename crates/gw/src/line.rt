@@ -1,7 +1,6 @@
 //! Short lines of output.
 
 ghost use Rattle.std.specs.Prelude.{◌≡◌, ◌+◌, ◌≤◌, ◌<◌, [], ◌++◌, length, decimal};
-ghost use Rattle.gw.specs.Answers.{verdict_line, accepted_line};
 
 use arrayvec::ArrayVec;
 use itoa::Buffer;
@@ -63,28 +62,4 @@ impl Line {
     {
         self.octets.as_slice()
     }
-}
-
-/// The line of an answer: `block` for 0, else `pass` and the answer.
-pub fn verdict_line(answer: u32) -> Line
-    ensures { result ≡ verdict_line answer }
-{
-    if answer == 0 {
-        Line::new().text("block\n")
-    } else {
-        Line::new()
-            .text("pass ")
-            .number(u64::from(answer))
-            .text("\n")
-    }
-}
-
-/// The line of an accepted program with so many instructions.
-pub fn accepted_line(count: usize) -> Line
-    ensures { result ≡ accepted_line count }
-{
-    Line::new()
-        .text("accepted ")
-        .number(count as u64)
-        .text("\n")
 }

@@ -1,11 +1,17 @@
 //! The gateway's program.
 #![tactic(auto)]
 
+mod answer;
+mod check;
 mod claims;
 mod command;
 mod explanation;
 mod line;
+mod lines;
+mod notes;
+mod record;
 mod refusal;
+mod respond;
 mod streams;
 mod tables;
 mod verdict;

@@ -2,49 +2,39 @@
 
 ghost use Rattle.std.specs.Prelude.{◌≡◌, ◌≤◌, ◌++◌, ◌∷◌, length, decimal};
 ghost use Rattle.std.specs.List.{flat_map};
-ghost use Rattle.gw.specs.Refusals.{cause_details};
+ghost use Rattle.gw_verify.specs.Cause.{cause_number};
+ghost use Rattle.gw.specs.Refusals.{cause_details, refused_line};
 
 use crate::line::Line;
-use gw_frame::FrameRefusal;
+use crate::record::RecordFault;
 use gw_insn::ListRefusal;
 use gw_table::TableRefusal;
-use gw_verify::{Cause, Refused};
-use hex::FromHexError;
-
-/// Why a text is no record.
-#[derive(Drop)]
-pub enum RecordFault {
-    /// 1 to 4: octets that are no record.
-    NoRecord { why: FrameRefusal, octets: Vec<u8> },
-    /// 97: a text that is not written in hexadecimal digits.
-    BadHex(FromHexError),
-}
-
-impl RecordFault {
-    ghost use Rattle.gw.specs.Refusals.{record_number};
-
-    /// The number that the fault is told by.
-    pub fn number(&self) -> u32
-        ensures { result ≡ record_number self.now }
-    {
-        match self {
-            RecordFault::NoRecord { why, .. } => why.number(),
-            RecordFault::BadHex(_) => 97,
-        }
-    }
-}
+use gw_verify::{Cause, Path, Refused};
 
 /// Why the program refuses what it was given.
-#[derive(Drop)]
+#[derive(Drop, Debug)]
 pub enum Refusal {
     /// 1 to 4 and 97: a text that is no record.
     Record(RecordFault),
     /// The same of a line of the input, counted from 1.
-    RecordOnLine { line: usize, fault: RecordFault },
+    RecordOnLine {
+        line: usize,
+        fault: RecordFault,
+    },
     /// 10 to 13: a text that is no listing.
     Listing(ListRefusal),
-    /// 20 to 30: code that is not accepted.
-    Program(Refused),
+    /// 20 to 30: code that is not accepted. For a scratch word that may be unset there is a path that leaves it unset,
+    /// unless memory was refused for it.
+    Program {
+        refused: Refused,
+        path: Option<Path>,
+    },
+    /// 29 where the path is part of the output: the line of the path, and that of the refusal.
+    Unset {
+        refused: Refused,
+        path: Path,
+        output: Vec<u8>,
+    },
     /// 96: a read failed.
     ReadFault,
     /// 50 to 55: a text that is no table.
@@ -69,7 +59,8 @@ impl Refusal {
             Refusal::Record(fault) => fault.number(),
             Refusal::RecordOnLine { fault, .. } => fault.number(),
             Refusal::Listing(why) => why.number(),
-            Refusal::Program(refused) => refused.why.number(),
+            Refusal::Program { refused, .. } => refused.why.number(),
+            Refusal::Unset { refused, .. } => refused.why.number(),
             Refusal::ReadFault => 96,
             Refusal::Table(why) => u32::from(why.number()),
             Refusal::TooMuchInput => 98,
@@ -91,11 +82,20 @@ impl Refusal {
                 .text(" ")
                 .number(*index as u64),
             Refusal::Table(TableRefusal::BadRange { rule }) => line.text(" ").number(*rule as u64),
-            Refusal::Program(refused) => place_of(line, refused.why, refused.place),
+            Refusal::Program { refused, .. } => place_of(line, refused.why, refused.place),
+            Refusal::Unset { refused, .. } => place_of(line, refused.why, refused.place),
             _ => line,
         };
         line.text("\n")
     }
+}
+
+/// The line that tells the refusal of a program.
+pub fn program_line(why: Cause, place: usize) -> Line
+    ensures { result ≡ refused_line (cause_number why) (cause_details why place) }
+{
+    let line = Line::new().text("refused ").number(u64::from(why.number()));
+    place_of(line, why, place).text("\n")
 }
 
 /// The place that a cause names, and the scratch word.

@@ -52,7 +52,7 @@ impl Write for Filling {
 }
 
 /// The words of commands, each with an input and the output that it gives.
-const WHOLE_RUNS: [(&[&str], &str, &str); 4] = [
+const WHOLE_RUNS: [(&[&str], &str, &str); 6] = [
     (&[], FIRST_RUN, "pass 1\n"),
     (&["check"], "3,5 0 0 1,96 0 0 3,6 0 0 1,", "accepted 3\n"),
     (
@@ -61,7 +61,13 @@ const WHOLE_RUNS: [(&[&str], &str, &str); 4] = [
         "128 0000000000000005\n",
     ),
     (&["table", "--frame", R], "default = \"pass\"\n", "pass\n"),
+    (&["verdict", R], "1,6 0 0 7,", "pass 7\n"),
+    (&["table"], "", EMPTY_TABLE),
 ];
+
+/// The listing of the empty table.
+const EMPTY_TABLE: &str =
+    "22,32 0 0 0,84 0 0 3758096384,21 1 0 2147483648,6 0 0 0,48 0 0 3,2 0 0 1,48 0 0 1,53 7 0 240,48 0 0 2,2 0 0 2,32 0 0 0,116 0 0 8,84 0 0 261888,2 0 0 0,5 0 0 6,0 0 0 255,2 0 0 2,32 0 0 0,116 0 0 8,84 0 0 262143,2 0 0 0,6 0 0 0,\n";
 
 #[test]
 fn breaking_readers(rt: HostRuntime) {
@@ -104,6 +110,10 @@ fn filling_writers(rt: HostRuntime) {
             );
             assert_eq!(rt; status, 1);
             assert_eq!(rt; output.taken.as_slice(), &whole.as_bytes()[..room]);
+            assert_eq!(rt;
+                faults.as_slice(),
+                b"gw: the output could not be written\n".as_slice()
+            );
         }
     }
 }
@@ -126,4 +136,43 @@ fn filling_fault_stream(rt: HostRuntime) {
     );
     assert_eq!(rt; status, 1);
     assert_eq!(rt; output.as_slice(), b"refused 97\n".as_slice());
+}
+
+/// A reader that fails at its first call and then goes on.
+#[derive(Drop)]
+struct Stumbling<'a> {
+    octets: &'a [u8],
+    stumbled: bool,
+}
+
+impl Read for Stumbling<'_> {
+    fn read(&mut self, buf: &mut [u8]) -> io::Result<usize> {
+        if !self.stumbled {
+            self.stumbled = true;
+            return Err(io::Error::from(ErrorKind::Other));
+        }
+        self.octets.read(buf)
+    }
+}
+
+#[test]
+fn stumbling_reader(rt: HostRuntime) {
+    let alloc = rt.alloc();
+    for (words, input, _) in WHOLE_RUNS {
+        let octets = input.as_bytes();
+        let mut output = Vec::new(alloc);
+        let mut faults = Vec::new(alloc);
+        let status = command(
+            alloc,
+            words,
+            &mut Tried::new(Stumbling {
+                octets,
+                stumbled: false,
+            }),
+            &mut Tried::new(&mut output),
+            &mut Tried::new(&mut faults),
+        );
+        assert_eq!(rt; status, 1);
+        assert_eq!(rt; output.as_slice(), b"refused 96\n".as_slice());
+    }
 }

@@ -3,7 +3,7 @@
 ghost use Rattle.std.specs.Prelude.{◌≡◌, ◌≤◌, ℕ, List, true, false, length, IfOk, IfErr, OnOk, OnErr};
 ghost use Rattle.std.specs.Io.KnownBytes.{Appends};
 ghost use Rattle.gw_trace.specs.Tries.{inner_of, has_failed};
-ghost use Rattle.gw.specs.Commands.{IsInput, IsInputRefusal};
+ghost use Rattle.gw.specs.Commands.{IsInput, IsInputRefusal, WritesPart};
 
 use crate::refusal::Refusal;
 use gw_trace::Tried;
@@ -20,8 +20,10 @@ pub struct WriteFault;
 /// Reads to the end: 96 where a read failed, 98 for more than 1048576 octets, 100 for want of memory.
 pub fn read_input<R: Read>(alloc: Global, reader: &mut Tried<R>) -> Result<Vec<u8>, Refusal>
     requires { has_failed reader.old ≡ false }
-    ensures input { IfOk result (λ octets. IsInput (R.remaining (inner_of reader.old)) (R.remaining (inner_of reader.new)) octets.items) }
-    ensures refused { IfErr result (λ e. IsInputRefusal (R.remaining (inner_of reader.old)) (R.remaining (inner_of reader.new)) (has_failed reader.new) e) }
+    ensures input { IfOk result (λ octets. IsInput (R.remaining (inner_of reader.old)) (R.remaining (inner_of reader.new))
+        (has_failed reader.new) octets.items) }
+    ensures refused { IfErr result (IsInputRefusal (R.remaining (inner_of reader.old)) (R.remaining (inner_of reader.new))
+        (has_failed reader.new)) }
 {
     let mut input = Vec::new(alloc);
     let mut piece = [0; 4096];
@@ -39,10 +41,11 @@ pub fn read_input<R: Read>(alloc: Global, reader: &mut Tried<R>) -> Result<Vec<u
     Err(Refusal::TooMuchInput)
 }
 
-/// Writes the octets, one piece after another.
+/// Writes the octets, one piece after another. Where a write failed, a beginning of them was written.
 pub fn write_all<W: Write>(writer: &mut Tried<W>, octets: &[u8]) -> Result<(), WriteFault>
     requires { has_failed writer.old ≡ false }
     ensures written { OnOk result (Appends (W.contents (inner_of writer.old)) (W.contents (inner_of writer.new)) octets.now) }
+    ensures part { OnErr result (WritesPart (W.contents (inner_of writer.old)) (W.contents (inner_of writer.new)) octets.now) }
     ensures whole { OnOk result (has_failed writer.new ≡ false) }
     ensures failed { OnErr result (has_failed writer.new ≡ true) }
 {

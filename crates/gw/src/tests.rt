@@ -262,8 +262,6 @@ fn tables(rt: HostRuntime) {
         &["table", "--frame", R, "--port", "0"],
         &[(from_1, 0, "block\n")],
     );
-    let latin = outcome_of(alloc, &["table"], &[255]);
-    assert_eq!(rt; latin.output.as_slice(), b"refused 98\n".as_slice());
 }
 
 /// A listing of so many instructions, `ld #0` but for a last `ret #1`.
@@ -308,29 +306,153 @@ fn greatest_input(rt: HostRuntime) -> Result<(), Fail> {
     Ok(())
 }
 
+/// Whether each input under the words is told on the fault stream by the text of its row.
+fn tells(rt: &(impl Abort), alloc: Global, words: &[&str], rows: &[(&str, &str)]) {
+    for &(input, text) in rows {
+        let outcome = outcome_of(alloc, words, input.as_bytes());
+        assert_eq!(rt; outcome.faults.as_slice(), text.as_bytes(), "on {input}");
+    }
+}
+
 #[test]
-fn explanations(rt: HostRuntime) {
+fn tells_of_listings(rt: HostRuntime) {
     let rows = [
         (
-            "4,21 0 1 0,2 0 0 3,96 0 0 3,22 0 0 0,",
-            "instruction 2 loads M[3], which the path 0 2 leaves unset\n",
+            "6 0 0 1",
+            "gw: the listing does not begin with the number of its instructions, at most 65535, and a comma, as `1,6 0 0 1,` does (for `tcpdump -ddd`, make each line end a comma)\n",
         ),
-        ("1,7 0 0 0,", "instruction 0, the last, is no return\n"),
+        (
+            "2,6 0 0 1,",
+            "gw: instruction 1, counted from 0, is not there as `code jt jf k` and a comma, as `21 0 1 2054,` is: decimal numbers, at most 65535, 255, 255 and 4294967295, with one space between\n",
+        ),
+        (
+            "1,6 0 0 1,6 0 0 1,",
+            "gw: something other than white space follows the last of the instructions that the count tells\n",
+        ),
+        (
+            "4,21 0 1 0,2 0 0 3,96 0 0 3,22 0 0 0,",
+            "gw: instruction 2 loads M[3], which the path 0 2 leaves unset\n",
+        ),
+        (
+            "1,7 0 0 0,",
+            "gw: instruction 0, the last, is no return, as `6 0 0 1` is\n",
+        ),
         (
             "2,5 0 0 1,6 0 0 0,",
-            "instruction 0 jumps out of the code\n",
+            "gw: instruction 0 jumps out of the code, which has 2 instructions\n",
         ),
     ];
-    for (listing, explanation) in rows {
-        let checked = outcome_of(rt.alloc(), &["check"], listing.as_bytes());
-        assert_eq!(rt; checked.faults.as_slice(), explanation.as_bytes());
-        let judged = outcome_of(rt.alloc(), &["verdict", R], listing.as_bytes());
-        assert_eq!(rt; judged.faults.as_slice(), explanation.as_bytes());
+    tells(&rt, rt.alloc(), &["check"], &rows);
+    tells(&rt, rt.alloc(), &["verdict", R], &rows);
+}
+
+/// The usual mistakes in a record: copied from a bus monitor, or a part of it forgotten.
+#[test]
+fn tells_of_records(rt: HostRuntime) {
+    let rows = [
+        (
+            "18FEF100#2A36",
+            "gw: `#` at place 8 of the record is no hexadecimal digit; a record is written 98FEF100 08 000000 and the payload, without spaces\n",
+        ),
+        (
+            "98 FE F1",
+            "gw: ` ` at place 2 of the record is no hexadecimal digit; a record is written 98FEF100 08 000000 and the payload, without spaces\n",
+        ),
+        (
+            "can0  18FEF100   [8]  2A 36 FF FF FF FF FF FF",
+            "gw: `n` at place 2 of the record is no hexadecimal digit; a record is written 98FEF100 08 000000 and the payload, without spaces\n",
+        ),
+        (
+            "98FEF10008F",
+            "gw: the record has 11 hexadecimal digits, an odd number; two make an octet\n",
+        ),
+        (
+            "98FEF100",
+            "gw: a record has at least 8 octets, and this one has 4; a record is written 98FEF100 08 000000 and the payload, without spaces\n",
+        ),
+        (
+            "98FEF1002A36FFFFFFFFFFFF",
+            "gw: a payload has at most 8 octets, and octet 4 says 42; a record is written 98FEF100 08 000000 and the payload, without spaces\n",
+        ),
+        (
+            "8CF0040008000000FFFFFFFFFFFFFFFF00",
+            "gw: a record has at most 16 octets, and this one has 17; a record is written 98FEF100 08 000000 and the payload, without spaces\n",
+        ),
+        (
+            "8CF0040008000000FFFF",
+            "gw: the payload has 2 of the 8 octets that octet 4 says; a record is written 98FEF100 08 000000 and the payload, without spaces\n",
+        ),
+    ];
+    tells(&rt, rt.alloc(), &[], &rows);
+    for (record, text) in rows {
+        tells(
+            &rt,
+            rt.alloc(),
+            &["table", "--frame", record],
+            &[("", text)],
+        );
     }
-    let record = "8CF0040009000000FFFFFFFFFFFFFFFF";
-    let judged = outcome_of(rt.alloc(), &["verdict", record], b"1,6 0 0 1,");
-    let explanation = b"octet 4 says 9 octets of payload; at most 8 fit\n";
-    assert_eq!(rt; judged.faults.as_slice(), explanation.as_slice());
+    let lines = [(
+        "\n98FEF100\n",
+        "gw: line 2: a record has at least 8 octets, and this one has 4; a record is written 98FEF100 08 000000 and the payload, without spaces\n",
+    )];
+    tells(&rt, rt.alloc(), &["claims"], &lines);
+}
+
+/// A record without the flag of an extended frame is judged as it is, and a person is told.
+#[test]
+fn tells_of_a_flag_that_lacks(rt: HostRuntime) {
+    let alloc = rt.alloc();
+    let rows = [(
+        "other = \"pass\"",
+        "gw: the identifier 18FEF100 has more than 11 bits and lacks the flag 80000000, so this is no extended frame and a table judges it by `other`; 98FEF100 may be meant\n",
+    )];
+    let words = ["table", "--frame", "18FEF10000000000"];
+    tells(&rt, alloc, &words, &rows);
+    answers(&rt, alloc, &words, &[(rows[0].0, 0, "pass\n")]);
+    let rows = [(
+        "18EEFF80080000000500000000000000",
+        "gw: line 1: the identifier 18EEFF80 has more than 11 bits and lacks the flag 80000000, so it does not count; 98EEFF80 may be meant\n",
+    )];
+    tells(&rt, alloc, &["claims"], &rows);
+    answers(&rt, alloc, &["claims"], &[(rows[0].0, 0, "")]);
+    let standard = [("other = \"pass\"", "")];
+    tells(
+        &rt,
+        alloc,
+        &["table", "--frame", "000007FF00000000"],
+        &standard,
+    );
+}
+
+#[test]
+fn tells_of_inputs(rt: HostRuntime) {
+    let alloc = rt.alloc();
+    let latin = outcome_of(alloc, &["table"], &[255]);
+    assert_eq!(rt;
+        latin.faults.as_slice(),
+        b"gw: the input is no text: it is not UTF-8\n".as_slice()
+    );
+    let latin = outcome_of(alloc, &["table"], &[35, 255]);
+    assert_eq!(rt; latin.output.as_slice(), b"refused 98\n".as_slice());
+}
+
+/// A carriage return is dropped before a line feed alone.
+#[test]
+fn returns_without_line_feeds(rt: HostRuntime) {
+    let alloc = rt.alloc();
+    answers(
+        &rt,
+        alloc,
+        &["claims"],
+        &[("98EF123400000000\r", 1, "refused 97 1\n"), ("\r\n", 0, "")],
+    );
+    answers(
+        &rt,
+        alloc,
+        &[],
+        &[("8CF0040000000000\r", 1, "refused 97\n")],
+    );
 }
 
 #[test]
@@ -339,6 +461,9 @@ fn words(rt: HostRuntime) {
     let help = outcome_of(alloc, &["--help"], b"");
     assert_eq!(rt; help.status, 0);
     assert!(rt; !help.output.is_empty() && help.faults.is_empty());
+    let version = outcome_of(alloc, &["--version"], b"");
+    assert_eq!(rt; version.status, 0);
+    assert_eq!(rt; version.output.as_slice(), b"gw 0.1.0\n".as_slice());
     let wrong: [&[&str]; 6] = [
         &["bogus"],
         &["verdict", "--port", "16", R],

@@ -1,71 +1,94 @@
-//! Verdicts: a program of a listing, run on a record in hexadecimal digits.
+//! The command `verdict`: a program of a listing, run on a record.
 
-ghost use Rattle.std.specs.Prelude.{◌≡◌, IfOk, IfErr, option_copied};
-ghost use Rattle.std.specs.List.{position_or_len};
-ghost use Rattle.gw.specs.Texts.{is_line_feed, record_text, listing_text, without_return};
-ghost use Rattle.gw.specs.Checks.{IsVerifiers};
-ghost use Rattle.gw.specs.Verdicts.{NamesRecord, NamesProgram, IsVerdict, IsRecordRefusal, IsProgramRefusal, IsVerdictRefusal};
+ghost use Rattle.std.specs.Prelude.{◌≡◌, false, IfOk, IfErr, option_copied};
+ghost use Rattle.gw_trace.specs.Tries.{inner_of, has_failed};
+ghost use Rattle.gw.specs.Commands.{Does, IsFound};
+ghost use Rattle.gw.specs.Verdicts.{AnswersVerdict, RefusesVerdict, NamesProgram, IsVerdictAnswer, IsProgramRefusal, IsVerdictRefusal, record_text, listing_text};
 
-use crate::refusal::{RecordFault, Refusal};
-use gw_frame::Frame;
+use crate::answer::Answer;
+use crate::lines::first_line;
+use crate::notes::note_standard_identifier;
+use crate::record::record;
+use crate::refusal::Refusal;
+use crate::respond::respond;
+use crate::streams::read_input;
 use gw_insn::read_listing;
 use gw_machine::run;
+use gw_trace::Tried;
 use gw_verify::Program;
-use hex::FromHexError;
 use std::alloc::Global;
+use std::io::{Read, Write};
 
-/// The text of a record, a word of the command line or else the first line of the input without its line end, and
-/// the listing, which is the whole input or what stands after that line.
-pub fn parts<'a>(word: Option<&'a str>, input: &'a [u8]) -> (&'a [u8], &'a [u8])
+/// Reads a listing, behind the record's line where no word is the record, and writes the program's verdict.
+pub fn verdict<R: Read, W: Write, F: Write>(
+    alloc: Global,
+    port: u8,
+    word: Option<&str>,
+    input: &mut Tried<R>,
+    output: &mut Tried<W>,
+    faults: &mut Tried<F>,
+) -> u8
+    requires input { has_failed input.old ≡ false }
+    requires output { has_failed output.old ≡ false }
+    ensures { Does (AnswersVerdict (option_copied word.entry) port) (RefusesVerdict (option_copied word.entry))
+        (R.remaining (inner_of input.old)) (R.remaining (inner_of input.new)) (has_failed input.new)
+        (W.contents (inner_of output.old)) (W.contents (inner_of output.new)) (has_failed output.new) result }
+{
+    let found = judged(alloc, port, word, input, faults);
+    respond(&found, output, faults)
+}
+
+/// The verdict on the input.
+fn judged<R: Read, F: Write>(
+    alloc: Global,
+    port: u8,
+    word: Option<&str>,
+    input: &mut Tried<R>,
+    faults: &mut Tried<F>,
+) -> Result<Answer, Refusal>
+    requires { has_failed input.old ≡ false }
+    ensures { IsFound (AnswersVerdict (option_copied word.entry) port) (RefusesVerdict (option_copied word.entry))
+        (R.remaining (inner_of input.old)) (R.remaining (inner_of input.new)) (has_failed input.new) result }
+{
+    let octets = read_input(alloc, input)?;
+    let (text, listing) = parts(word, &octets);
+    answer_on(alloc, text, listing, port, faults)
+}
+
+/// The text of a record, a word of the command line or else the first line of the input, and the listing, which is the
+/// whole input or what stands behind that line.
+fn parts<'a>(word: Option<&'a str>, input: &'a [u8]) -> (&'a [u8], &'a [u8])
     ensures record { result.0.now ≡ record_text (option_copied word.entry) input.now }
     ensures listing { result.1.now ≡ listing_text (option_copied word.entry) input.now }
 {
     if let Some(word) = word {
         return (word.as_bytes(), input);
     }
-    let end = line_end(input);
-    if end < input.len() {
-        (without_return(&input[..end]), &input[end + 1..])
-    } else {
-        (without_return(input), &[])
+    match first_line(input) {
+        (line, Some(behind)) => (line, behind),
+        (line, None) => (line, &[]),
     }
 }
 
-/// How many octets stand before the first line feed.
-fn line_end(input: &[u8]) -> usize
-    ensures { result ≡ position_or_len is_line_feed input.now }
+/// The answer of a listing's program on a record that was taken at a port.
+fn answer_on<F: Write>(
+    alloc: Global,
+    text: &[u8],
+    listing: &[u8],
+    port: u8,
+    faults: &mut Tried<F>,
+) -> Result<Answer, Refusal>
+    ensures answered { IfOk result (IsVerdictAnswer text.now listing.now port) }
+    ensures refused { IfErr result (IsVerdictRefusal text.now listing.now) }
 {
-    for (i, c) in input.iter().enumerate() {
-        if *c == b'\n' {
-            return i;
-        }
-    }
-    input.len()
-}
-
-/// A line without a carriage return at its end.
-pub fn without_return(line: &[u8]) -> &[u8]
-    ensures { result.now ≡ without_return line.now }
-{
-    match line.split_last() {
-        Some((b'\r', before)) => before,
-        _ => line,
-    }
-}
-
-/// The record that hexadecimal digits spell.
-pub fn record(alloc: Global, text: &[u8]) -> Result<Frame, Refusal>
-    ensures named { IfOk result (λ frame. NamesRecord text.now frame) }
-    ensures refused { IfErr result (IsRecordRefusal text.now) }
-{
-    let octets = match hex::decode(alloc, text) {
-        Ok(octets) => octets,
-        Err(FromHexError::OutOfMemory) => return Err(Refusal::OutOfMemory),
-        Err(error) => return Err(Refusal::Record(RecordFault::BadHex(error))),
+    let frame = match record(text) {
+        Ok(frame) => frame,
+        Err(fault) => return Err(Refusal::Record(fault)),
     };
-    match Frame::read(&octets) {
-        Ok(frame) => Ok(frame),
-        Err(why) => Err(Refusal::Record(RecordFault::NoRecord { why, octets })),
+    note_standard_identifier(&frame, faults);
+    match program(alloc, listing) {
+        Ok(program) => Ok(Answer::Verdict(run(&program, &frame, port))),
+        Err(refusal) => Err(refusal),
     }
 }
 
@@ -73,23 +96,16 @@ pub fn record(alloc: Global, text: &[u8]) -> Result<Frame, Refusal>
 pub fn program(alloc: Global, listing: &[u8]) -> Result<Program, Refusal>
     ensures named { IfOk result (λ program. NamesProgram listing.now program) }
     ensures refused { IfErr result (IsProgramRefusal listing.now) }
-    ensures explainable { IfErr result IsVerifiers }
 {
-    match read_listing(alloc, listing) {
-        Ok(code) => match Program::check(alloc, code) {
-            Ok(program) => Ok(program),
-            Err(refused) => Err(Refusal::Program(refused)),
-        },
-        Err(why) => Err(Refusal::Listing(why)),
+    let code = match read_listing(alloc, listing) {
+        Ok(code) => code,
+        Err(why) => return Err(Refusal::Listing(why)),
+    };
+    match Program::check(alloc, code) {
+        Ok(program) => Ok(program),
+        Err(refused) => Err(Refusal::Program {
+            path: refused.explain(alloc).unwrap_or(None),
+            refused,
+        }),
     }
-}
-
-/// The answer of a listing's program on a record that was taken at a port.
-pub fn verdict(alloc: Global, text: &[u8], listing: &[u8], port: u8) -> Result<u32, Refusal>
-    ensures answered { IfOk result (λ answer. IsVerdict text.now listing.now port answer) }
-    ensures refused { IfErr result (IsVerdictRefusal text.now listing.now) }
-{
-    let frame = record(alloc, text)?;
-    let program = program(alloc, listing)?;
-    Ok(run(&program, &frame, port))
 }

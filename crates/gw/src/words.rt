@@ -23,42 +23,74 @@ fn taking_port<'a>(alloc: Global) -> Arg<'a> {
         .long("port")
         .value_name("P")
         .value_parser(value_parser!(u8).range(0..=15))
-        .help("The port at which the frame was taken, 0 to 15 [default: 0]")
+        .help("The port at which the frame was taken, 0 to 15, `from` in a table [default: 0]")
 }
 
-/// The commands, as `clap` reads them and shows their help.
-fn commands<'a>(alloc: Global) -> Result<Command<'a>, AllocError> {
+/// The version that `--version` tells.
+const VERSION: &str = "0.1.0";
+
+fn verdict_command<'a>(alloc: Global) -> Result<Command<'a>, AllocError> {
     let record = Arg::new(alloc, "record").value_name("HEX").help(
         "The record in hexadecimal digits; without it, the first line of the input is the record",
     );
-    let verdict = Command::new(alloc, "verdict")
+    Command::new(alloc, "verdict")
         .about("Runs a program's listing on a record: `pass <answer>` or `block`")
+        .override_usage("gw verdict [--port P] [HEX] < LISTING")
+        .after_help(
+            "Example: gw verdict 98FEF10008000000FFFFFFFFFFFFFFFF <<< '4,48 0 0 1,21 0 1 254,6 0 0 1,6 0 0 0,'",
+        )
         .arg(taking_port(alloc))?
-        .arg(record)?;
-    let check = Command::new(alloc, "check").about(
-        "Checks a program's listing: `accepted <count>`, or why it is refused",
-    );
-    let claims = Command::new(alloc, "claims").about(
-        "Tells who holds which address after the records heard, one in hexadecimal digits a line",
-    );
+        .arg(record)
+}
+
+fn check_command<'a>(alloc: Global) -> Command<'a> {
+    Command::new(alloc, "check")
+        .about("Checks a program's listing: `accepted <count>`, or why it is refused")
+        .override_usage("gw check < LISTING")
+        .after_help("Example: gw check <<< '2,48 0 0 1,22 0 0 0,'")
+}
+
+fn claims_command<'a>(alloc: Global) -> Command<'a> {
+    Command::new(alloc, "claims")
+        .about(
+            "Tells who holds which address after the records heard, one in hexadecimal digits a line",
+        )
+        .override_usage("gw claims < RECORDS")
+        .after_help("Example: gw claims <<< 98EEFF80080000000500000000000000")
+}
+
+fn table_command<'a>(alloc: Global) -> Result<Command<'a>, AllocError> {
     let frame = Arg::new(alloc, "frame")
         .long("frame")
         .value_name("HEX")
         .help("A record in hexadecimal digits: tells whether the table passes it");
-    let table = Command::new(alloc, "table")
+    Command::new(alloc, "table")
         .about(
             "Compiles a policy table to a program's listing, or tells `pass` or `block` for a frame",
         )
+        .override_usage("gw table [--frame HEX] [--port P] < TABLE")
+        .after_help(
+            "Example: gw table --port 1 --frame 98EA00F903000000EBFE000000000000 < examples/diagnostics-port.toml",
+        )
         .arg(taking_port(alloc))?
-        .arg(frame)?;
+        .arg(frame)
+}
+
+/// The commands, as `clap` reads them and shows their help.
+fn commands<'a>(alloc: Global) -> Result<Command<'a>, AllocError> {
     Command::new(alloc, "gw")
         .about("A gateway for SAE J1939 vehicle networks: forwarding filters that cannot go wrong")
+        .version(VERSION)
+        .override_usage("gw [COMMAND] < FILE")
+        .after_help(
+            "Each command reads the standard input. Without a command the first line of the input is a record and a listing follows.\nA record is written 98FEF100 08 000000 and the payload, without spaces.",
+        )
         .no_binary_name(true)
         .subcommand_required(true)
-        .subcommand(verdict)?
-        .subcommand(check)?
-        .subcommand(claims)?
-        .subcommand(table)
+        .subcommand(verdict_command(alloc)?)?
+        .subcommand(check_command(alloc))?
+        .subcommand(claims_command(alloc))?
+        .subcommand(table_command(alloc)?)
 }
 
 /// What the words ask for, or `clap`'s answer to them: help, or what is wrong.

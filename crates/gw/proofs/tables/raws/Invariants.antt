@@ -1,4 +1,4 @@
-use Rattle.std.proofs.Common.{◌≡◌, map, take, vec_capacity, length}
+use Rattle.std.proofs.Common.{◌≡◌, map, take}
 use Rattle.gw_insn.specs.Table.{raw_of}
 use Rattle.gw.proofs.tables.raws.Given as goal
 
