@@ -9,8 +9,8 @@ use Rattle.gw_verify.specs.Cause.{cause_number}
 use Rattle.gw_verify.specs.declared.cause.Cause.{Cause}
 use Rattle.gw_verify.specs.declared.cause.Cause.TheVariants.{UnsetWord, OutOfMemory}
 use Rattle.gw_table.specs.TableText as table
-use Rattle.gw_table.specs.declared.reading.TableRefusal.{TableRefusal}
-use Rattle.gw_table.specs.declared.reading.TableRefusal.TheVariants.{BadRange}
+use Rattle.gw_table.specs.declared.refusal.TableRefusal.{TableRefusal}
+use Rattle.gw_table.specs.declared.refusal.TableRefusal.TheVariants.{BadRange}
 use Rattle.gw.specs.declared.refusal.Refusal.{Refusal}
 use Rattle.gw.specs.declared.refusal.Refusal.TheVariants as refusal
 use Rattle.gw.specs.declared.refusal.Refusal.TheVariants.{Record, RecordOnLine, Listing, Program, Unset, Table, ReadFault, TooMuchInput, NotUtf8}
@@ -45,7 +45,7 @@ cause_details OutOfMemory place = []
 cause_details _ place = place ∷ []
 
 abbrev pub table_details : TableRefusal → List ℕ
-table_details (BadRange rule) = rule ∷ []
+table_details (BadRange rule field why) = rule ∷ []
 table_details _ = []
 
 abbrev pub details_of : Refusal → List ℕ

@@ -1,7 +1,6 @@
 //! What a refusal says to a person.
 
 use crate::refusal::Refusal;
-use gw_table::TableRefusal;
 use gw_verify::{Cause, Path, Refused};
 use std::error::Error;
 use std::fmt;
@@ -20,7 +19,7 @@ impl Display for Refusal {
             Refusal::Program { refused, .. } => write!(f, "{refused}"),
             Refusal::Unset { refused, path, .. } => unset(f, refused, path),
             Refusal::ReadFault => f.write_str("the input could not be read"),
-            Refusal::Table(why) => table(f, *why),
+            Refusal::Table(why) => write!(f, "{why}"),
             Refusal::NotUtf8 => f.write_str("the input is no text: it is not UTF-8"),
             Refusal::TooMuchInput => f.write_str(
                 "the input has more than 1048576 octets, the most that are read",
@@ -41,23 +40,5 @@ fn unset<W: fmt::Write>(f: &mut Formatter<W>, refused: &Refused, path: &Path) ->
             "instruction {place} loads M[{word}], which the path {path} leaves unset"
         ),
         _ => write!(f, "{refused}"),
-    }
-}
-
-fn table<W: fmt::Write>(f: &mut Formatter<W>, why: TableRefusal) -> fmt::Result {
-    match why {
-        TableRefusal::BadToml => f.write_str("the table is not TOML"),
-        TableRefusal::UnknownKey => f.write_str(
-            "a key is none of `default`, `other` and `rule`, or in a rule none of `action`, `pgn`, `source`, `destination` and `from`",
-        ),
-        TableRefusal::BadAction => {
-            f.write_str("an action is neither \"pass\" nor \"block\", or a rule has none")
-        }
-        TableRefusal::BadRange { rule } => write!(
-            f,
-            "a range of rule {rule} is neither a number nor [lo, hi] within its field"
-        ),
-        TableRefusal::TooManyRules => f.write_str("the table has more than 256 rules"),
-        TableRefusal::OutOfMemory => f.write_str("memory was refused for the table"),
     }
 }

@@ -62,7 +62,7 @@ impl Refusal {
             Refusal::Program { refused, .. } => refused.why.number(),
             Refusal::Unset { refused, .. } => refused.why.number(),
             Refusal::ReadFault => 96,
-            Refusal::Table(why) => u32::from(why.number()),
+            Refusal::Table(why) => why.number(),
             Refusal::TooMuchInput => 98,
             Refusal::NotUtf8 => 98,
             Refusal::OutOfMemory => 100,
@@ -81,7 +81,9 @@ impl Refusal {
             Refusal::Listing(ListRefusal::BadField { index }) => line
                 .text(" ")
                 .number(*index as u64),
-            Refusal::Table(TableRefusal::BadRange { rule }) => line.text(" ").number(*rule as u64),
+            Refusal::Table(TableRefusal::BadRange { rule, .. }) => line
+                .text(" ")
+                .number(*rule as u64),
             Refusal::Program { refused, .. } => place_of(line, refused.why, refused.place),
             Refusal::Unset { refused, .. } => place_of(line, refused.why, refused.place),
             _ => line,

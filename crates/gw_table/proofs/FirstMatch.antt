@@ -10,7 +10,7 @@ use Rattle.gw_machine.specs.Answers.{answer_of, steps_of}
 use Rattle.gw_table.specs.declared.table.Action.{Action}
 use Rattle.gw_table.specs.declared.table.Action.TheVariants.{Pass, Block}
 use Rattle.gw_table.specs.declared.table.Rule.{Rule}
-use Rattle.gw_table.specs.Table.{Meaning, passes, lies_in, matches, action_for, table_passes}
+use Rattle.gw_table.specs.Table.{Meaning, is_pass, lies_in, matches, action_for, table_passes}
 use Rattle.gw_table.specs.Emission.{answer_for, return_of, groups_of, group_code, emission}
 use Rattle.gw_table.proofs.Groups.{all_of-groups_of, groups_alike}
 use Rattle.gw_table.proofs.Parts.{Decides, Fields, all_hold, first_answer, groups_decide}
@@ -73,7 +73,7 @@ module _ (octets : List ℕ) (port : ℕ) where
       sym ((one_answer answer returns.0).0 returns.1).0
 
   -- the answer 0 of an action is that of block
-  blocks : (action : Action) → (answer_for action ≡ 0) ↔ (passes action ≡ false)
+  blocks : (action : Action) → (answer_for action ≡ 0) ↔ (is_pass action ≡ false)
   blocks Pass = (λ e. absurd (omega arith), λ e. absurd (cc))
   blocks Block = (λ e. refl, λ e. refl)
 

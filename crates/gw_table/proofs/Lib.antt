@@ -12,3 +12,4 @@ pub mod Codes
 pub mod Trees
 pub mod TreesFit
 mod TreesExamples
+pub mod NeverDecides

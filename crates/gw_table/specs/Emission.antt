@@ -8,7 +8,7 @@ use Rattle.gw_table.specs.declared.table.Action.{Action}
 use Rattle.gw_table.specs.declared.table.Action.TheVariants.{Pass, Block}
 use Rattle.gw_table.specs.declared.table.Span.{Span}
 use Rattle.gw_table.specs.declared.table.Rule.{Rule}
-use Rattle.gw_table.specs.Table.{Meaning}
+use Rattle.gw_table.specs.Table.{Meaning, greatest_group, greatest_octet}
 
 -- any answer but 0 passes the frame
 abbrev pub answer_for : Action → ℕ
@@ -35,7 +35,7 @@ abbrev pub tests : Insn → Span → ℕ → List Insn
 tests load span leave = load ∷ JumpAtLeastConstant 0 (leave + 1) span.low ∷ JumpGreaterConstant leave 0 span.high ∷ []
 
 abbrev pub tests_unless_whole : Insn → Span → ℕ → List Insn
-tests_unless_whole load span leave = if is_whole 255 span then [] else tests load span leave
+tests_unless_whole load span leave = if is_whole greatest_octet span then [] else tests load span leave
 
 -- a rule behind its group's head, from its last part to its first: each part leaves over what follows it
 abbrev pub from_part : Rule → List Insn
@@ -77,7 +77,7 @@ head (rule ∷ rules) =
 -- a group has a head unless its span is that of every parameter group
 abbrev pub group_code : List Rule → List Insn
 group_code [] = []
-group_code (rule ∷ rules) = (if is_whole 262143 rule.pgn then [] else head (rule ∷ rules)) ++ body (rule ∷ rules)
+group_code (rule ∷ rules) = (if is_whole greatest_group rule.pgn then [] else head (rule ∷ rules)) ++ body (rule ∷ rules)
 
 abbrev pub emission : Meaning → List Insn
 emission table = prologue table.other ++ (flat_map group_code (groups_of table.rules) ++ return_of table.otherwise ∷ [])

@@ -10,7 +10,7 @@ ghost use Rattle.gw_machine.specs.Answers.{answer_of};
 ghost use Rattle.gw_table.specs.Table.{table_passes};
 ghost use Rattle.gw_table.specs.Emission.{return_of, prologue, is_whole, tests, tests_unless_whole, from_part, destination_part, rule_code, body, head, group_code, emission};
 
-use crate::table::{Action, Rule, Span, Table};
+use crate::table::{Action, GREATEST_GROUP, GREATEST_OCTET, Rule, Span, Table};
 use gw_insn::{Insn, Raw, encode};
 use gw_machine::one_answer;
 use gw_verify::{Cause, Program};
@@ -27,12 +27,6 @@ const DESTINATION: u32 = 2;
 
 /// The offset at which a load gives the number of the port at which the frame was taken.
 const INTERFACE: u32 = 0xffff_f008;
-
-/// The greatest parameter group number.
-const LAST_GROUP: u32 = 0x3_ffff;
-
-/// The greatest address, and the greatest port.
-const LAST_ADDRESS: u32 = 0xff;
 
 /// Compiles a table to a program that passes what the table passes, at every taking port: it answers 1 for a
 /// frame that passes and 0 for one that is blocked. It is refused for want of memory alone.
@@ -111,7 +105,7 @@ fn push_group(code: &mut Vec<Raw>, group: &[Rule]) -> Result<(), AllocError>
     requires few { length group.now ≤ 256 }
     ensures { OnOk result (code.new.items ≡ code.old.items ++ map raw_of (group_code group.now)) }
 {
-    if !group[0].pgn.is_whole(LAST_GROUP) {
+    if !group[0].pgn.is_whole(GREATEST_GROUP) {
         push_head(code, group)?;
     }
     for rule in group {
@@ -181,7 +175,7 @@ fn push_tests_unless_whole(
     requires { leave < 255 }
     ensures { OnOk result (code.new.items ≡ code.old.items ++ map raw_of (tests_unless_whole load span leave)) }
 {
-    if span.is_whole(LAST_ADDRESS) {
+    if span.is_whole(GREATEST_OCTET) {
         return Ok(());
     }
     push_tests(code, load, span, leave)
@@ -224,7 +218,7 @@ impl Span {
         ensures len { (load : Insn) (leave : ℕ) → result ≡ length (tests_unless_whole load self leave) }
         ensures few { result ≤ 3 }
     {
-        if self.is_whole(LAST_ADDRESS) { 0 } else { 3 }
+        if self.is_whole(GREATEST_OCTET) { 0 } else { 3 }
     }
 }
 

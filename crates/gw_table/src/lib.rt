@@ -2,13 +2,18 @@
 #![tactic(auto)]
 
 mod compiler;
+mod dead;
+mod explanation;
+mod nearest;
 mod reading;
+mod refusal;
 mod table;
 mod verdict;
 
 pub use compiler::compile;
-pub use reading::TableRefusal;
-pub use table::{Action, Rule, Span, Table};
+pub use dead::WhyDead;
+pub use refusal::{ActionFault, Field, Place, RangeFault, TableRefusal};
+pub use table::{Action, Part, Rule, Span, Table};
 
 #[cfg(test)]
 mod compile_tests;

@@ -1,59 +1,26 @@
 //! Reading a table from TOML text.
 
-ghost use Rattle.std.specs.Prelude.{◌≡◌, ◌≢◌, Ok, Err, map, option_map, IfOk, IfErr, bytes_eq};
-ghost use Rattle.std.specs.List.{list_any, filter_map};
+ghost use Rattle.std.specs.Prelude.{◌≡◌, map, option_map, IfOk, IfErr, bytes_eq, string_bytes};
+ghost use Rattle.std.specs.List.{list_all, list_any, filter_map};
 ghost use Rattle.toml.specs.Data.{get_member};
 ghost use Rattle.toml.specs.View.{view, table_view};
-ghost use Rattle.gw_table.specs.declared.reading.TableRefusal.{TableRefusal as Refusal};
-ghost use Rattle.gw_table.specs.TableText.{refusal_number, has_only, document_keys, rule_keys, array_values, written_rules, has_rule_keys, action_in, action_or_block, rule_action, number_in, span_between, span_in, span_at, rule_in, keys_known, have_actions, bad_rule, table_in, IsTableText, IsTableRefusal};
+ghost use Rattle.gw_table.specs.TableText.{first_of, first_but, document_keys, rule_keys, unknown_in_rule, is_table, tables_in, written_rules, action_in, action_or_block, rule_action, value_fault, action_fault, written_fault, number_in, span_between, span_in, span_at, named_span, ranges_in, range_fault, rule_in, unknown_key, bad_action, bad_range, IsDocument, IsDocumentRefusal, IsTableText, IsTableRefusal, IsKeyRefusal};
 
-use crate::table::{Action, Rule, Span, Table};
+use crate::refusal::{ActionFault, Field, Place, RangeFault, TableRefusal};
+use crate::table::{Action, Part, Rule, Span, Table};
 use std::alloc::{AllocError, Global};
 use toml::Value;
 
 /// The most rules of a table.
 const MOST_RULES: usize = 256;
 
-/// The greatest parameter group number, of 18 bits (SAE J1939-21).
-const MOST_PGN: u32 = 262143;
-
-/// The greatest address and the greatest port.
-const MOST_OCTET: u32 = 255;
-
-/// Why a text is no table. Of several causes the one with the least number is given: over the whole text the keys come
-/// before the actions, and these before the ranges.
-#[derive(Clone, Copy, PartialEq, Eq, Debug)]
-pub enum TableRefusal {
-    /// 50: the text is no TOML document.
-    BadToml,
-    /// 51: a key that is none of `default`, `other` and `rule`, or in a rule none of `action`, `pgn`, `source`,
-    /// `destination` and `from`; also a `rule` that is not an array of tables.
-    UnknownKey,
-    /// 52: an action that is neither `"pass"` nor `"block"`, or a rule without one.
-    BadAction,
-    /// 53: a range that is neither a number of its field nor an array of two of them in ascending order, and the
-    /// least rule that has one, counted from 0.
-    BadRange { rule: usize },
-    /// 54: more than 256 rules.
-    TooManyRules,
-    /// 55: want of memory, which may stand in place of any answer.
-    OutOfMemory,
-}
-
-impl TableRefusal {
-    /// The number by which the refusal is known outside.
-    pub fn number(self) -> u8
-        ensures { result ≡ refusal_number self }
-    {
-        match self {
-            TableRefusal::BadToml => 50,
-            TableRefusal::UnknownKey => 51,
-            TableRefusal::BadAction => 52,
-            TableRefusal::BadRange { .. } => 53,
-            TableRefusal::TooManyRules => 54,
-            TableRefusal::OutOfMemory => 55,
-        }
-    }
+/// A rule's four ranges.
+#[derive(Clone, Copy)]
+struct Ranges {
+    pgn: Span,
+    source: Span,
+    destination: Span,
+    from: Span,
 }
 
 impl Table {
@@ -69,45 +36,49 @@ impl Table {
         match toml::table_from_str(alloc, text) {
             Ok(document) => from_document(alloc, &document),
             Err(error) if error.is_memory() => Err(TableRefusal::OutOfMemory),
-            Err(_) => Err(TableRefusal::BadToml),
+            Err(error) => Err(TableRefusal::BadToml(error)),
         }
     }
 }
 
 /// The causes in their order over the whole document.
 fn from_document(alloc: Global, document: &toml::Table) -> Result<Table, TableRefusal>
-    ensures table { IfOk result (λ table. table_in (table_view document.now) ≡ Ok table) }
-    ensures refused { IfErr result (λ refusal. refusal ≢ Refusal.OutOfMemory
-        → table_in (table_view document.now) ≡ Err refusal) }
+    ensures table { IfOk result (IsDocument (table_view document.now)) }
+    ensures refused { IfErr result (IsDocumentRefusal (table_view document.now)) }
 {
     let Some(written) = written_rules(document) else {
-        return Err(TableRefusal::UnknownKey);
+        return Err(TableRefusal::NoRuleTables);
     };
-    if !keys_known(document, written) {
-        return Err(TableRefusal::UnknownKey);
+    if let Some((place, key)) = unknown_key(document, written) {
+        return Err(tell_key(place, key));
     }
-    let Some(default) = action_or_block(document, "default") else {
-        return Err(TableRefusal::BadAction);
-    };
-    let Some(other) = action_or_block(document, "other") else {
-        return Err(TableRefusal::BadAction);
-    };
-    if !have_actions(written) {
-        return Err(TableRefusal::BadAction);
+    if let Some((of, why)) = bad_action(document, written) {
+        return Err(TableRefusal::BadAction { of, why });
     }
-    if let Some(rule) = bad_rule(written) {
-        return Err(TableRefusal::BadRange { rule });
+    if let Some((rule, (field, why))) = bad_range(written) {
+        return Err(TableRefusal::BadRange { rule, field, why });
     }
-    if written.len() > MOST_RULES {
-        return Err(TableRefusal::TooManyRules);
+    let rules = written.len();
+    if rules > MOST_RULES {
+        return Err(TableRefusal::TooManyRules { rules });
     }
     match read_rules(alloc, written) {
         Ok(rules) => Ok(Table {
-            default,
-            other,
+            default: action_or_block(document, "default").unwrap_or(Action::Block),
+            other: action_or_block(document, "other").unwrap_or(Action::Block),
             rules,
         }),
         Err(AllocError) => Err(TableRefusal::OutOfMemory),
+    }
+}
+
+/// The refusal of a key that is not known.
+fn tell_key(place: Place, key: &String) -> TableRefusal
+    ensures { IsKeyRefusal place (string_bytes key.now) result }
+{
+    match key.clone() {
+        Ok(key) => TableRefusal::UnknownKey { place, key },
+        Err(AllocError) => TableRefusal::OutOfMemory,
     }
 }
 
@@ -118,36 +89,66 @@ fn member<'a>(document: &'a toml::Table, key: &str) -> Option<&'a Value>
     document.get(key)
 }
 
-/// The rules as they are written: none where there is no `rule`, and `None` where it is no array.
+/// The rules as they are written: none where there is no `rule`, and `None` where it is no array of tables.
 fn written_rules(document: &toml::Table) -> Option<&[Value]>
     ensures { option_map (λ rules. map view rules.now) result
         ≡ written_rules (table_view document.now) }
 {
     match member(document, "rule") {
-        Some(rules) => array_values(rules),
+        Some(rules) => tables_in(rules),
         None => Some(&[]),
     }
 }
 
-fn array_values(value: &Value) -> Option<&[Value]>
-    ensures { option_map (λ values. map view values.now) result ≡ array_values (view value.now) }
+fn tables_in(value: &Value) -> Option<&[Value]>
+    ensures { option_map (λ values. map view values.now) result ≡ tables_in (view value.now) }
 {
     match value {
-        Value::Array(values) => Some(values.as_slice()),
+        Value::Array(values) => {
+            let tables = values.as_slice();
+            if are_tables(tables) {
+                Some(tables)
+            } else {
+                None
+            }
+        }
         _ => None,
     }
 }
 
-fn keys_known(document: &toml::Table, rules: &[Value]) -> bool
-    ensures { result ≡ keys_known (table_view document.now) (map view rules.now) }
+fn are_tables(values: &[Value]) -> bool
+    ensures { result ≡ list_all is_table (map view values.now) }
 {
-    has_document_keys(document) && rules.iter().all(has_rule_keys)
+    values.iter().all(Value::is_table)
 }
 
-fn has_document_keys(document: &toml::Table) -> bool
-    ensures { result ≡ has_only document_keys (table_view document.now) }
+/// The first key that is not known, and where it stands.
+fn unknown_key<'a>(document: &'a toml::Table, rules: &'a [Value]) -> Option<(Place, &'a String)>
+    ensures { option_map (λ found. (found.0, string_bytes found.1.now)) result
+        ≡ unknown_key (table_view document.now) (map view rules.now) }
 {
-    document.keys().all(|key| is_document_key(key.as_str()))
+    if let Some(key) = unknown_at_top(document) {
+        return Some((Place::Top, key));
+    }
+    let (rule, key) = unknown_in_rules(rules)?;
+    Some((Place::Rule(rule), key))
+}
+
+fn unknown_in_rules(rules: &[Value]) -> Option<(usize, &String)>
+    ensures { option_map (λ found. (found.0, string_bytes found.1.now)) result
+        ≡ first_of unknown_in_rule (map view rules.now) }
+{
+    let rule = rules
+        .iter()
+        .position(|rule| unknown_in_rule(rule).is_some())?;
+    let key = unknown_in_rule(rules.get(rule)?)?;
+    Some((rule, key))
+}
+
+fn unknown_at_top(document: &toml::Table) -> Option<&String>
+    ensures { option_map (λ key. string_bytes key.now) result ≡ first_but document_keys (table_view document.now) }
+{
+    document.keys().find(|key| !is_document_key(key.as_str()))
 }
 
 fn is_document_key(key: &str) -> bool
@@ -156,12 +157,12 @@ fn is_document_key(key: &str) -> bool
     matches!(key, "default" | "other" | "rule")
 }
 
-fn has_rule_keys(rule: &Value) -> bool
-    ensures { result ≡ has_rule_keys (view rule.now) }
+fn unknown_in_rule(rule: &Value) -> Option<&String>
+    ensures { option_map (λ key. string_bytes key.now) result ≡ unknown_in_rule (view rule.now) }
 {
     match rule {
-        Value::Table(members) => members.keys().all(|key| is_rule_key(key.as_str())),
-        _ => false,
+        Value::Table(members) => members.keys().find(|key| !is_rule_key(key.as_str())),
+        _ => None,
     }
 }
 
@@ -198,17 +199,67 @@ fn rule_action(rule: &Value) -> Option<Action>
     action_in(rule.get("action")?)
 }
 
-fn have_actions(rules: &[Value]) -> bool
-    ensures { result ≡ have_actions (map view rules.now) }
+/// What is wrong with the first action that is wrong.
+fn bad_action(document: &toml::Table, rules: &[Value]) -> Option<(Part, ActionFault)>
+    ensures { result ≡ bad_action (table_view document.now) (map view rules.now) }
 {
-    rules.iter().all(|rule| rule_action(rule).is_some())
+    if let Some(why) = written_fault(document, "default") {
+        return Some((Part::Default, why));
+    }
+    if let Some(why) = written_fault(document, "other") {
+        return Some((Part::Other, why));
+    }
+    let (rule, why) = bad_rule_action(rules)?;
+    Some((Part::Rule(rule), why))
 }
 
-/// The least number, from 0, of a value that is no rule.
-fn bad_rule(rules: &[Value]) -> Option<usize>
-    ensures { result ≡ bad_rule (map view rules.now) }
+fn bad_rule_action(rules: &[Value]) -> Option<(usize, ActionFault)>
+    ensures { result ≡ first_of action_fault (map view rules.now) }
 {
-    rules.iter().position(|rule| rule_in(rule).is_none())
+    let rule = rules.iter().position(|rule| action_fault(rule).is_some())?;
+    let why = action_fault(rules.get(rule)?)?;
+    Some((rule, why))
+}
+
+/// What is wrong with an action that may be absent.
+fn written_fault(document: &toml::Table, key: &str) -> Option<ActionFault>
+    ensures { result ≡ written_fault key.now (table_view document.now) }
+{
+    value_fault(member(document, key)?)
+}
+
+fn value_fault(value: &Value) -> Option<ActionFault>
+    ensures { result ≡ value_fault (view value.now) }
+{
+    match action_in(value) {
+        Some(_) => None,
+        None => Some(ActionFault::NoAction),
+    }
+}
+
+/// What is wrong with a rule's action.
+fn action_fault(rule: &Value) -> Option<ActionFault>
+    ensures { result ≡ action_fault (view rule.now) }
+{
+    match rule.get("action") {
+        Some(value) => value_fault(value),
+        None => Some(ActionFault::Absent),
+    }
+}
+
+/// The rule of the first range that is wrong, with its field and what is wrong.
+fn bad_range(rules: &[Value]) -> Option<(usize, (Field, RangeFault))>
+    ensures { result ≡ bad_range (map view rules.now) }
+{
+    let rule = rules.iter().position(|rule| range_fault(rule).is_some())?;
+    let fault = range_fault(rules.get(rule)?)?;
+    Some((rule, fault))
+}
+
+fn range_fault(rule: &Value) -> Option<(Field, RangeFault)>
+    ensures { result ≡ range_fault (view rule.now) }
+{
+    ranges_in(rule).err()
 }
 
 /// The rules that the values are, without those that are none. Their room is made beforehand: `collect` would ask again, and
@@ -225,50 +276,88 @@ fn read_rules(alloc: Global, rules: &[Value]) -> Result<Vec<Rule>, AllocError>
 fn rule_in(rule: &Value) -> Option<Rule>
     ensures { result ≡ rule_in (view rule.now) }
 {
+    let action = rule_action(rule)?;
+    let ranges = ranges_in(rule).ok()?;
     Some(Rule {
-        action: rule_action(rule)?,
-        pgn: span_at(rule, "pgn", MOST_PGN)?,
-        source: span_at(rule, "source", MOST_OCTET)?,
-        destination: span_at(rule, "destination", MOST_OCTET)?,
-        from: span_at(rule, "from", MOST_OCTET)?,
+        action,
+        pgn: ranges.pgn,
+        source: ranges.source,
+        destination: ranges.destination,
+        from: ranges.from,
     })
 }
 
-/// The range at a key, from 0 to `most` where it is absent.
-fn span_at(rule: &Value, key: &str, most: u32) -> Option<Span>
-    ensures { result ≡ span_at key.now most (view rule.now) }
+/// A rule's four ranges, or the first that is none.
+fn ranges_in(rule: &Value) -> Result<Ranges, (Field, RangeFault)>
+    ensures { result ≡ ranges_in (view rule.now) }
 {
-    match rule.get(key) {
-        Some(value) => span_in(value, most),
-        None => Some(Span { low: 0, high: most }),
+    Ok(Ranges {
+        pgn: named_span(rule, Field::Pgn)?,
+        source: named_span(rule, Field::Source)?,
+        destination: named_span(rule, Field::Destination)?,
+        from: named_span(rule, Field::From)?,
+    })
+}
+
+fn named_span(rule: &Value, field: Field) -> Result<Span, (Field, RangeFault)>
+    ensures { result ≡ named_span field (view rule.now) }
+{
+    match span_at(rule, field) {
+        Ok(span) => Ok(span),
+        Err(why) => Err((field, why)),
+    }
+}
+
+/// A field's range, which is the whole field where it is absent.
+fn span_at(rule: &Value, field: Field) -> Result<Span, RangeFault>
+    ensures { result ≡ span_at field (view rule.now) }
+{
+    match rule.get(field.key()) {
+        Some(value) => span_in(value, field.greatest()),
+        None => Ok(Span {
+            low: 0,
+            high: field.greatest(),
+        }),
     }
 }
 
 /// A number n, which is the range from n to n, or an array of the two ends.
-fn span_in(value: &Value, most: u32) -> Option<Span>
+fn span_in(value: &Value, most: u32) -> Result<Span, RangeFault>
     ensures { result ≡ span_in most (view value.now) }
 {
     match value {
         Value::Array(ends) => match ends.as_slice() {
             [low, high] => span_between(number_in(low, most)?, number_in(high, most)?),
-            _ => None,
+            _ => Err(RangeFault::NoRange),
         },
-        _ => number_in(value, most).map(|number| Span {
-            low: number,
-            high: number,
-        }),
+        _ => {
+            let number = number_in(value, most)?;
+            Ok(Span {
+                low: number,
+                high: number,
+            })
+        }
     }
 }
 
-fn span_between(low: u32, high: u32) -> Option<Span>
+fn span_between(low: u32, high: u32) -> Result<Span, RangeFault>
     ensures { result ≡ span_between low high }
 {
-    (low <= high).then_some(Span { low, high })
+    if low <= high {
+        Ok(Span { low, high })
+    } else {
+        Err(RangeFault::Descending)
+    }
 }
 
-fn number_in(value: &Value, most: u32) -> Option<u32>
+fn number_in(value: &Value, most: u32) -> Result<u32, RangeFault>
     ensures { result ≡ number_in most (view value.now) }
 {
-    let number = u32::try_from(value.as_integer()?).ok()?;
-    (number <= most).then_some(number)
+    let Some(number) = value.as_integer() else {
+        return Err(RangeFault::NoRange);
+    };
+    match u32::try_from(number) {
+        Ok(number) if number <= most => Ok(number),
+        _ => Err(RangeFault::OutOfField),
+    }
 }

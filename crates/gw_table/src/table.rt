@@ -1,6 +1,15 @@
 //! Tables of pass and block rules.
 
+ghost use Rattle.std.specs.Prelude.{◌≡◌};
+ghost use Rattle.gw_table.specs.Table.{IsWellFormed};
+
 use std::marker::Model;
+
+/// The greatest parameter group number, of 18 bits (SAE J1939-21).
+pub(crate) const GREATEST_GROUP: u32 = 262143;
+
+/// The greatest address. A range of ports is one of octets too.
+pub(crate) const GREATEST_OCTET: u32 = 255;
 
 /// What becomes of a frame.
 #[derive(Clone, Copy, PartialEq, Eq, Debug)]
@@ -30,6 +39,17 @@ pub struct Rule {
     pub from: Span,
 }
 
+/// A part of a table that has an action.
+#[derive(Clone, Copy, PartialEq, Eq, Debug)]
+pub enum Part {
+    /// The rule of this number, counted from 0.
+    Rule(usize),
+    /// What extended data frames get of which no rule holds.
+    Default,
+    /// What every other frame gets.
+    Other,
+}
+
 /// A table of at most 256 rules, of which the first that holds of a frame decides.
 #[derive(Drop)]
 pub struct Table {
@@ -39,7 +59,7 @@ pub struct Table {
 }
 
 impl Model for Table {
-    ghost use Rattle.gw_table.specs.Table.{Meaning, IsTable};
+    ghost use Rattle.gw_table.specs.Table.{Meaning, IsWellFormed};
     ghost use Rattle.gw_table.specs.declared.table.Action.{Action};
     ghost use Rattle.gw_table.specs.declared.table.Rule.{Rule};
 
@@ -47,5 +67,29 @@ impl Model for Table {
 
     ghost view = { λ t. record { otherwise = t.default; other = t.other; rules = t.rules.items } };
 
-    ghost invariant = { λ t. IsTable (record { otherwise = t.default; other = t.other; rules = t.rules.items }) };
+    ghost invariant = { λ t. IsWellFormed (record { otherwise = t.default; other = t.other; rules = t.rules.items }) };
+}
+
+impl Table {
+    /// What becomes of an extended data frame of which no rule holds.
+    pub fn default(&self) -> Action
+        ensures { result ≡ self.now.otherwise }
+    {
+        self.default
+    }
+
+    /// What becomes of every frame that is no extended data frame.
+    pub fn other(&self) -> Action
+        ensures { result ≡ self.now.other }
+    {
+        self.other
+    }
+
+    /// The rules, in their order: at most 256.
+    pub fn rules(&self) -> &[Rule]
+        ensures rules { result.now ≡ self.now.rules }
+        ensures table { IsWellFormed self.now }
+    {
+        self.rules.as_slice()
+    }
 }

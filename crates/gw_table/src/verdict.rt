@@ -1,39 +1,33 @@
-//! What a table passes.
+//! What a table passes, and what decides it.
 
-ghost use Rattle.std.specs.Prelude.{◌≡◌, ◌&&◌, find, option_copied};
-ghost use Rattle.gw_table.specs.Table.{lies_in, action_for, table_passes, IsTable};
+ghost use Rattle.std.specs.Prelude.{◌≡◌, ◌&&◌, Some, find, position, option_copied};
+ghost use Rattle.gw_table.specs.Table.{lies_in, action_for, table_passes, action_of, Decides};
 
-use crate::table::{Action, Rule, Span, Table};
+use crate::table::{Action, Part, Rule, Span, Table};
 use gw_frame::Frame;
 
 impl Table {
-    /// What becomes of an extended data frame of which no rule holds.
-    pub fn default(&self) -> Action
-        ensures { result ≡ self.now.otherwise }
-    {
-        self.default
-    }
-
-    /// What becomes of every frame that is no extended data frame.
-    pub fn other(&self) -> Action
-        ensures { result ≡ self.now.other }
-    {
-        self.other
-    }
-
-    /// The rules, in their order: at most 256.
-    pub fn rules(&self) -> &[Rule]
-        ensures rules { result.now ≡ self.now.rules }
-        ensures table { IsTable self.now }
-    {
-        self.rules.as_slice()
-    }
-
     /// Whether the table passes a frame that was taken at the port `from`.
     pub fn verdict(&self, frame: &Frame, from: u8) -> bool
         ensures { result ≡ table_passes self.now frame.now from }
     {
         matches!(self.action_for(frame, from), Action::Pass)
+    }
+
+    /// The part of the table that decides a frame which was taken at the port `from`: the first rule that holds, `default`
+    /// or `other`. Its action is the table's verdict.
+    pub fn decides(&self, frame: &Frame, from: u8) -> Part
+        ensures part { Decides self.now frame.now from result }
+        ensures action { action_of self.now result ≡ Some (action_for self.now frame.now from) }
+    {
+        let id = frame.id();
+        let Some(destination) = id.destination() else {
+            return Part::Other;
+        };
+        match first_place(&self.rules, id.pgn(), id.source(), destination, from) {
+            Some(rule) => Part::Rule(rule),
+            None => Part::Default,
+        }
     }
 
     fn action_for(&self, frame: &Frame, from: u8) -> Action
@@ -51,17 +45,42 @@ impl Table {
     }
 }
 
-fn first_holding(rules: &[Rule], pgn: u32, source: u8, destination: u8, from: u8) -> Option<&Rule>
+pub(crate) fn first_holding(
+    rules: &[Rule],
+    pgn: u32,
+    source: u8,
+    destination: u8,
+    from: u8,
+) -> Option<&Rule>
     ensures { option_copied result
         ≡ find (λ rule. lies_in pgn rule.pgn && lies_in source rule.source
         && lies_in destination rule.destination && lies_in from rule.from) rules.now }
 {
-    rules.iter().find(|rule| {
-        rule.pgn.contains(pgn)
-            && rule.source.contains(u32::from(source))
-            && rule.destination.contains(u32::from(destination))
-            && rule.from.contains(u32::from(from))
-    })
+    rules
+        .iter()
+        .find(|rule| rule.holds(pgn, source, destination, from))
+}
+
+fn first_place(rules: &[Rule], pgn: u32, source: u8, destination: u8, from: u8) -> Option<usize>
+    ensures { result
+        ≡ position (λ rule. lies_in pgn rule.pgn && lies_in source rule.source
+        && lies_in destination rule.destination && lies_in from rule.from) rules.now }
+{
+    rules
+        .iter()
+        .position(|rule| rule.holds(pgn, source, destination, from))
+}
+
+impl Rule {
+    fn holds(&self, pgn: u32, source: u8, destination: u8, from: u8) -> bool
+        ensures { result ≡ (lies_in pgn self.now.pgn && lies_in source self.now.source
+            && lies_in destination self.now.destination && lies_in from self.now.from) }
+    {
+        self.pgn.contains(pgn)
+            && self.source.contains(u32::from(source))
+            && self.destination.contains(u32::from(destination))
+            && self.from.contains(u32::from(from))
+    }
 }
 
 impl Span {
