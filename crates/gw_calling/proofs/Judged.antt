@@ -37,7 +37,8 @@ verdicts_are listing text octets frame set by_program by_table one_answer read i
       listed = in_force.listed;
       answer = answer_of code octets 0;
       steps = steps_of code octets 0;
-      returns = (one_answer code octets 0 (answer_of code octets 0) (steps_of code octets 0) in_force.listed.accepted).1 (refl, refl);
+      returns =
+          (one_answer code octets 0 (answer_of code octets 0) (steps_of code octets 0) in_force.listed.accepted).1 (refl, refl);
       passes = at_program ∙ ap (λ known. passes (policy_at 1 set) known 0) read.1
           ∙ ap (λ policy. passes policy octets 0) (in_force.stands.policies 1)
           ∙ by_answer in_force.by_program octets in_force.listed.bare;
