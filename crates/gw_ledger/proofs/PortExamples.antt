@@ -15,8 +15,12 @@ unfolding ports_below
 words = (refl, refl)
 
 -- a frame that was allowed at ports 1 and 2 and placed at 1, and a local one
-counted : ledger_with (ledger_with (record { taken = 0; local = 0; allowed = 0; placed = 0; lost = 0 }) (record { number = 0; front = 1; local = false; allowed = 1 ∷ 2 ∷ []; placed = 1 ∷ [] }))
-    (record { number = 1; front = 1; local = true; allowed = []; placed = [] }) ≡ record { taken = 2; local = 1; allowed = 2; placed = 1; lost = 1 }
+counted : ledger_with
+    (ledger_with
+    (record { taken = 0; local = 0; allowed = 0; placed = 0; lost = 0 })
+    (record { number = 0; front = 1; local = false; allowed = 1 ∷ 2 ∷ []; placed = 1 ∷ [] }))
+    (record { number = 1; front = 1; local = true; allowed = []; placed = [] })
+    ≡ record { taken = 2; local = 1; allowed = 2; placed = 1; lost = 1 }
 counted = refl
 
 stays : (count_after (2 ^ 64 - 2) ≡ 2 ^ 64 - 1) × (count_after (2 ^ 64 - 1) ≡ 2 ^ 64 - 1)

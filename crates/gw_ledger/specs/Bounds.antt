@@ -1,7 +1,8 @@
 -- The limits of a gateway and their ranges.
 use Rattle.std.specs.Prelude.{ℕ, ◌≤◌}
 
--- ports, copies that may wait in a lane, batches that may be published, and frames that may be taken at a port
+-- The numbers that a value of `Limits` shows: ports, copies that may wait in a lane, batches that may be published, and frames
+-- that may be taken at a port. The name differs since a model's value is a type of its own.
 pub record Bounds : Type 0 where
   pub ports : ℕ
   pub lane : ℕ

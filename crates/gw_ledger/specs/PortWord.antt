@@ -1,6 +1,6 @@
 -- How a set of ports is kept: as a word of 16 bits, in which bit p is the port p.
-use Rattle.std.specs.Prelude.{◌≡◌, ℕ, zero, suc, ◌+◌, ◌*◌, ◌%◌, ◌<◌, ◌≤◌, ◌^◌, ◌==◌, if◌then◌else◌, List, [], ◌∷◌, sum_by}
-use Rattle.std.proofs.Common.{sym, ap, ◌∙◌, subst, ⊎_elim}
+use Rattle.std.specs.Prelude.{◌≡◌, ℕ, zero, suc, ◌+◌, ◌*◌, ◌%◌, ◌<◌, ◌^◌, ◌==◌, if◌then◌else◌, List, [], ◌∷◌, sum_by}
+use Rattle.std.proofs.Common.{inl, inr, sym, ap, ◌∙◌, subst}
 use Rattle.std.proofs.Math.Arith.{lt-one}
 use Rattle.std.proofs.Math.Nat.{add_comm, le_antisymm, le_of_suc-le-suc, mod-eq_of_lt, mod-one, one-mul, zero-add, zero-mul}
 use Rattle.std.proofs.Math.Numerals.{one-add}
@@ -30,11 +30,14 @@ inside_of ports = record { word = word_of ports }
 -- a bit and its port
 word_of_bit : (bit place : ℕ) → bit < 2 → word_of (if bit == 1 then place ∷ [] else []) ≡ bit * 2 ^ place
 word_of_bit bit place below =
-    ⊎_elim
-    (λ (low : bit < 1). subst (λ b. word_of (if b == 1 then place ∷ [] else []) ≡ b * 2 ^ place) (sym (lt-one low)) (sym (zero-mul (2 ^ place))))
-    (λ (high : 1 ≤ bit). subst (λ b. word_of (if b == 1 then place ∷ [] else []) ≡ b * 2 ^ place) (le_antisymm high (le_of_suc-le-suc below))
-    (zero-add (2 ^ place) ∙ sym (one-mul (2 ^ place))))
-    (cases_lt bit 1)
+    elim (cases_lt bit 1) [
+      | inl low ↦ is_bit 0 (sym (lt-one low)) (sym (zero-mul (2 ^ place)))
+      | inr high ↦ is_bit 1 (le_antisymm high (le_of_suc-le-suc below)) (zero-add (2 ^ place) ∙ sym (one-mul (2 ^ place)))
+    ]
+  where
+    is_bit : (b : ℕ) → b ≡ bit → word_of (if b == 1 then place ∷ [] else []) ≡ b * 2 ^ place
+        → word_of (if bit == 1 then place ∷ [] else []) ≡ bit * 2 ^ place
+    is_bit b is = subst (λ b. word_of (if b == 1 then place ∷ [] else []) ≡ b * 2 ^ place) is
 
 -- the ports of the low bits
 word_of_low : (word count : ℕ) → word_of (ports_below count (λ port. bit_at word port == 1)) ≡ word % 2 ^ count

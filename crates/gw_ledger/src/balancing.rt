@@ -18,8 +18,7 @@ pub fn balance(ins: &[InLedger], outs: &[OutLedger], left: u64) -> bool
     even && placed_in(ins) == sent_in(outs) + u128::from(left)
 }
 
-// Sums of at most 16 and at most 256 counts of 64 bits, which fit 128 bits.
-
+/// The copies that were placed: a sum of at most 16 counts of 64 bits, which fits 128 bits.
 fn placed_in(ins: &[InLedger]) -> u128
     requires { length ins.now ≤ 16 }
     ensures placed { result ≡ sum_by (λ ledger. ledger.placed) ins.now }
@@ -32,6 +31,7 @@ fn placed_in(ins: &[InLedger]) -> u128
     placed
 }
 
+/// The copies that were sent: a sum of at most 256 counts of 64 bits.
 fn sent_in(outs: &[OutLedger]) -> u128
     requires { length outs.now ≤ 16 }
     ensures sent { result ≡ sum_by (λ ledger. sum ledger.sent) outs.now }
@@ -44,6 +44,7 @@ fn sent_in(outs: &[OutLedger]) -> u128
     sent
 }
 
+/// The copies that were sent to one port.
 fn sent_by(ledger: &OutLedger) -> u128
     ensures sent { result ≡ sum ledger.now.sent }
     ensures bound { result ≤ 16 * 2 ^ 64 }

@@ -48,7 +48,8 @@ impl Model for Limits {
 
     ghost view = { λ l. record { ports = l.ports; lane = l.lane; versions = l.versions; frames = l.frames } };
 
-    ghost invariant = { λ l. IsWithinBounds (record { ports = l.ports; lane = l.lane; versions = l.versions; frames = l.frames }) };
+    ghost invariant = { λ l.
+        IsWithinBounds (record { ports = l.ports; lane = l.lane; versions = l.versions; frames = l.frames }) };
 
     ghost inverse = { λ b. record { ports = b.ports; lane = b.lane; versions = b.versions; frames = b.frames } };
 }
@@ -57,8 +58,10 @@ impl Limits {
     /// The limits of these numbers: 2 to 16 ports, 1 to 1024 copies that may wait in a lane, 1 to
     /// 65535 published batches of policies (versions), and at least one frame per port.
     pub fn new(ports: u32, lane: u32, versions: u32, frames: u32) -> Result<Limits, BadLimit>
-        ensures made { IfOk result (λ limits. limits ≡ record { ports = ports; lane = lane; versions = versions; frames = frames }) }
-        ensures within { IsOk result ↔ IsWithinBounds (record { ports = ports; lane = lane; versions = versions; frames = frames }) }
+        ensures made { IfOk result (λ limits.
+            limits ≡ record { ports = ports; lane = lane; versions = versions; frames = frames }) }
+        ensures within { IsOk result
+            ↔ IsWithinBounds (record { ports = ports; lane = lane; versions = versions; frames = frames }) }
     {
         let within = (2..=16).contains(&ports)
             && (1..=1024).contains(&lane)

@@ -19,4 +19,5 @@ pub returns-clause-greatest : goal.returns-clause-greatest
 returns-clause-greatest c = λ below. returns-clause-ports c ∙ with_greatest c.args.port c.args.self.now below
 
 pub returns-clause-members : goal.returns-clause-members
-returns-clause-members c = λ other. ap (has_port other) (returns-clause-ports c) ∙ has_port-with_port c.args.port other c.args.self.now
+returns-clause-members c = λ other.
+    ap (has_port other) (returns-clause-ports c) ∙ has_port-with_port c.args.port other c.args.self.now
