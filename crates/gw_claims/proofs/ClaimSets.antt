@@ -4,6 +4,7 @@ use Rattle.std.proofs.lemmas.Bool.{eqb-true, eq-eqb, and_parts, and_from, or_cas
 use Rattle.std.specs.List.{filter, list_any}
 use Rattle.gw_claims.specs.Claims.{Claim, is_held_by}
 
+-- the claim of an address by a NAME
 abbrev pub claim : ℕ → ℕ → Claim
 claim address name = record { address = address; name = name }
 
@@ -42,7 +43,8 @@ any_of_kept false test c rest = refl
 
 -- a filter keeps the claims that pass
 pub kept : (test : Claim → Bool) (address name : ℕ) (claims : List Claim)
-    → is_held_by address name claims ≡ true → test (claim address name) ≡ true → is_held_by address name (filter test claims) ≡ true
+    → is_held_by address name claims ≡ true → test (claim address name) ≡ true
+    → is_held_by address name (filter test claims) ≡ true
 kept test a n [] held passes = held
 kept test a n (c ∷ cs) held passes =
     any_of_kept (test c) (is_claim_of a n) c (filter test cs)
@@ -53,7 +55,8 @@ kept test a n (c ∷ cs) held passes =
 
 -- and no others
 pub keeps : (test : Claim → Bool) (address name : ℕ) (claims : List Claim)
-    → is_held_by address name (filter test claims) ≡ true → (is_held_by address name claims ≡ true) × (test (claim address name) ≡ true)
+    → is_held_by address name (filter test claims) ≡ true
+    → (is_held_by address name claims ≡ true) × (test (claim address name) ≡ true)
 keeps test a n [] held = absurd (false≢true held)
 keeps test a n (c ∷ cs) held =
     ⊎_elim

@@ -17,12 +17,14 @@ sent_to address = 0x98 ∷ 0xEF ∷ address ∷ 0x34 ∷ 8 ∷ 0 ∷ 0 ∷ 0 ∷
 first_claims : List (List ℕ)
 first_claims = claims 128 5 ∷ claims 128 7 ∷ claims 128 5 ∷ []
 
-contested : (claims_after (claims 128 5 ∷ []) ≡ held 128 5 ∷ []) × (claims_after (claims 128 7 ∷ claims 128 5 ∷ []) ≡ held 128 5 ∷ []) × (claims_after first_claims ≡ held 128 5 ∷ [])
+contested : (claims_after (claims 128 5 ∷ []) ≡ held 128 5 ∷ [])
+    × (claims_after (claims 128 7 ∷ claims 128 5 ∷ []) ≡ held 128 5 ∷ []) × (claims_after first_claims ≡ held 128 5 ∷ [])
 unfolding first_claims
 contested = (refl, refl, refl)
 
 -- a NAME that can claim no address gives its own up
-given_up : (claims_after (claims 254 5 ∷ first_claims) ≡ []) × (is_local first_claims (sent_to 128) ≡ true) × (is_local (claims 254 5 ∷ first_claims) (sent_to 128) ≡ false)
+given_up : (claims_after (claims 254 5 ∷ first_claims) ≡ []) × (is_local first_claims (sent_to 128) ≡ true)
+    × (is_local (claims 254 5 ∷ first_claims) (sent_to 128) ≡ false)
 unfolding first_claims
 given_up = (refl, refl, refl)
 
@@ -43,9 +45,11 @@ bounds : (claims_after (claims 253 5 ∷ []) ≡ held 253 5 ∷ []) × (claims_a
 bounds = (refl, refl)
 
 -- not sent to everyone, another group, a remote frame, a payload of 7 octets
-no_claims : (is_claim (0x98 ∷ 0xEE ∷ 0x80 ∷ 0x34 ∷ 8 ∷ []) ≡ false) × (is_claim (0x98 ∷ 0xEF ∷ 0xFF ∷ 0x34 ∷ 8 ∷ []) ≡ false) × (is_claim (0xD8 ∷ 0xEE ∷ 0xFF ∷ 0x34 ∷ 8 ∷ []) ≡ false) × (is_claim (0x98 ∷ 0xEE ∷ 0xFF ∷ 0x34 ∷ 7 ∷ []) ≡ false)
+no_claims : (is_claim (0x98 ∷ 0xEE ∷ 0x80 ∷ 0x34 ∷ 8 ∷ []) ≡ false) × (is_claim (0x98 ∷ 0xEF ∷ 0xFF ∷ 0x34 ∷ 8 ∷ []) ≡ false)
+    × (is_claim (0xD8 ∷ 0xEE ∷ 0xFF ∷ 0x34 ∷ 8 ∷ []) ≡ false) × (is_claim (0x98 ∷ 0xEE ∷ 0xFF ∷ 0x34 ∷ 7 ∷ []) ≡ false)
 no_claims = (refl, refl, refl, refl)
 
 -- every priority counts, and no other page
-priorities : (is_claim (0x80 ∷ 0xEE ∷ 0xFF ∷ 0x34 ∷ 8 ∷ []) ≡ true) × (is_claim (0x9C ∷ 0xEE ∷ 0xFF ∷ 0x34 ∷ 8 ∷ []) ≡ true) × (is_claim (0x99 ∷ 0xEE ∷ 0xFF ∷ 0x34 ∷ 8 ∷ []) ≡ false) × (is_claim (0x9A ∷ 0xEE ∷ 0xFF ∷ 0x34 ∷ 8 ∷ []) ≡ false)
+priorities : (is_claim (0x80 ∷ 0xEE ∷ 0xFF ∷ 0x34 ∷ 8 ∷ []) ≡ true) × (is_claim (0x9C ∷ 0xEE ∷ 0xFF ∷ 0x34 ∷ 8 ∷ []) ≡ true)
+    × (is_claim (0x99 ∷ 0xEE ∷ 0xFF ∷ 0x34 ∷ 8 ∷ []) ≡ false) × (is_claim (0x9A ∷ 0xEE ∷ 0xFF ∷ 0x34 ∷ 8 ∷ []) ≡ false)
 priorities = (refl, refl, refl, refl)

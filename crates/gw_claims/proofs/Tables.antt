@@ -14,15 +14,19 @@ nobody zero a = refl
 nobody (suc n) zero = refl
 nobody (suc n) (suc a) = nobody n a
 
-pub nobody_twice : (count one other name : ℕ) → holder_of (replicate count None) one ≡ Some name → holder_of (replicate count None) other ≡ Some name → one ≡ other
+-- in which no NAME has two addresses
+pub nobody_twice : (count one other name : ℕ) → holder_of (replicate count None) one ≡ Some name
+    → holder_of (replicate count None) other ≡ Some name → one ≡ other
 nobody_twice count one other name has also = let nothing = nobody count one in cc
 
+-- it is the table of no claims
 pub empty_table : IsTableOf (replicate 254 None) []
 empty_table = record { held = λ a n. ((λ has. let nothing = nobody 254 a in cc), (λ stands. absurd (false≢true stands))) }
 
 module _ (table : List (Option ℕ)) (claims : List Claim) (address : ℕ) (t : IsTableOf table claims) where
   -- a claim of the address is its holder's
-  holder_at : (c : Claim) → (c.address == address) ≡ true → is_held_by c.address c.name claims ≡ true → holder_of table address ≡ Some c.name
+  holder_at : (c : Claim) → (c.address == address) ≡ true → is_held_by c.address c.name claims ≡ true
+      → holder_of table address ≡ Some c.name
   holder_at c same stands =
       subst (λ a. holder_of table a ≡ Some c.name) (eqb-true c.address address same) ((t.held c.address c.name).1 stands)
 
@@ -31,7 +35,8 @@ module _ (table : List (Option ℕ)) (claims : List Claim) (address : ℕ) (t : 
       sym (false_from_ne_true (is_held address claims) (λ any.
       let by = finds (λ c. c.address == address) claims any in
       let some = holder_at by.0 by.1 by.2 in cc))
-  held_at (Some n) some = sym (found (λ c. c.address == address) address n claims ((t.held address n).0 some) (eq-eqb address address refl))
+  held_at (Some n) some =
+      sym (found (λ c. c.address == address) address n claims ((t.held address n).0 some) (eq-eqb address address refl))
 
   -- an address is held where the table has a NAME
   pub held_where_some : is_some (holder_of table address) ≡ is_held address claims
@@ -56,7 +61,8 @@ module _ (table : List (Option ℕ)) (claims : List Claim) (address : ℕ) (t : 
       absurd (omega arith)))))
       (λ (most : k ≤ m).
       let not_lower : nat_lt m k ≡ false = le-ltb m k most in
-      let any = found (λ c. (c.address == address) && nat_le c.name m) address k claims ((t.held address k).0 some) (and_from _ _ (eq-eqb address address refl) (le-leb k m most)) in
+      let any = found (λ c. (c.address == address) && nat_le c.name m) address k claims ((t.held address k).0 some)
+      (and_from _ _ (eq-eqb address address refl) (le-leb k m most)) in
       not_lower ∙ sym (not_from_true (is_defended address m claims) any))
       (cases_lt m k)
 
@@ -76,22 +82,26 @@ given_up old new claims m g t = record {
   );
 }
 
-module _ (table : List (Option ℕ)) (claims : List Claim) (address name : ℕ) (long : length table ≡ 254) (t : IsTableOf table claims) where
+module _ (table : List (Option ℕ)) (claims : List Claim) (address name : ℕ) (long : length table ≡ 254)
+    (t : IsTableOf table claims) where
   -- the table with the address set has the claim and those of other addresses
   taken_there : address ≤ 253 → IsTableOf (set table address (Some name)) (claim address name ∷ without_address address claims)
   taken_there fits =
       let inside : address < length table = omega arith in
-      let now : get_or (set table address (Some name)) address None ≡ Some name = get_or-set_same table address (Some name) None inside in
+      let now : get_or (set table address (Some name)) address None ≡ Some name =
+      get_or-set_same table address (Some name) None inside in
       record {
         held = λ a n. (
           (λ has. ⊎_elim
               (λ (same : a ≡ address).
-              let here : get_or (set table address (Some name)) address None ≡ Some n = subst (λ k. get_or (set table address (Some name)) k None ≡ Some n) same has in
+              let here : get_or (set table address (Some name)) address None ≡ Some n =
+              subst (λ k. get_or (set table address (Some name)) k None ≡ Some n) same has in
               let is : name ≡ n = cc in
               or_left _ _ (and_from _ _ (eq-eqb address a (sym same)) (eq-eqb name n is)))
               (λ (other : a ≡ address → ⊥).
               let before = (t.held a n).0 (sym (get_or-set_other table address a (Some name) None other) ∙ has) in
-              or_right _ _ (kept (λ c. not (c.address == address)) a n claims before (not_from_false (a == address) (ne_eqb a address other))))
+              or_right _ _ (kept (λ c. not (c.address == address)) a n claims before
+              (not_from_false (a == address) (ne_eqb a address other))))
               (cases_eq a address)),
           (λ stands. ⊎_elim
               (λ here.
@@ -108,7 +118,8 @@ module _ (table : List (Option ℕ)) (claims : List Claim) (address name : ℕ) 
       }
 
   taken_where : (free : Bool) → (free ≡ true → address ≤ 253)
-      → IsTableOf (if free then set table address (Some name) else table) (if free then claim address name ∷ without_address address claims else claims)
+      → IsTableOf (if free then set table address (Some name) else table)
+      (if free then claim address name ∷ without_address address claims else claims)
   taken_where true fits = taken_there (fits refl)
   taken_where false fits = t
 
@@ -117,18 +128,21 @@ module _ (table : List (Option ℕ)) (claims : List Claim) (address name : ℕ) 
   taken =
       let free = open_where_free table claims address t name in
       subst
-      (λ free. IsTableOf (table_taken table address name) (if free then claim address name ∷ without_address address claims else claims))
+      (λ free. IsTableOf (table_taken table address name)
+      (if free then claim address name ∷ without_address address claims else claims))
       free
       (taken_where (is_open_to table address name) (λ free. leb-true address 253 (and_parts _ _ free).0))
 
 -- where the table with an address cleared has a NAME, the table has it
-still_held : (table : List (Option ℕ)) (cleared address name : ℕ) → holder_of (set table cleared None) address ≡ Some name → holder_of table address ≡ Some name
+still_held : (table : List (Option ℕ)) (cleared address name : ℕ) → holder_of (set table cleared None) address ≡ Some name
+    → holder_of table address ≡ Some name
 still_held table cleared a n has =
     ⊎_elim
     (λ (inside : cleared < length table).
     ⊎_elim
     (λ (same : a ≡ cleared).
-    let nobody_there : holder_of (set table cleared None) a ≡ None = subst (λ k. holder_of (set table cleared None) k ≡ None) (sym same) (get_or-set_same table cleared None None inside) in
+    let nobody_there : holder_of (set table cleared None) a ≡ None =
+    subst (λ k. holder_of (set table cleared None) k ≡ None) (sym same) (get_or-set_same table cleared None None inside) in
     cc)
     (λ (other : a ≡ cleared → ⊥). sym (get_or-set_other table cleared a None None other) ∙ has)
     (cases_eq a cleared))
@@ -139,7 +153,8 @@ still_held table cleared a n has =
 pub table_cleared : (table : List (Option ℕ)) (cleared : ℕ) → IsTable table → IsTable (set table cleared None)
 table_cleared table cleared t = record {
   addresses = length-set table cleared None ∙ t.addresses;
-  one_each = λ one other name has also. t.one_each one other name (still_held table cleared one name has) (still_held table cleared other name also);
+  one_each = λ one other name has also. t.one_each one other name (still_held table cleared one name has)
+      (still_held table cleared other name also);
 }
 
 -- a frame with a destination is local where the destination is held. The parts of its identifier are variables here.
@@ -166,7 +181,8 @@ local_where table claims t true false ps a d above =
     ap is_some (above (omega arith))
 
 -- and a frame with none is not
-pub not_local : (extended rest : Bool) (address : ℕ) → (if extended then Some address else None) ≡ None → false ≡ (extended && rest)
+pub not_local : (extended rest : Bool) (address : ℕ) → (if extended then Some address else None) ≡ None
+    → false ≡ (extended && rest)
 not_local false rest a d = refl
 not_local true rest a d = cc
 
@@ -181,9 +197,11 @@ module _ (old between new : List (Option ℕ)) (claims : List Claim) where
   -- a record that counts is heard as the claim that it makes
   pub record_followed : (counts : Bool) (address name : ℕ) (heard : Heard)
       → Some heard ≡ (if counts then Some (record { address = address; name = name }) else None)
-      → GivesUp old between heard.name → new ≡ table_taken between heard.address heard.name → length between ≡ 254 → IsTableOf old claims
+      → GivesUp old between heard.name → new ≡ table_taken between heard.address heard.name → length between ≡ 254
+      → IsTableOf old claims
       → IsTableOf new (if counts then claims_taken address name (without_name name claims) else claims)
   record_followed true a n heard is gives takes long t =
       let claim : heard ≡ record { address = a; name = n } = cc in
-      subst (λ h. IsTableOf new (claims_taken h.address h.name (without_name h.name claims))) claim (claim_followed heard.address heard.name gives takes long t)
+      subst (λ h. IsTableOf new (claims_taken h.address h.name (without_name h.name claims))) claim
+      (claim_followed heard.address heard.name gives takes long t)
   record_followed false a n heard is gives takes long t = cc

@@ -74,7 +74,8 @@ claims_after (newest ∷ earlier) = claims_with newest (claims_after earlier)
 abbrev pub is_local_among : List Claim → List ℕ → Bool
 is_local_among claims octets =
     let word = word_of octets in
-    is_extended_data word && (is_pdu1 word && (nat_le (destination_address word) 253 && is_held (destination_address word) claims))
+    let destination = destination_address word in
+    is_extended_data word && (is_pdu1 word && (nat_le destination 253 && is_held destination claims))
 
 -- the frame is local on its segment after the records heard there
 abbrev pub is_local : List (List ℕ) → List ℕ → Bool
@@ -82,5 +83,7 @@ is_local heard = is_local_among (claims_after heard)
 
 -- a NAME holds at most one address, and an address is held by at most one NAME
 pub record AreApart (claims : List Claim) : Type 0 where
-  pub one_address : (one other name : ℕ) → IsTrue (is_held_by one name claims) → IsTrue (is_held_by other name claims) → one ≡ other
-  pub one_name : (address one other : ℕ) → IsTrue (is_held_by address one claims) → IsTrue (is_held_by address other claims) → one ≡ other
+  pub one_address : (one other name : ℕ) → IsTrue (is_held_by one name claims) → IsTrue (is_held_by other name claims)
+      → one ≡ other
+  pub one_name : (address one other : ℕ) → IsTrue (is_held_by address one claims) → IsTrue (is_held_by address other claims)
+      → one ≡ other

@@ -22,7 +22,8 @@ pub record IsTable (table : List (Option ℕ)) : Type 0 where
 
 -- the NAME holds nothing any more, and all other claims stay
 pub record GivesUp (old new : List (Option ℕ)) (name : ℕ) : Type 0 where
-  pub others : (address other : ℕ) → (holder_of new address ≡ Some other) ↔ ((holder_of old address ≡ Some other) × (other ≢ name))
+  pub others : (address other : ℕ)
+      → (holder_of new address ≡ Some other) ↔ ((holder_of old address ≡ Some other) × (other ≢ name))
 
 -- a NAME may take an address that nobody or a greater NAME holds
 abbrev pub is_open_to : List (Option ℕ) → ℕ → ℕ → Bool

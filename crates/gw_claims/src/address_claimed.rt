@@ -15,7 +15,8 @@ pub struct Claim {
 
 /// The claim that a frame makes: an Address Claimed to everyone with a payload of 8 octets.
 pub fn claim_of(frame: &Frame) -> Option<Claim>
-    ensures { result ≡ (if is_claim frame.now then Some (record { address = claimed_address frame.now; name = claimed_name frame.now }) else None) }
+    ensures { result ≡ (if is_claim frame.now
+        then Some (record { address = claimed_address frame.now; name = claimed_name frame.now }) else None) }
 {
     let id = frame.id();
     if !is_address_claimed(id) {
@@ -30,8 +31,9 @@ pub fn claim_of(frame: &Frame) -> Option<Claim>
     })
 }
 
-// The flags, the pages, PF 238 and PS 255 are fixed, and the priority and the source are free. Each
-// frame of a segment comes here, and the two tests compile to one comparison of a masked word.
+/// Whether the identifier is that of an Address Claimed to everyone: the flags, the pages, PF 238 and PS 255 are fixed, and the
+/// priority and the source are free. Each frame of a segment comes here, and the two tests compile to one comparison of a
+/// masked word.
 fn is_address_claimed(id: CanId) -> bool
     ensures { result ≡ is_address_claimed id }
 {

@@ -92,7 +92,7 @@ impl Claims {
         self.holder(address).is_some()
     }
 
-    // The NAME holds no address any more.
+    /// The NAME holds no address any more.
     fn give_up(&mut self, name: Name)
         ensures others { GivesUp self.old self.new name }
         ensures addresses { length self.new ≡ ADDRESSES }
@@ -102,7 +102,7 @@ impl Claims {
         }
     }
 
-    // The NAME, which holds no address, takes this one where it can be held and no lower NAME holds it.
+    /// The NAME, which holds no address, takes this one where it can be held and no lower NAME holds it.
     fn take(&mut self, address: u8, name: Name)
         requires { (other : ℕ) → holder_of self.old other ≢ Some name }
         ensures { self.new ≡ table_taken self.old address name }

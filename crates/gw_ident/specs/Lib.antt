@@ -1,2 +1,3 @@
+-- public meaning: the fields of identifiers and of NAMEs
 pub mod Identifier
 pub mod DeviceName

@@ -116,20 +116,21 @@ impl CanId {
         Some(if self.is_pdu1() { self.ps() } else { GLOBAL })
     }
 
-    // The 29 bits below the flags.
+    /// The 29 bits below the flags.
     fn identifier(self) -> u32
         ensures { result ≡ identifier self }
     {
         self.word % (1 << 29)
     }
 
-    // The extended data page and the data page, as one number of two bits.
+    /// The extended data page and the data page, as one number of two bits.
     fn page(self) -> u8
         ensures { result ≡ page self }
     {
         ((self.identifier() >> 24) % 4) as u8
     }
 
+    /// Whether PS is a destination: PF is below 240.
     fn is_pdu1(self) -> bool
         ensures { result ≡ is_pdu1 self }
     {

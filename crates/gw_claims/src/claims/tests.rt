@@ -2,14 +2,14 @@ use super::*;
 use gw_frame::FrameRefusal;
 use std::test::Fail;
 
-// An Address Claimed to everyone, by a NAME below 256.
+/// An Address Claimed to everyone, by a NAME below 256.
 fn claim(source: u8, name: u8) -> Result<Frame, FrameRefusal> {
     Frame::read(&[
         0x98, 0xEE, 0xFF, source, 8, 0, 0, 0, name, 0, 0, 0, 0, 0, 0, 0,
     ])
 }
 
-// A frame of proprietary A to an address.
+/// A frame of proprietary A to an address.
 fn sent_to(address: u8) -> Result<Frame, FrameRefusal> {
     Frame::read(&[0x98, 0xEF, address, 0x34, 0, 0, 0, 0])
 }

@@ -2,8 +2,8 @@ use super::*;
 
 type Row = (u32, u32, u8, u8, u8, u8, u8, bool, u8, u8);
 
-// The rows of docs/IDENTIFIERS.md: word, PGN, priority, EDP, DP, PF, PS, whether PDU1, destination
-// and source.
+/// The rows of docs/IDENTIFIERS.md: word, PGN, priority, EDP, DP, PF, PS, whether PDU1, destination
+/// and source.
 const ROWS: [Row; 18] = [
     (0x8C00000B, 0, 3, 0, 0, 0, 0, true, 0, 11),
     (0x8CF00203, 61442, 3, 0, 0, 240, 2, false, 255, 3),

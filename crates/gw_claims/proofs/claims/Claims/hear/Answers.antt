@@ -8,9 +8,11 @@ use Rattle.gw_claims.proofs.claims.Claims.hear.Goals.{After-take}
 pub take-requires : goal.take-requires
 take-requires c = λ other has. ((c.give_up.ensures.others.others other _).0 has).1 refl
 
-followed : (c : After-take) (claims : List Claim) → IsTableOf c.args.self.now claims → IsTableOf c.take.new.self (claims_with c.args.frame.now claims)
+followed : (c : After-take) (claims : List Claim) → IsTableOf c.args.self.now claims
+    → IsTableOf c.take.new.self (claims_with c.args.frame.now claims)
 followed c claims t =
-    record_followed c.args.self.now c.give_up.new.self c.take.new.self claims (is_claim c.args.frame.now) (claimed_address c.args.frame.now) (claimed_name c.args.frame.now)
+    record_followed c.args.self.now c.give_up.new.self c.take.new.self claims (is_claim c.args.frame.now)
+    (claimed_address c.args.frame.now) (claimed_name c.args.frame.now)
     c.in-Some.claim c.in-Some.ensures c.give_up.ensures.others c.take.ensures c.give_up.ensures.addresses t
 
 pub returns-in-Some-clause-heard : goal.returns-in-Some-clause-heard

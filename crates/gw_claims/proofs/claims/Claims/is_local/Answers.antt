@@ -8,7 +8,8 @@ use Rattle.gw_claims.proofs.Tables.{local_where}
 use Rattle.gw_claims.proofs.claims.Claims.is_local.Goals as goal
 use Rattle.gw_claims.proofs.claims.Claims.is_local.Goals.{After-is_some}
 
-local : (c : After-is_some) (claims : List Claim) → IsTableOf c.args.self.now claims → c.is_some.result ≡ is_local_among claims c.args.frame.now
+local : (c : After-is_some) (claims : List Claim) → IsTableOf c.args.self.now claims
+    → c.is_some.result ≡ is_local_among claims c.args.frame.now
 local c claims t =
     let word = word_of c.args.frame.now in
     let goes_to : destination word ≡ Some c.in-Some.address = ap destination (sym c.id.ensures) ∙ sym c.in-Some.ensures in
