@@ -1,11 +1,13 @@
 //! Instructions of classic BPF: the 49 forms, their four fields, and listings of them.
 #![tactic(auto)]
 
+mod bounds;
 mod code;
 mod insn;
 mod reading;
 mod writing;
 
+pub use bounds::{INTERFACE, MAX_INSNS, NEGATIVE_OFFSETS, SCRATCH_WORDS};
 pub use code::{decode, encode};
 pub use insn::{Insn, Raw};
 pub use reading::{ListRefusal, read_listing};
