@@ -20,7 +20,8 @@ longest = (refl, refl)
 payload_bounds : (refusal_of (record_with 9 8) ≡ Some (BadLength 9)) × (refusal_of (record_with 8 7) ≡ Some (PayloadCut 8 7))
 payload_bounds = (refl, refl)
 
-padded : (length (record_with 3 8) ≡ 16) × (refusal_of (record_with 3 8) ≡ None) × (payload_of (record_with 3 8) ≡ 255 ∷ 255 ∷ 255 ∷ [])
+padded : (length (record_with 3 8) ≡ 16) × (refusal_of (record_with 3 8) ≡ None)
+    × (payload_of (record_with 3 8) ≡ 255 ∷ 255 ∷ 255 ∷ [])
 padded = (refl, refl, refl)
 
 -- the first of several causes is told
@@ -28,5 +29,6 @@ first : (refusal_of (record_with 9 9) ≡ Some (TooLong 17)) × (refusal_of (rec
 first = (refl, refl)
 
 -- 15 octets with a payload of 7
-fifteen : (refusal_of (record_with 7 7) ≡ None) × (length (payload_of (record_with 7 7)) ≡ 7) × (word_of (record_with 7 7) ≡ 0x8CF00400)
+fifteen : (refusal_of (record_with 7 7) ≡ None) × (length (payload_of (record_with 7 7)) ≡ 7)
+    × (word_of (record_with 7 7) ≡ 0x8CF00400)
 fifteen = (refl, refl, refl)

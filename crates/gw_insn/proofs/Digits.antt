@@ -28,6 +28,7 @@ read_on_folds = record {
 digits_model : IsNumeralModel (All IsAsciiDigit) (read_on 0)
 digits_model = numerals_by_fold (All IsAsciiDigit) digits_test read_on read_on_folds
 
+-- the digits that are written spell the number
 pub decimal_digits-IsNumber : (most n : ℕ) → n ≤ most → most < 10 ^ 10 → IsNumber most (decimal_digits n) n
 unfolding read_on
 decimal_digits-IsNumber most n fits short = record {

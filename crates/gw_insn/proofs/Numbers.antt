@@ -33,11 +33,14 @@ numerals : IsNumeralModel (All IsAsciiDigit) decimal
 numerals = numerals_by_fold (All IsAsciiDigit) all_digits decimal_from by_steps
 
 -- ten digits or fewer fit
-pub decimal_small : (digits : List ℕ) (i : ℕ) → All IsAsciiDigit digits → length digits ≤ 10 → decimal (take i digits) < 10000000000
-decimal_small digits i ascii few = digits_value_short numerals (take i digits) 10 (All-take IsAsciiDigit i digits ascii) (omega (arith, length-take i digits))
+pub decimal_small : (digits : List ℕ) (i : ℕ) → All IsAsciiDigit digits → length digits ≤ 10
+    → decimal (take i digits) < 10000000000
+decimal_small digits i ascii few =
+    digits_value_short numerals (take i digits) 10 (All-take IsAsciiDigit i digits ascii) (omega (arith, length-take i digits))
 
 -- where the digits end is determined
-same_digits : (xs ys front back : List ℕ) → xs ++ front ≡ ys ++ back → All IsAsciiDigit xs → All IsAsciiDigit ys → (StartsWithDigit front → ⊥) → (StartsWithDigit back → ⊥) → (xs ≡ ys) × (front ≡ back)
+same_digits : (xs ys front back : List ℕ) → xs ++ front ≡ ys ++ back → All IsAsciiDigit xs → All IsAsciiDigit ys
+    → (StartsWithDigit front → ⊥) → (StartsWithDigit back → ⊥) → (xs ≡ ys) × (front ≡ back)
 same_digits [] [] front back e xs_are ys_are front_ends back_ends = (refl, e)
 same_digits [] (y ∷ ys) front back e xs_are ys_are front_ends back_ends =
     absurd (front_ends (subst StartsWithDigit (sym e) (All-head IsAsciiDigit y ys ys_are)))
@@ -45,23 +48,30 @@ same_digits (x ∷ xs) [] front back e xs_are ys_are front_ends back_ends =
     absurd (back_ends (subst StartsWithDigit e (All-head IsAsciiDigit x xs xs_are)))
 same_digits (x ∷ xs) (y ∷ ys) front back e xs_are ys_are front_ends back_ends =
     let tails : xs ++ front ≡ ys ++ back = cc in
-    let same : (xs ≡ ys) × (front ≡ back) = same_digits xs ys front back tails (All-tail IsAsciiDigit x xs xs_are) (All-tail IsAsciiDigit y ys ys_are) front_ends back_ends in
+    let same : (xs ≡ ys) × (front ≡ back) =
+    same_digits xs ys front back tails (All-tail IsAsciiDigit x xs xs_are)
+    (All-tail IsAsciiDigit y ys ys_are) front_ends back_ends in
     (cc, same.1)
 
 -- the number that the digits at the front must spell
-pub number_at : (text digits after : List ℕ) → text ≡ digits ++ after → All IsAsciiDigit digits → (StartsWithDigit after → ⊥) → (most n : ℕ) (rest : List ℕ) → HasNumber most text n rest → IsNumber most digits n
+pub number_at : (text digits after : List ℕ) → text ≡ digits ++ after → All IsAsciiDigit digits → (StartsWithDigit after → ⊥)
+    → (most n : ℕ) (rest : List ℕ) → HasNumber most text n rest → IsNumber most digits n
 number_at text digits after whole ascii ends most n rest h =
-    let same : (digits ≡ h.digits) × (after ≡ rest) = same_digits digits h.digits after rest (sym whole ∙ h.spelled) ascii h.number.ascii ends h.ends in
+    let same : (digits ≡ h.digits) × (after ≡ rest) =
+    same_digits digits h.digits after rest (sym whole ∙ h.spelled) ascii h.number.ascii ends h.ends in
     subst (λ ds. IsNumber most ds n) (sym same.0) h.number
 
 -- a text begins with one number, whatever the greatest
-pub number_alone : {least most m n : ℕ} {text other front back : List ℕ} → text ≡ other → HasNumber least text m front → HasNumber most other n back → (m ≡ n) × (front ≡ back)
+pub number_alone : {least most m n : ℕ} {text other front back : List ℕ} → text ≡ other → HasNumber least text m front
+    → HasNumber most other n back → (m ≡ n) × (front ≡ back)
 number_alone {front} {back} e a b =
-    let same : (a.digits ≡ b.digits) × (front ≡ back) = same_digits a.digits b.digits front back (sym a.spelled ∙ e ∙ b.spelled) a.number.ascii b.number.ascii a.ends b.ends in
+    let same : (a.digits ≡ b.digits) × (front ≡ back) =
+    same_digits a.digits b.digits front back (sym a.spelled ∙ e ∙ b.spelled) a.number.ascii b.number.ascii a.ends b.ends in
     (sym a.number.value ∙ ap decimal same.0 ∙ b.number.value, same.1)
 
 -- the same with a mark after it
-pub field_alone : {least most mark m n : ℕ} {text other front back : List ℕ} → text ≡ other → HasNumber least text m (mark ∷ front) → HasNumber most other n (mark ∷ back) → (m ≡ n) × (front ≡ back)
+pub field_alone : {least most mark m n : ℕ} {text other front back : List ℕ} → text ≡ other
+    → HasNumber least text m (mark ∷ front) → HasNumber most other n (mark ∷ back) → (m ≡ n) × (front ≡ back)
 field_alone {least} {most} {mark} {m} {n} {text} {other} {front} {back} e a b =
     let same : (m ≡ n) × (mark ∷ front ≡ mark ∷ back) = number_alone e a b in
     let marked : mark ∷ front ≡ mark ∷ back = same.1 in
@@ -78,13 +88,15 @@ pub digits_passed : (text : List ℕ) → All IsAsciiDigit (take (prefix_len is_
 digits_passed text = λ k d h.
     let n = prefix_len is_ascii_digit text in
     let below : k < n = omega (arith, length-take n text) in
-    subst IsAsciiDigit (sym (get_or-take n text k d below)) (digit_from_test (get_or text k d) (prefix_len_passes is_ascii_digit text k d below))
+    subst IsAsciiDigit (sym (get_or-take n text k d below))
+    (digit_from_test (get_or text k d) (prefix_len_passes is_ascii_digit text k d below))
 
 -- and no digit follows them
 pub digits_end : (text : List ℕ) → StartsWithDigit (drop (prefix_len is_ascii_digit text) text) → ⊥
 digits_end text h =
     let n = prefix_len is_ascii_digit text in
     ⊎_elim
-    (λ below. false≢true (sym (prefix_len_stops is_ascii_digit text 0 below) ∙ digit_to_test (get_or text n 0) (subst StartsWithDigit (drop-cons text n 0 below) h)))
+    (λ below. false≢true (sym (prefix_len_stops is_ascii_digit text 0 below)
+    ∙ digit_to_test (get_or text n 0) (subst StartsWithDigit (drop-cons text n 0 below) h)))
     (λ past. subst StartsWithDigit (drop_all n text past) h)
     (cases_lt n (length text))

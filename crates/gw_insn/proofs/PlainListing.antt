@@ -14,7 +14,8 @@ pub record FieldsFit (r : Raw) : Type 0 where
   pub k : r.k ≤ 4294967295
 
 -- a number in decimal digits, and a space or a comma after it
-number_before : (most n c : ℕ) (text rest : List ℕ) → n ≤ most → most < 10 ^ 10 → c < 48 → text ≡ decimal_digits n ++ c ∷ rest → HasNumber most text n (c ∷ rest)
+number_before : (most n c : ℕ) (text rest : List ℕ) → n ≤ most → most < 10 ^ 10 → c < 48 → text ≡ decimal_digits n ++ c ∷ rest
+    → HasNumber most text n (c ∷ rest)
 number_before most n c text rest fits short sign spelled = record {
   digits = decimal_digits n;
   number = decimal_digits-IsNumber most n fits short;
@@ -33,7 +34,8 @@ plain_item-HasItem is_last r rest fits =
         after_code = after_code;
         after_jt = after_jt;
         after_jf = after_jf;
-        code = number_before 65535 r.code space (plain_item r ++ rest) after_code fits.code (omega arith) (omega arith) (grind (arith, append_assoc));
+        code = number_before 65535 r.code space (plain_item r ++ rest) after_code fits.code (omega arith) (omega arith)
+            (grind (arith, append_assoc));
         jt = number_before 255 r.jt space after_code after_jt fits.jt (omega arith) (omega arith) refl;
         jf = number_before 255 r.jf space after_jt after_jf fits.jf (omega arith) (omega arith) refl;
         k = number_before 4294967295 r.k comma after_jf rest fits.k (omega arith) (omega arith) refl;
@@ -41,7 +43,8 @@ plain_item-HasItem is_last r rest fits =
       closed = inl refl;
     }
 
-plain_items-HasItems : (n : ℕ) (code : List Raw) → n ≡ length code → All FieldsFit code → HasItems n (flat_map plain_item code) code []
+plain_items-HasItems : (n : ℕ) (code : List Raw) → n ≡ length code → All FieldsFit code
+    → HasItems n (flat_map plain_item code) code []
 plain_items-HasItems n [] same fit = refl
 plain_items-HasItems n (r ∷ rs) same fit = (
   flat_map plain_item rs,
@@ -49,11 +52,13 @@ plain_items-HasItems n (r ∷ rs) same fit = (
   plain_items-HasItems (n - 1) rs (omega arith) (All-tail FieldsFit r rs fit),
 )
 
+-- what is written is a listing of the code
 pub plain_listing-IsListing : (code : List Raw) → length code ≤ 65535 → All FieldsFit code → IsListing (plain_listing code) code
 plain_listing-IsListing code few fit = record {
   body = flat_map plain_item code;
   after = [];
-  count = number_before 65535 (length code) comma (plain_listing code) (flat_map plain_item code) few (omega arith) (omega arith) refl;
+  count = number_before 65535 (length code) comma (plain_listing code) (flat_map plain_item code) few (omega arith)
+      (omega arith) refl;
   items = plain_items-HasItems (length code) code refl fit;
   blank = All-nil IsWhite;
 }

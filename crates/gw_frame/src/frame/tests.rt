@@ -3,7 +3,7 @@ use std::test::Fail;
 
 const RECORD: &[u8] = b"\x8C\xF0\x04\x00\x08\x00\x00\x00\xFF\xFF\xFF\xFF\xFF\xFF\xFF\xFF";
 
-// The number of the refusal of these octets, or their number where they are a record.
+/// The number of the refusal of these octets, or their number where they are a record.
 fn outcome(octets: &[u8]) -> Result<usize, u32> {
     match Frame::read(octets) {
         Ok(frame) => Ok(frame.len()),
@@ -36,7 +36,7 @@ fn a_record_of_15_octets(rt: HostRuntime) -> Result<(), Fail> {
     Ok(())
 }
 
-// A fixed sequence of octets: the high octets of the states of a linear congruential generator.
+/// A fixed sequence of octets: the high octets of the states of a linear congruential generator.
 #[derive(Drop)]
 struct Octets {
     state: u64,

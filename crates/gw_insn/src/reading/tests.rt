@@ -3,7 +3,7 @@ use crate::insn::Raw;
 use std::alloc::{AllocError, Global};
 use std::test::Fail;
 
-// `ldh [12]`, `jeq #0x806, l2, l3`, `ret #0xffffffff`, `ret #0x0`
+/// `ldh [12]`, `jeq #0x806, l2, l3`, `ret #0xffffffff`, `ret #0x0`.
 const LISTING: &[u8] = b"4,40 0 0 12,21 0 1 2054,6 0 0 4294967295,6 0 0 0,";
 
 const RETURN_ONE: Raw = Raw {
@@ -147,7 +147,7 @@ fn returns_on_any_octets(rt: HostRuntime) -> Result<(), Fail> {
     Ok(())
 }
 
-// the first 65536 octets of the sequence of multiplier 6364136223846793005 and increment 1442695040888963407
+/// The first 65536 octets of the sequence of multiplier 6364136223846793005 and increment 1442695040888963407.
 fn fixed_sequence(alloc: Global) -> Result<Vec<u8>, AllocError> {
     let mut s = 1u64;
     let mut octets = Vec::new(alloc);

@@ -7,4 +7,5 @@ returns-in_err-n-clause-none c = rw c.from_residual.ensures (λ n rest h. c.in_e
 
 pub returns-in_err-after_mark-clause-none : goal.returns-in_err-after_mark-clause-none
 returns-in_err-after_mark-clause-none c =
-    rw c.from_residual-in_err-after_mark.ensures (λ n rest h. c.in_err-after_mark.ensures.none rest (number_alone refl c.in_ok-n.ensures.found h).1)
+    rw c.from_residual-in_err-after_mark.ensures
+    (λ n rest h. c.in_err-after_mark.ensures.none rest (number_alone refl c.in_ok-n.ensures.found h).1)

@@ -6,4 +6,6 @@ use Rattle.gw_insn.proofs.writing.write_listing.Given as goal
 
 -- the count and the instructions so far
 abbrev pub invariant-loop-raw : goal.invariant-loop-raw
-invariant-loop-raw l = (string_bytes l.text ≡ decimal_digits (length l.code) ++ comma ∷ flat_map plain_item (take l.raw-index l.code)) × All FieldsFit (take l.raw-index l.code)
+invariant-loop-raw l =
+    (string_bytes l.text ≡ decimal_digits (length l.code) ++ comma ∷ flat_map plain_item (take l.raw-index l.code))
+    × All FieldsFit (take l.raw-index l.code)
