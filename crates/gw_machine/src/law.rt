@@ -13,8 +13,10 @@ use gw_verify::accepted_is_orderly;
 /// On every record and port, a running machine has each scratch word that it loads, whatever the code, if no load of it
 /// is bare. So it is of accepted code, in which it also stands at an instruction.
 pub fn soundness()
-    ensures loads { (code : List Insn) (octets : List ℕ) (port : ℕ) → NoLoadIsBare (program_forms code) → LoadsAreStored code octets port }
-    ensures accepted_loads { (code : List Insn) (octets : List ℕ) (port : ℕ) → IsAccepted (program_forms code) → LoadsAreStored code octets port }
+    ensures loads { (code : List Insn) (octets : List ℕ) (port : ℕ) → NoLoadIsBare (program_forms code)
+        → LoadsAreStored code octets port }
+    ensures accepted_loads { (code : List Insn) (octets : List ℕ) (port : ℕ) → IsAccepted (program_forms code)
+        → LoadsAreStored code octets port }
     ensures accepted_places { (code : List Insn) (octets : List ℕ) (port : ℕ) → IsAccepted (program_forms code)
         → (m : Machine) → IsRunning code octets port m → m.place < length code }
 {

@@ -7,7 +7,8 @@ use Rattle.gw_insn.specs.Form.{Form, Jump, Branch, ReturnConstant, ReturnA}
 use Rattle.gw_verify.specs.declared.arrival.Arrival.{Arrival}
 use Rattle.gw_verify.specs.declared.arrival.Arrival.TheVariants.{Never, Start, From}
 use Rattle.gw_verify.specs.Arrivals.{IsArrival, AreArrivals, ComeFromBefore, with_arrival_from}
-use Rattle.gw_verify.specs.Flow.{Forms, HasAt, LeadsTo, Stores, PassesBy, IsBare, IsBarePathTo, bare_start, bare_on, bare_path_start, bare_path_on}
+use Rattle.gw_verify.specs.Flow.{Forms, HasAt, LeadsTo, Stores, PassesBy, IsBare, IsBarePathTo}
+use Rattle.gw_verify.specs.FlowLaws.{bare_start, bare_on, bare_path_start, bare_path_on}
 use Rattle.gw_verify.specs.Next.{next_of, at_next}
 use Rattle.gw_verify.proofs.Bare.{Reached, reached_more, reached_cases, reached_from_bare, next_forward, bare_inside, step, step_leads}
 
@@ -35,6 +36,7 @@ bare_told forms word never j Start some told comes =
 bare_told forms word never j (From i) some told comes =
     bare_on forms word i j told.0 told.1.unset told.1.next
 
+-- and where there is no arrival none comes
 pub never_told : (forms : Forms) (word : ℕ) (never : Type 0) (j : ℕ) (arrival : Arrival)
     → Tells forms word never j arrival → arrival ≡ Never → never
 never_told forms word never j arrival told e = subst (Tells forms word never j) e told
@@ -88,6 +90,7 @@ noted_cases (Branch c o jt jf) i arrivals j arrival e =
     ]
 noted_cases _ i arrivals j arrival e = slice_get-set arrivals (i + 1) (From i) j arrival e
 
+-- arrivals are changed and not added
 pub length-at_next : (insn : Form) (i : ℕ) (arrivals : List Arrival)
     → length (at_next (with_arrival_from i) i (next_of insn) arrivals) ≡ length arrivals
 length-at_next (ReturnConstant k) i arrivals = refl
@@ -129,6 +132,7 @@ arrivals_noted forms word last arrivals long noted j arrival e = told arrival (n
     told Start t = t
     told (From i) t = t
 
+-- instructions lead forward, so an arrival is from an earlier place
 pub from_before : (forms : Forms) (word : ℕ) (arrivals : List Arrival) → AreArrivals forms word arrivals
     → ComeFromBefore arrivals
 from_before forms word arrivals told j i e = next_forward forms i j (told j (From i) e).1.next
@@ -141,6 +145,7 @@ GoesOn forms word place found last = (front : List ℕ) → IsBarePathTo forms f
 reverse_push : (found : List ℕ) (place : ℕ) → reverse (found ++ place ∷ []) ≡ place ∷ reverse found
 reverse_push found place = reverse-append found (place ∷ [])
 
+-- from the last place
 pub goes_on_none : (forms : Forms) (word last : ℕ) → GoesOn forms word last [] last
 goes_on_none forms word last front b = rw append-nil b
 

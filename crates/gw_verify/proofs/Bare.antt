@@ -4,9 +4,11 @@ use Rattle.std.specs.Prelude.{slice_get}
 use Rattle.std.proofs.lemmas.Bool.{cases_eq}
 use Rattle.std.proofs.lemmas.List.Elements.{All-head, All-tail}
 use Rattle.gw_insn.specs.Form.{Form}
-use Rattle.gw_verify.specs.Flow.{Forms, HasAt, LeadsTo, IsNext, Walks, IsPath, Stores, StoresAt, PassesBy, IsBare, leads_forward, bare_start, bare_on}
+use Rattle.gw_verify.specs.Flow.{Forms, HasAt, LeadsTo, IsNext, Walks, IsPath, Stores, StoresAt, PassesBy, IsBare}
+use Rattle.gw_verify.specs.FlowLaws.{leads_forward, bare_start, bare_on}
 use Rattle.gw_verify.proofs.Decoding.{one_form, no_form}
 
+-- each next place is a later one
 pub next_forward : (forms : Forms) (i j : ℕ) → IsNext forms i j → i < j
 next_forward forms i j n = leads_forward n.insn i j n.leads
 
@@ -19,6 +21,7 @@ module _ (forms : Forms) (word i j : ℕ) where
     unset = λ s. unset (subst (λ x. Stores x word) (one_form forms i s.insn insn s.here here) s.stores);
   }
 
+  -- and back: what the instruction there leads to, and that it stores another word
   pub step_leads : (insn : Form) → HasAt forms i insn → PassesBy forms word i j → LeadsTo insn i j
   step_leads insn here p =
       subst (λ x. LeadsTo x i j) (one_form forms i p.next.insn insn p.next.here here) p.next.leads
@@ -35,6 +38,7 @@ pub data Reached (forms : Forms) (word n j : ℕ) : Type 0 where
   at_start : j ≡ 0 → Reached forms word n j
   from : (i : ℕ) → i < n → IsBare forms i word → PassesBy forms word i j → Reached forms word n j
 
+-- what is known stays known
 pub reached_more : (forms : Forms) (word m n j : ℕ) → m ≤ n → Reached forms word m j → Reached forms word n j
 reached_more forms word m n j h (at_start e) = at_start e
 reached_more forms word m n j h (from i l b p) = from i (omega arith) b p
@@ -48,6 +52,7 @@ reached_cases forms word i j (from k l b p) = elim (cases_eq k i) [
   | inr ne ↦ inl (from k (omega arith) b p)
 ]
 
+-- what the pass knows is bare ..
 pub bare_from_reached : (forms : Forms) (word n j : ℕ) → 0 < length forms → Reached forms word n j
     → IsBare forms j word
 bare_from_reached forms word n j some (at_start e) =
@@ -75,6 +80,7 @@ reached_by forms word (i ∷ is) j p u =
     let bare = subst (λ k. IsBare forms k word) (sym p.0) (bare_start forms word p.1) in
     reached_along forms word i is j bare p.2 u
 
+-- .. and each bare place is known once the places below it are passed
 pub reached_from_bare : (forms : Forms) (word j : ℕ) → IsBare forms j word → Reached forms word j j
 reached_from_bare forms word j b =
     reached_by forms word b.to.earlier j (subst (IsPath forms) b.to.ends b.to.path) b.to.unset

@@ -15,7 +15,8 @@ use Rattle.gw_verify.proofs.Decoding.{length_forms}
 use Rattle.gw_verify.proofs.Refusals.{explainable}
 
 -- what an instruction has by itself is told of an instruction of the code
-pub own_place : (code : List Raw) (cause : Cause) (i : ℕ) → rank cause ≡ 2 → ∥ IsRefusal (forms_of code) cause i ∥₁ → i < length code
+pub own_place : (code : List Raw) (cause : Cause) (i : ℕ) → rank cause ≡ 2 → ∥ IsRefusal (forms_of code) cause i ∥₁
+    → i < length code
 own_place code cause i own refused =
     ∥∥₁_elim refused le_prop (λ refusal. subst (λ n. i < n) (length_forms code) (inside cause own refusal))
   where
@@ -29,7 +30,8 @@ own_place code cause i own refused =
     inside _ own first = absurd (omega (arith, own))
 
 -- an unset word is one of the 16, in code that is not too long
-pub small : (code : List Raw) (word i : ℕ) → ∥ IsRefusal (forms_of code) (UnsetWord word) i ∥₁ → (word < 16) × (length code ≤ 4096)
+pub small : (code : List Raw) (word i : ℕ) → ∥ IsRefusal (forms_of code) (UnsetWord word) i ∥₁
+    → (word < 16) × (length code ≤ 4096)
 small code word i refused = ∥∥₁_elim refused (×_prop le_prop le_prop) (explainable code (UnsetWord word) i)
 
 -- the place of an unset word is bare of it, so what is found of its paths explains it

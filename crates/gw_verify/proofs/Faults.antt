@@ -39,10 +39,12 @@ kind_of forms NoReturnAtEnd i f = (refl, f.0, f.1)
 kind_of forms (UnsetWord word) i f = (word, refl, record { load = f.0; bare = f.1 })
 kind_of forms OutOfMemory i f = absurd f
 
+-- a fault is of the kind of its rank
 pub of_rank : (forms : Forms) (cause : Cause) (i r : ℕ) → rank cause ≡ r → IsFault forms cause i
     → Kind forms cause i r
 of_rank forms cause i r e f = subst (Kind forms cause i) e (kind_of forms cause i f)
 
+-- no fault has a rank above these
 no_more_kinds : (forms : Forms) (cause : Cause) (i r : ℕ) → 5 ≤ r → Kind forms cause i r → ⊥
 no_more_kinds forms cause i zero l k = omega arith
 no_more_kinds forms cause i (suc zero) l k = omega arith
@@ -51,6 +53,7 @@ no_more_kinds forms cause i (suc (suc (suc zero))) l k = omega arith
 no_more_kinds forms cause i (suc (suc (suc (suc zero)))) l k = omega arith
 no_more_kinds forms cause i (suc (suc (suc (suc (suc r))))) l k = k
 
+-- what an instruction has by itself is the fault of that cause
 own_fault_is : (forms : Forms) (cause : Cause) (i : ℕ) (found : Option Form)
     → slice_get forms i ≡ Some found → IsOwnFault (length forms) i found cause → IsFault forms cause i
 own_fault_is forms UnknownCode i None here w = here
@@ -99,9 +102,11 @@ module _ (forms : Forms) where
   has_some some = no_fault_more forms 0 (λ other j k. omega (arith, k.1)) (λ other j f. omega arith)
 
   module _ (some : 0 < length forms) (short : length forms ≤ 4096) where
+    -- The checks in their order: each leaves one rank less, and the first fault of a rank is the first of all.
     is_short : NoFaultBelow forms 2
     is_short = no_fault_more forms 1 (λ other j k. omega (arith, k.1)) (has_some some)
 
+    -- the least place with a fault of its own
     pub first_own : (cause : Cause) (i : ℕ) → HasOwnFault forms cause i → NoOwnFaultBelow forms i
         → IsFirstFault forms cause i
     first_own cause i own before =
@@ -114,6 +119,7 @@ module _ (forms : Forms) where
       is_clean =
           no_fault_more forms 2 (λ other j k. clean other j (slice_get_within forms j _ k.here) k) is_short
 
+      -- then an end that is no return
       pub first_no_return : (i : ℕ) → IsFault forms NoReturnAtEnd i → IsFirstFault forms NoReturnAtEnd i
       first_no_return i fault =
           first forms NoReturnAtEnd i 3 refl fault is_clean (λ other j k. omega (arith, k.1, fault.0))
@@ -122,12 +128,14 @@ module _ (forms : Forms) where
         has_end : NoFaultBelow forms 4
         has_end = no_fault_more forms 3 (λ other j k. ends j k.2.insn k.1 k.2.here k.2.holds) is_clean
 
+        -- then the least load of an unset word
         pub first_unset : (word i : ℕ) → IsUnsetLoad forms word i → NoUnsetLoadBelow forms i
             → IsFirstFault forms (UnsetWord word) i
         first_unset word i bad before =
             first forms (UnsetWord word) i 4 refl (bad.load, bad.bare) has_end
             (λ other j k. elim (cases_lt j i) [ inl l ↦ absurd (before k.0 j l k.2) | inr g ↦ g ])
 
+        -- and else the code is accepted
         pub accepted : NoUnsetLoadBelow forms (length forms) → IsAccepted forms
         accepted none cause i fault =
             no_more_kinds forms cause i (rank cause) (all cause i fault) (kind_of forms cause i fault)
@@ -216,6 +224,7 @@ ends_by forms last insn true e here told = λ i other e' h n.
     told (subst IsNoReturn (one_form forms last other insn at here) n)
 ends_by forms last insn false e here told = (e, record { insn = insn; here = here; holds = told })
 
+-- an unknown code at the end counts as a return
 pub ends_unknown : (forms : Forms) (last : ℕ) → last + 1 ≡ length forms → slice_get forms last ≡ Some None
     → EndsInReturn forms
 ends_unknown forms last e unknown i insn e' h n =

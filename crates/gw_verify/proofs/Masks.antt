@@ -8,7 +8,8 @@ use Rattle.gw_insn.specs.Form.{Load, LoadIndexed, LoadLength, LoadConstant, Load
 use Rattle.gw_verify.specs.Accepted.{At}
 use Rattle.gw_verify.specs.Flow.{Forms, HasAt, LeadsTo, Loads, IsBare}
 use Rattle.gw_verify.specs.Next.{next_of, at_next}
-use Rattle.gw_verify.specs.Orderly.{IsOrderly, NamesWord, StaysBelow, leads_below}
+use Rattle.gw_verify.specs.Orderly.{IsOrderly, NamesWord, StaysBelow}
+use Rattle.gw_verify.specs.FlowLaws.{leads_below}
 use Rattle.gw_verify.specs.UnsetLoad.{marked, IsLeft, IsUnsetLoad, NoUnsetLoadBelow}
 use Rattle.gw_verify.proofs.Bare.{Reached, at_start, from, reached_more, reached_cases, bare_from_reached, reached_from_bare, step, step_leads, step_unset, no_step}
 use Rattle.gw_verify.proofs.Decoding.{one_form, no_form}

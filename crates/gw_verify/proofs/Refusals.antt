@@ -108,6 +108,7 @@ refusal_cases : (forms : Forms) (cause : Cause) (i : ℕ) → IsRefusal forms ca
 refusal_cases forms OutOfMemory i r = inl (refl, r.0, r.1)
 refusal_cases forms _ i r = inr r
 
+-- so a refusal is one, also that for want of memory
 pub one_refusal_of : (forms : Forms) (cause other : Cause) (i j : ℕ) → IsRefusal forms cause i
     → IsRefusal forms other j → (cause ≡ other) × (i ≡ j)
 one_refusal_of forms cause other i j r s =

@@ -1,6 +1,7 @@
 -- The checks of a program (this project's profile of Linux's bpf_check_classic and check_load_and_stores,
 -- net/core/filter.c), and which refusal comes first.
 use Rattle.std.specs.Prelude.{ℕ, ◌≡◌, ◌≢◌, ◌+◌, ◌<◌, ◌≤◌, ◌⊎◌, List, [], ◌∷◌, ◌++◌, length, Some, None, slice_get}
+use Rattle.gw_insn.specs.declared.bounds.TheConstants.{SCRATCH_WORDS, MAX_INSNS, NEGATIVE_OFFSETS, INTERFACE}
 use Rattle.gw_insn.specs.declared.insn.Raw.{Raw}
 use Rattle.gw_insn.specs.Form.{Form, Load, LoadScratch, Store, Alu, Jump, Branch, ReturnConstant, ReturnA, Word, Constant, Div, Mod, Lsh, Rsh}
 use Rattle.gw_verify.specs.declared.cause.Cause.{Cause}
@@ -20,10 +21,10 @@ ShiftsTooFar (Alu Lsh (Constant k)) = 32 ≤ k
 ShiftsTooFar (Alu Rsh (Constant k)) = 32 ≤ k
 ShiftsTooFar _ = ⊥
 
--- a scratch number that is not below 16
+-- the number of no scratch word
 abbrev pub NamesNoWord : Form → Type 0
-NamesNoWord (LoadScratch register k) = 16 ≤ k
-NamesNoWord (Store register k) = 16 ≤ k
+NamesNoWord (LoadScratch register k) = SCRATCH_WORDS ≤ k
+NamesNoWord (Store register k) = SCRATCH_WORDS ≤ k
 NamesNoWord _ = ⊥
 
 -- a jump from place i out of a code of this length
@@ -35,8 +36,8 @@ JumpsOut len i _ = ⊥
 -- an absolute load at one of the kernel's negative offsets (SKF_AD_OFF and below), except the
 -- interface number (SKF_AD_OFF + SKF_AD_IFINDEX) of a word load
 abbrev pub IsAncillary : Form → Type 0
-IsAncillary (Load Word k) = (0xfffff000 ≤ k) × (k ≢ 0xfffff008)
-IsAncillary (Load _ k) = 0xfffff000 ≤ k
+IsAncillary (Load Word k) = (NEGATIVE_OFFSETS ≤ k) × (k ≢ INTERFACE)
+IsAncillary (Load _ k) = NEGATIVE_OFFSETS ≤ k
 IsAncillary _ = ⊥
 
 -- any instruction but a return
@@ -54,7 +55,7 @@ pub record At (forms : Forms) (i : ℕ) (P : Form → Type 0) : Type 0 where
 -- what each cause says is wrong at place i
 abbrev pub IsFault : Forms → Cause → ℕ → Type 0
 IsFault forms Empty i = (forms ≡ []) × (i ≡ 0)
-IsFault forms TooLong i = (4096 < length forms) × (i ≡ 4096)
+IsFault forms TooLong i = (MAX_INSNS < length forms) × (i ≡ MAX_INSNS)
 IsFault forms UnknownCode i = slice_get forms i ≡ Some None
 IsFault forms DivideByZero i = At forms i DividesByZero
 IsFault forms ShiftTooFar i = At forms i ShiftsTooFar
@@ -82,7 +83,7 @@ IsRefusal forms cause i = IsFirstFault forms cause i
 
 -- what a refusal for an unset word says besides: it is one of the 16 words, and the code is not too long
 abbrev pub IsExplainable : Cause → List Raw → Type 0
-IsExplainable (UnsetWord word) code = (word < 16) × (length code ≤ 4096)
+IsExplainable (UnsetWord word) code = (word < SCRATCH_WORDS) × (length code ≤ MAX_INSNS)
 IsExplainable _ code = Unit {0}
 
 -- the last of the places loads the word

@@ -7,9 +7,9 @@ ghost use Rattle.gw_verify.specs.Accepted.{IsAccepted, IsFirstFault, IsFault, Is
 ghost use Rattle.gw_verify.specs.OwnFault.{HasOwnFault, NoOwnFaultBelow, EndsInReturn};
 
 use crate::cause::Cause;
-use crate::marks::{MAX_LEN, first_unset_load};
+use crate::marks::first_unset_load;
 use crate::own_fault::own_fault;
-use gw_insn::{Insn, Raw, decode};
+use gw_insn::{Insn, MAX_INSNS, Raw, decode};
 
 /// The first fault of the code, in the order of the causes, and its place.
 pub fn first_fault(code: &[Raw]) -> Option<(Cause, usize)>
@@ -19,8 +19,8 @@ pub fn first_fault(code: &[Raw]) -> Option<(Cause, usize)>
     if code.is_empty() {
         return Some((Cause::Empty, 0));
     }
-    if code.len() > MAX_LEN {
-        return Some((Cause::TooLong, MAX_LEN));
+    if code.len() > MAX_INSNS {
+        return Some((Cause::TooLong, MAX_INSNS));
     }
     if let Some(found) = first_own_fault(code) {
         return Some(found);
@@ -60,6 +60,7 @@ fn ends_in_return(code: &[Raw]) -> bool
     }
 }
 
+/// Whether the instruction is a return.
 fn is_return(insn: Insn) -> bool
     ensures { MatchBool result (¬ IsNoReturn (form insn)) (IsNoReturn (form insn)) }
 {

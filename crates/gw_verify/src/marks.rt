@@ -9,10 +9,7 @@ ghost use Rattle.gw_verify.specs.Orderly.{IsOrderly, NamesWord, StaysBelow};
 ghost use Rattle.gw_verify.specs.UnsetLoad.{IsUnsetLoad, NoUnsetLoadBelow, IsLeft, marked};
 
 use crate::next::{Next, next_of};
-use gw_insn::{Insn, Raw, decode};
-
-/// The greatest number of instructions (Linux's BPF_MAXINSNS).
-pub const MAX_LEN: usize = 4096;
+use gw_insn::{Insn, MAX_INSNS, Raw, decode};
 
 /// A set of scratch words: bit w stands for word w.
 type Mask = u16;
@@ -26,7 +23,7 @@ pub fn first_unset_load(code: &[Raw]) -> Option<(u32, usize)>
 {
     // For each place, the words that some path to it leaves unset. Instructions lead forward, so a mask is
     // complete once the places before it are passed. That of a place that no path reaches stays empty.
-    let mut marks = [0; MAX_LEN];
+    let mut marks = [0; MAX_INSNS];
     marks[0] = Mask::MAX;
     for (place, raw) in code.iter().enumerate() {
         if let Some(insn) = decode(*raw) {
@@ -74,7 +71,7 @@ fn without(words: Mask, word: u32) -> Mask
 }
 
 /// Adds the unset words to the mask of each place that the instruction leads to.
-fn carry(marks: &mut [Mask; MAX_LEN], insn: Insn, place: usize, unset: Mask)
+fn carry(marks: &mut [Mask; MAX_INSNS], insn: Insn, place: usize, unset: Mask)
     requires { StaysBelow 4096 place (form insn) }
     ensures { marks.new ≡ at_next (marked unset) place (next_of (form insn)) marks.old }
 {
@@ -90,7 +87,7 @@ fn carry(marks: &mut [Mask; MAX_LEN], insn: Insn, place: usize, unset: Mask)
 }
 
 /// Adds the unset words to the mask of a place.
-fn mark(marks: &mut [Mask; MAX_LEN], place: usize, unset: Mask)
+fn mark(marks: &mut [Mask; MAX_INSNS], place: usize, unset: Mask)
     requires { place < 4096 }
     ensures { marks.new ≡ marked unset place marks.old }
 {

@@ -8,13 +8,7 @@ ghost use Rattle.gw_verify.specs.OwnFault.{IsOwnFault};
 
 use crate::cause::Cause;
 use crate::next::{Next, next_of};
-use gw_insn::Insn;
-
-/// The first of the offsets that Linux counts as negative (SKF_AD_OFF).
-const NEGATIVE_OFFSETS: u32 = 0xffff_f000;
-
-/// The offset of the interface number (SKF_AD_OFF + SKF_AD_IFINDEX): a word load there is `ld ifidx`.
-const INTERFACE: u32 = 0xffff_f008;
+use gw_insn::{INTERFACE, Insn, NEGATIVE_OFFSETS, SCRATCH_WORDS};
 
 /// The fault that an instruction has by itself, or an unknown code (`None`), at a place of a code of `len`
 /// instructions.
@@ -41,6 +35,7 @@ pub fn own_fault(found: Option<Insn>, len: usize, place: usize) -> Option<Cause>
     }
 }
 
+/// Whether the instruction divides by a constant 0.
 fn divides_by_zero(insn: Insn) -> bool
     ensures { IsTrue result ↔ DividesByZero (form insn) }
 {
@@ -51,6 +46,7 @@ fn divides_by_zero(insn: Insn) -> bool
     }
 }
 
+/// Whether the instruction shifts by a constant of 32 or more.
 fn shifts_too_far(insn: Insn) -> bool
     ensures { IsTrue result ↔ ShiftsTooFar (form insn) }
 {
@@ -61,14 +57,15 @@ fn shifts_too_far(insn: Insn) -> bool
     }
 }
 
+/// Whether the instruction names a scratch word that is not there.
 fn names_no_word(insn: Insn) -> bool
     ensures { IsTrue result ↔ NamesNoWord (form insn) }
 {
     match insn {
-        Insn::LoadScratchA(k) => k >= 16,
-        Insn::LoadScratchX(k) => k >= 16,
-        Insn::StoreA(k) => k >= 16,
-        Insn::StoreX(k) => k >= 16,
+        Insn::LoadScratchA(k) => k as usize >= SCRATCH_WORDS,
+        Insn::LoadScratchX(k) => k as usize >= SCRATCH_WORDS,
+        Insn::StoreA(k) => k as usize >= SCRATCH_WORDS,
+        Insn::StoreX(k) => k as usize >= SCRATCH_WORDS,
         _ => false,
     }
 }

@@ -5,7 +5,7 @@ ghost use Rattle.gw_verify.specs.Accepted.{IsRefusal};
 
 use crate::cause::Cause;
 use crate::path::{Path, explain};
-use gw_insn::Raw;
+use gw_insn::{INTERFACE, MAX_INSNS, Raw, SCRATCH_WORDS};
 use std::alloc::{AllocError, Global};
 use std::error::Error;
 use std::fmt;
@@ -48,7 +48,7 @@ impl Display for Refused {
             ),
             Cause::TooLong => write!(
                 f,
-                "the code has {len} instructions, and at most 4096 are accepted"
+                "the code has {len} instructions, and at most {MAX_INSNS} are accepted"
             ),
             Cause::UnknownCode => {
                 let code = self.code[place].code;
@@ -69,7 +69,8 @@ impl Display for Refused {
                 let k = self.code[place].k;
                 write!(
                     f,
-                    "instruction {place} names M[{k}], and the words are M[0] to M[15]"
+                    "instruction {place} names M[{k}], and the words are M[0] to M[{}]",
+                    SCRATCH_WORDS - 1
                 )
             }
             Cause::JumpOut => write!(
@@ -80,7 +81,7 @@ impl Display for Refused {
                 let k = self.code[place].k;
                 write!(
                     f,
-                    "instruction {place} loads from {k}, an extension of Linux that is not `ld ifidx` (`32 0 0 4294963208`)"
+                    "instruction {place} loads from {k}, an extension of Linux that is not `ld ifidx` (`32 0 0 {INTERFACE}`)"
                 )
             }
             Cause::NoReturnAtEnd => write!(

@@ -10,7 +10,8 @@ returns-clause-returns c = λ code octets port answer n accepted.
 pub returns-clause-steps : goal.returns-clause-steps
 returns-clause-steps c = λ code octets port accepted.
     let orderly = c.accepted_is_orderly.ensures (program_forms code) accepted in
-    steps_bound code octets port accepted orderly (answer_of code octets port) (steps_of code octets port) (returns_of code octets port accepted orderly)
+    steps_bound code octets port accepted orderly (answer_of code octets port) (steps_of code octets port)
+    (returns_of code octets port accepted orderly)
 
 pub returns-clause-running : goal.returns-clause-running
 returns-clause-running c = λ code octets port m n accepted r.

@@ -31,7 +31,9 @@ returns-else-leads_to c =
     let code = c.args.code.now in
     let here = form_at code c.args.place _ _ (omega arith) c.in-Some.ensures.table in (
       λ e. absurd (false≢true (sym c.if-leads_to.false ∙ e)),
-      λ p. c.leads_to.ensures.1 (subst (λ x. LeadsTo x c.args.place c.args.to) (one_form (forms_of code) c.args.place p.next.insn (form c.in-Some.insn) p.next.here here) p.next.leads),
+      λ p. c.leads_to.ensures.1
+          (subst (λ x. LeadsTo x c.args.place c.args.to)
+          (one_form (forms_of code) c.args.place p.next.insn (form c.in-Some.insn) p.next.here here) p.next.leads),
     )
 
 pub returns-in-None : goal.returns-in-None

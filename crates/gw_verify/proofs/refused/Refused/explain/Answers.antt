@@ -7,7 +7,8 @@ use Rattle.gw_verify.proofs.refused.Refused.explain.Goals as goal
 use Rattle.gw_verify.proofs.refused.Refused.explain.Goals.{In-UnsetWord}
 
 -- the refusal is one for this word
-unset : (c : In-UnsetWord) → ∥ IsRefusal (forms_of c.args.self.now.code.items) (UnsetWord c.in-UnsetWord.word) c.args.self.now.place ∥₁
+unset : (c : In-UnsetWord)
+    → ∥ IsRefusal (forms_of c.args.self.now.code.items) (UnsetWord c.in-UnsetWord.word) c.args.self.now.place ∥₁
 unset c = rw c.in-UnsetWord.is at c.args.self.now.of_the_code
 
 pub explain-requires-clause-word : goal.explain-requires-clause-word
