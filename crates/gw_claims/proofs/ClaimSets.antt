@@ -1,5 +1,5 @@
 -- Which claims stand in a set, and in one that a test has filtered.
-use Rattle.std.proofs.Common.{◌≡◌, ℕ, Bool, true, false, cond, ◌==◌, ◌&&◌, ◌||◌, List, [], ◌∷◌, ⊎_elim, sym, ◌∙◌, subst, refl}
+use Rattle.std.proofs.Common.{◌≡◌, ℕ, Bool, true, false, cond, ◌==◌, ◌&&◌, ◌||◌, List, [], ◌∷◌, inl, inr, sym, ◌∙◌, subst, refl}
 use Rattle.std.proofs.lemmas.Bool.{eqb-true, eq-eqb, and_parts, and_from, or_cases, or_left, or_right, false≢true}
 use Rattle.std.specs.List.{filter, list_any}
 use Rattle.gw_claims.specs.Claims.{Claim, is_held_by}
@@ -20,21 +20,19 @@ same_claim a n c same =
 pub found : (test : Claim → Bool) (address name : ℕ) (claims : List Claim)
     → is_held_by address name claims ≡ true → test (claim address name) ≡ true → list_any test claims ≡ true
 found test a n [] held passes = absurd (false≢true held)
-found test a n (c ∷ cs) held passes =
-    ⊎_elim
-    (λ here. or_left (test c) (list_any test cs) (subst (λ k. test k ≡ true) (same_claim a n c here) passes))
-    (λ there. or_right (test c) (list_any test cs) (found test a n cs there passes))
-    (or_cases _ _ held)
+found test a n (c ∷ cs) held passes = elim (or_cases _ _ held) [
+  | inl here ↦ or_left (test c) (list_any test cs) (subst (λ k. test k ≡ true) (same_claim a n c here) passes)
+  | inr there ↦ or_right (test c) (list_any test cs) (found test a n cs there passes)
+]
 
 -- what a test finds is a claim of the set
 pub finds : (test : Claim → Bool) (claims : List Claim)
     → list_any test claims ≡ true → (c : Claim) × (test c ≡ true) × (is_held_by c.address c.name claims ≡ true)
 finds test [] any = absurd (false≢true any)
-finds test (c ∷ cs) any =
-    ⊎_elim
-    (λ here. (c, here, or_left _ _ (and_from _ _ (eq-eqb c.address c.address refl) (eq-eqb c.name c.name refl))))
-    (λ there. let rest = finds test cs there in (rest.0, rest.1, or_right _ _ rest.2))
-    (or_cases (test c) (list_any test cs) any)
+finds test (c ∷ cs) any = elim (or_cases (test c) (list_any test cs) any) [
+  | inl here ↦ (c, here, or_left _ _ (and_from _ _ (eq-eqb c.address c.address refl) (eq-eqb c.name c.name refl)))
+  | inr there ↦ let rest = finds test cs there in (rest.0, rest.1, or_right _ _ rest.2)
+]
 
 any_of_kept : (b : Bool) (test : Claim → Bool) (c : Claim) (rest : List Claim)
     → list_any test (cond b (c ∷ rest) rest) ≡ ((b && test c) || list_any test rest)
@@ -47,11 +45,12 @@ pub kept : (test : Claim → Bool) (address name : ℕ) (claims : List Claim)
     → is_held_by address name (filter test claims) ≡ true
 kept test a n [] held passes = held
 kept test a n (c ∷ cs) held passes =
-    any_of_kept (test c) (is_claim_of a n) c (filter test cs)
-    ∙ ⊎_elim
-    (λ here. or_left _ _ (and_from _ _ (subst (λ k. test k ≡ true) (same_claim a n c here) passes) here))
-    (λ there. or_right _ _ (kept test a n cs there passes))
-    (or_cases _ _ held)
+    let either : ((test c && is_claim_of a n c) || is_held_by a n (filter test cs)) ≡ true =
+    elim (or_cases _ _ held) [
+      | inl here ↦ or_left _ _ (and_from _ _ (subst (λ k. test k ≡ true) (same_claim a n c here) passes) here)
+      | inr there ↦ or_right _ _ (kept test a n cs there passes)
+    ] in
+    any_of_kept (test c) (is_claim_of a n) c (filter test cs) ∙ either
 
 -- and no others
 pub keeps : (test : Claim → Bool) (address name : ℕ) (claims : List Claim)
@@ -59,9 +58,9 @@ pub keeps : (test : Claim → Bool) (address name : ℕ) (claims : List Claim)
     → (is_held_by address name claims ≡ true) × (test (claim address name) ≡ true)
 keeps test a n [] held = absurd (false≢true held)
 keeps test a n (c ∷ cs) held =
-    ⊎_elim
-    (λ here.
-    let parts = and_parts (test c) (is_claim_of a n c) here in
-    (or_left _ _ parts.1, subst (λ k. test k ≡ true) (sym (same_claim a n c parts.1)) parts.0))
-    (λ there. let rest = keeps test a n cs there in (or_right _ _ rest.0, rest.1))
-    (or_cases _ _ (sym (any_of_kept (test c) (is_claim_of a n) c (filter test cs)) ∙ held))
+    elim (or_cases _ _ (sym (any_of_kept (test c) (is_claim_of a n) c (filter test cs)) ∙ held)) [
+      | inl here ↦
+          let parts = and_parts (test c) (is_claim_of a n c) here in
+          (or_left _ _ parts.1, subst (λ k. test k ≡ true) (sym (same_claim a n c parts.1)) parts.0)
+      | inr there ↦ let rest = keeps test a n cs there in (or_right _ _ rest.0, rest.1)
+    ]

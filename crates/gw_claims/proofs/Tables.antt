@@ -1,5 +1,5 @@
 -- How a table of claims follows the set.
-use Rattle.std.proofs.Common.{◌≡◌, ℕ, zero, suc, ◌<◌, ◌≤◌, Bool, true, false, not, ◌==◌, ◌&&◌, nat_lt, nat_le, if◌then◌else◌, List, [], ◌∷◌, length, set, get_or, replicate, Option, Some, None, ⊎_elim, sym, ap, ◌∙◌, subst, refl, arith}
+use Rattle.std.proofs.Common.{◌≡◌, ℕ, zero, suc, ◌<◌, ◌≤◌, Bool, true, false, not, ◌==◌, ◌&&◌, nat_lt, nat_le, if◌then◌else◌, List, [], ◌∷◌, length, set, get_or, replicate, Option, Some, None, inl, inr, sym, ap, ◌∙◌, subst, refl, arith}
 use Rattle.std.proofs.lemmas.Bool.{eqb-true, eqb-false, eq-eqb, ne_eqb, and_parts, and_from, or_cases, or_left, or_right, false≢true, leb-true, le-leb, lt-leb, cases_eq, not_from_false, not_from_true, not-true, and_left, lt-ltb, le-ltb, cases_lt, false_from_ne_true}
 use Rattle.std.proofs.lemmas.List.{get_or-set_other, get_or-set_same, length-set, set_past}
 use Rattle.std.specs.Option.{is_some, option_map_or}
@@ -48,23 +48,24 @@ module _ (table : List (Option ℕ)) (claims : List Claim) (address : ℕ) (t : 
       sym (not_from_false (is_defended address m claims) (false_from_ne_true _ (λ any.
       let by = finds (λ c. (c.address == address) && nat_le c.name m) claims any in
       let some = holder_at by.0 (and_parts _ _ by.1).0 by.2 in cc)))
-  open_at m (Some k) some =
-      ⊎_elim
-      (λ (greater : m < k).
-      let lower : nat_lt m k ≡ true = lt-ltb m k greater in
-      lower ∙ sym (not_from_false (is_defended address m claims) (false_from_ne_true _ (λ any.
-      let by = finds (λ c. (c.address == address) && nat_le c.name m) claims any in
-      let tests = and_parts _ _ by.1 in
-      let held = holder_at by.0 tests.0 by.2 in
-      let same : by.0.name ≡ k = cc in
-      let below : by.0.name ≤ m = leb-true by.0.name m tests.1 in
-      absurd (omega arith)))))
-      (λ (most : k ≤ m).
-      let not_lower : nat_lt m k ≡ false = le-ltb m k most in
-      let any = found (λ c. (c.address == address) && nat_le c.name m) address k claims ((t.held address k).0 some)
-      (and_from _ _ (eq-eqb address address refl) (le-leb k m most)) in
-      not_lower ∙ sym (not_from_true (is_defended address m claims) any))
-      (cases_lt m k)
+  open_at m (Some k) some = elim (cases_lt m k) [ inl greater ↦ lower greater | inr most ↦ defended most ]
+    where
+      -- a greater holder does not defend the address
+      lower : m < k → nat_lt m k ≡ not (is_defended address m claims)
+      lower greater = lt-ltb m k greater ∙ sym (not_from_false (is_defended address m claims) (false_from_ne_true _ (λ any.
+          let by = finds (λ c. (c.address == address) && nat_le c.name m) claims any in
+          let tests = and_parts _ _ by.1 in
+          let held = holder_at by.0 tests.0 by.2 in
+          let same : by.0.name ≡ k = cc in
+          let below : by.0.name ≤ m = leb-true by.0.name m tests.1 in
+          absurd (omega arith))))
+
+      defended : k ≤ m → nat_lt m k ≡ not (is_defended address m claims)
+      defended most =
+          let tests = and_from _ _ (eq-eqb address address refl) (le-leb k m most) in
+          let test : Claim → Bool = λ c. (c.address == address) && nat_le c.name m in
+          let any = found test address k claims ((t.held address k).0 some) tests in
+          le-ltb m k most ∙ sym (not_from_true (is_defended address m claims) any)
 
   -- the address is open to the NAME just where the set lets it be taken
   pub open_where_free : (name : ℕ) → is_open_to table address name ≡ (nat_le address 253 && not (is_defended address name claims))
@@ -92,28 +93,28 @@ module _ (table : List (Option ℕ)) (claims : List Claim) (address name : ℕ) 
       get_or-set_same table address (Some name) None inside in
       record {
         held = λ a n. (
-          (λ has. ⊎_elim
-              (λ (same : a ≡ address).
-              let here : get_or (set table address (Some name)) address None ≡ Some n =
-              subst (λ k. get_or (set table address (Some name)) k None ≡ Some n) same has in
-              let is : name ≡ n = cc in
-              or_left _ _ (and_from _ _ (eq-eqb address a (sym same)) (eq-eqb name n is)))
-              (λ (other : a ≡ address → ⊥).
-              let before = (t.held a n).0 (sym (get_or-set_other table address a (Some name) None other) ∙ has) in
-              or_right _ _ (kept (λ c. not (c.address == address)) a n claims before
-              (not_from_false (a == address) (ne_eqb a address other))))
-              (cases_eq a address)),
-          (λ stands. ⊎_elim
-              (λ here.
-              let parts = and_parts _ _ here in
-              let same = eqb-true address a parts.0 in
-              let is = eqb-true name n parts.1 in
-              subst (λ k. get_or (set table address (Some name)) k None ≡ Some n) same (now ∙ ap Some is))
-              (λ there.
-              let before = keeps (λ c. not (c.address == address)) a n claims there in
-              let other : a ≡ address → ⊥ = eqb-false a address (not-true (a == address) before.1) in
-              get_or-set_other table address a (Some name) None other ∙ (t.held a n).1 before.0)
-              (or_cases _ _ stands)),
+          (λ has. elim (cases_eq a address) [
+            | inl same ↦
+                let here : get_or (set table address (Some name)) address None ≡ Some n =
+                subst (λ k. get_or (set table address (Some name)) k None ≡ Some n) same has in
+                let is : name ≡ n = cc in
+                or_left _ _ (and_from _ _ (eq-eqb address a (sym same)) (eq-eqb name n is))
+            | inr other ↦
+                let before = (t.held a n).0 (sym (get_or-set_other table address a (Some name) None other) ∙ has) in
+                let passes = not_from_false (a == address) (ne_eqb a address other) in
+                or_right _ _ (kept (λ c. not (c.address == address)) a n claims before passes)
+          ]),
+          (λ stands. elim (or_cases _ _ stands) [
+            | inl here ↦
+                let parts = and_parts _ _ here in
+                let same = eqb-true address a parts.0 in
+                let is = eqb-true name n parts.1 in
+                subst (λ k. get_or (set table address (Some name)) k None ≡ Some n) same (now ∙ ap Some is)
+            | inr there ↦
+                let before = keeps (λ c. not (c.address == address)) a n claims there in
+                let other : a ≡ address → ⊥ = eqb-false a address (not-true (a == address) before.1) in
+                get_or-set_other table address a (Some name) None other ∙ (t.held a n).1 before.0
+          ]),
         );
       }
 
@@ -136,18 +137,17 @@ module _ (table : List (Option ℕ)) (claims : List Claim) (address name : ℕ) 
 -- where the table with an address cleared has a NAME, the table has it
 still_held : (table : List (Option ℕ)) (cleared address name : ℕ) → holder_of (set table cleared None) address ≡ Some name
     → holder_of table address ≡ Some name
-still_held table cleared a n has =
-    ⊎_elim
-    (λ (inside : cleared < length table).
-    ⊎_elim
-    (λ (same : a ≡ cleared).
-    let nobody_there : holder_of (set table cleared None) a ≡ None =
-    subst (λ k. holder_of (set table cleared None) k ≡ None) (sym same) (get_or-set_same table cleared None None inside) in
-    cc)
-    (λ (other : a ≡ cleared → ⊥). sym (get_or-set_other table cleared a None None other) ∙ has)
-    (cases_eq a cleared))
-    (λ (past : length table ≤ cleared). subst (λ t. holder_of t a ≡ Some n) (set_past table cleared None past) has)
-    (cases_lt cleared (length table))
+still_held table cleared a n has = elim (cases_lt cleared (length table)) [
+  | inl inside ↦ elim (cases_eq a cleared) [
+    | inl same ↦
+        let there = get_or-set_same table cleared None None inside in
+        let nobody_there : holder_of (set table cleared None) a ≡ None =
+        subst (λ k. holder_of (set table cleared None) k ≡ None) (sym same) there in
+        cc
+    | inr other ↦ sym (get_or-set_other table cleared a None None other) ∙ has
+  ]
+  | inr past ↦ subst (λ t. holder_of t a ≡ Some n) (set_past table cleared None past) has
+]
 
 -- a table with an address cleared
 pub table_cleared : (table : List (Option ℕ)) (cleared : ℕ) → IsTable table → IsTable (set table cleared None)
@@ -167,15 +167,14 @@ pub local_where : (table : List (Option ℕ)) (claims : List Claim) → IsTableO
 local_where table claims t false pdu1 ps a d above = cc
 local_where table claims t true true ps a d above =
     let is : ps ≡ a = cc in
-    ⊎_elim
-    (λ (high : 253 < a).
-    let none = above high in
-    let past : nat_le ps 253 ≡ false = lt-leb ps 253 (subst (λ k. 253 < k) (sym is) high) in
-    ap is_some none ∙ sym (and_left (nat_le ps 253) (is_held ps claims) past))
-    (λ (low : a ≤ 253).
-    let within : nat_le ps 253 ≡ true = le-leb ps 253 (subst (λ k. k ≤ 253) (sym is) low) in
-    held_where_some table claims a t ∙ ap (λ k. is_held k claims) (sym is) ∙ ap (λ b. b && is_held ps claims) (sym within))
-    (cases_lt 253 a)
+    elim (cases_lt 253 a) [
+      | inl high ↦
+          let past : nat_le ps 253 ≡ false = lt-leb ps 253 (subst (λ k. 253 < k) (sym is) high) in
+          ap is_some (above high) ∙ sym (and_left (nat_le ps 253) (is_held ps claims) past)
+      | inr low ↦
+          let within : nat_le ps 253 ≡ true = le-leb ps 253 (subst (λ k. k ≤ 253) (sym is) low) in
+          held_where_some table claims a t ∙ ap (λ k. is_held k claims) (sym is) ∙ ap (λ b. b && is_held ps claims) (sym within)
+    ]
 local_where table claims t true false ps a d above =
     let is : 255 ≡ a = cc in
     ap is_some (above (omega arith))
