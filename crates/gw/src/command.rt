@@ -48,7 +48,9 @@ pub fn command<S: AsStr, R: Read, W: Write, F: Write>(
         }
         Ok(Request::Check) => check(alloc, input, output, faults),
         Ok(Request::Claims) => claims(alloc, input, output, faults),
-        Ok(Request::Table { port, frame }) => table(alloc, port, frame, input, output, faults),
+        Ok(Request::Table { port, frame, why }) => {
+            table(alloc, port, frame, why, input, output, faults)
+        }
         Err(error) => answer_words(alloc, &error, output, faults),
     }
 }

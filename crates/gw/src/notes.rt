@@ -1,6 +1,7 @@
 //! What a person should know of an input that is not refused.
 
 use gw_frame::Frame;
+use gw_table::Table;
 use gw_trace::Tried;
 use std::io::Write;
 
@@ -41,5 +42,20 @@ pub fn note_uncounted<F: Write>(frame: &Frame, line: usize, faults: &mut Tried<F
             faults,
             "gw: line {line}: the identifier {word:08X} has more than 11 bits and lacks the flag 80000000, so it does not count; {meant:08X} may be meant"
         );
+    }
+}
+
+/// Tells which rule of a table decides a frame that was taken at a port, or that `default` or `other` does.
+pub fn note_decision<F: Write>(table: &Table, frame: &Frame, port: u8, faults: &mut Tried<F>) {
+    let part = table.decides(frame, port);
+    let _ = writeln!(faults, "gw: {part} decides");
+}
+
+/// Tells of each rule of a table that can never decide.
+pub fn note_dead_rules<F: Write>(table: &Table, faults: &mut Tried<F>) {
+    for rule in 0..table.rules().len() {
+        if let Some(why) = table.why_dead(rule) {
+            let _ = writeln!(faults, "gw: rule {rule} never decides: {why}");
+        }
     }
 }

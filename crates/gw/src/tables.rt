@@ -7,7 +7,7 @@ ghost use Rattle.gw.specs.Commands.{Does, IsFound};
 ghost use Rattle.gw.specs.Tables.{AnswersTable, RefusesTable, IsTable, RefusesText, compiled_line};
 
 use crate::answer::Answer;
-use crate::notes::note_standard_identifier;
+use crate::notes::{note_dead_rules, note_decision, note_standard_identifier};
 use crate::record::record;
 use crate::refusal::Refusal;
 use crate::respond::respond;
@@ -24,6 +24,7 @@ pub fn table<R: Read, W: Write, F: Write>(
     alloc: Global,
     port: u8,
     frame: Option<&str>,
+    why: bool,
     input: &mut Tried<R>,
     output: &mut Tried<W>,
     faults: &mut Tried<F>,
@@ -34,7 +35,7 @@ pub fn table<R: Read, W: Write, F: Write>(
         (R.remaining (inner_of input.old)) (R.remaining (inner_of input.new)) (has_failed input.new)
         (W.contents (inner_of output.old)) (W.contents (inner_of output.new)) (has_failed output.new) result }
 {
-    let found = answered(alloc, port, frame, input, faults);
+    let found = answered(alloc, port, frame, why, input, faults);
     respond(&found, output, faults)
 }
 
@@ -43,6 +44,7 @@ fn answered<R: Read, F: Write>(
     alloc: Global,
     port: u8,
     frame: Option<&str>,
+    why: bool,
     input: &mut Tried<R>,
     faults: &mut Tried<F>,
 ) -> Result<Answer, Refusal>
@@ -52,8 +54,8 @@ fn answered<R: Read, F: Write>(
 {
     let octets = read_input(alloc, input)?;
     match frame {
-        Some(text) => judged(alloc, port, text, &octets, faults),
-        None => compiled(alloc, &octets),
+        Some(text) => judged(alloc, port, text, why, &octets, faults),
+        None => compiled(alloc, &octets, faults),
     }
 }
 
@@ -62,6 +64,7 @@ fn judged<F: Write>(
     alloc: Global,
     port: u8,
     text: &str,
+    why: bool,
     input: &[u8],
     faults: &mut Tried<F>,
 ) -> Result<Answer, Refusal>
@@ -73,14 +76,18 @@ fn judged<F: Write>(
         Err(fault) => return Err(Refusal::Record(fault)),
     };
     note_standard_identifier(&frame, faults);
-    match read_table(alloc, input) {
-        Ok(table) => Ok(Answer::Passes(table.verdict(&frame, port))),
-        Err(refusal) => Err(refusal),
+    let table = match read_table(alloc, input) {
+        Ok(table) => table,
+        Err(refusal) => return Err(refusal),
+    };
+    if why {
+        note_decision(&table, &frame, port, faults);
     }
+    Ok(Answer::Passes(table.verdict(&frame, port)))
 }
 
 /// The listing of a table's program.
-fn compiled(alloc: Global, input: &[u8]) -> Result<Answer, Refusal>
+fn compiled<F: Write>(alloc: Global, input: &[u8], faults: &mut Tried<F>) -> Result<Answer, Refusal>
     ensures answered { (port : ℕ) → IfOk result (AnswersTable None port input.now) }
     ensures refused { IfErr result (RefusesTable None input.now) }
 {
@@ -88,6 +95,7 @@ fn compiled(alloc: Global, input: &[u8]) -> Result<Answer, Refusal>
         Ok(table) => table,
         Err(refusal) => return Err(refusal),
     };
+    note_dead_rules(&table, faults);
     match compiled_listing(alloc, &table) {
         Ok(listing) => Ok(Answer::Text(listing)),
         Err(AllocError) => Err(Refusal::OutOfMemory),

@@ -425,6 +425,67 @@ fn tells_of_a_flag_that_lacks(rt: HostRuntime) {
     );
 }
 
+/// The usual mistakes in a table, each told with its rule, its key and how it is written right.
+#[test]
+fn tells_of_tables(rt: HostRuntime) {
+    let rows = [
+        (
+            "defualt = \"pass\"",
+            "gw: the key \"defualt\" is unknown (`default`?); a table has `default`, `other` and `[[rule]]`\n",
+        ),
+        (
+            "[[rule]]\naction = \"pass\"\n[[rule]]\naction = \"pass\"\nsoruce = 3",
+            "gw: rule 1 has the unknown key \"soruce\" (`source`?); a rule has `action`, `pgn`, `source`, `destination` and `from`\n",
+        ),
+        (
+            "[rule]\naction = \"pass\"",
+            "gw: `rule` is no array of tables; write `[[rule]]`, with two brackets, above each rule\n",
+        ),
+        (
+            "[[rule]]\naction = \"pass\"\ndefault = \"pass\"",
+            "gw: rule 0 has \"default\": behind a `[[rule]]` TOML puts it into that rule; write it above the first `[[rule]]`\n",
+        ),
+        (
+            "[[rule]]\naction = \"allow\"",
+            "gw: the `action` of rule 0 is neither \"pass\" nor \"block\"\n",
+        ),
+        (
+            "[[rule]]\naction = \"pass\"\npgn = [65280, 65000]",
+            "gw: `pgn` of rule 0 runs downwards; write `[lo, hi]` with the lower number first\n",
+        ),
+        (
+            "[[rule]]\naction = \"pass\"\nsource = \"0\"",
+            "gw: `source` of rule 0 is no range; write a number from 0 to 255, or two as `[lo, hi]`, without quotes\n",
+        ),
+    ];
+    tells(&rt, rt.alloc(), &["table"], &rows);
+}
+
+/// Which rule decides a frame, and which rules never can.
+#[test]
+fn tells_of_rules(rt: HostRuntime) {
+    let alloc = rt.alloc();
+    let table =
+        "[[rule]]\naction = \"pass\"\nsource = 0\n[[rule]]\naction = \"block\"\nsource = 0\npgn = 61444\n";
+    let words = ["table", "--why", "--frame", R];
+    tells(
+        &rt,
+        alloc,
+        &words,
+        &[
+            (table, "gw: rule 0 decides\n"),
+            ("", "gw: `default` decides\n"),
+        ],
+    );
+    tells(
+        &rt,
+        alloc,
+        &["table", "--why", "--frame", "0000012300000000"],
+        &[(table, "gw: `other` decides\n")],
+    );
+    answers(&rt, alloc, &words, &[(table, 0, "pass\n")]);
+}
+
 #[test]
 fn tells_of_inputs(rt: HostRuntime) {
     let alloc = rt.alloc();

@@ -1,6 +1,6 @@
 //! The words of the command line.
 
-use clap::{Arg, Command, Error, value_parser};
+use clap::{Arg, ArgAction, Command, Error, value_parser};
 use std::alloc::{AllocError, Global};
 use std::convert::AsStr;
 
@@ -8,13 +8,20 @@ use std::convert::AsStr;
 #[derive(Clone, Copy, Debug, PartialEq, Eq)]
 pub enum Request<'a> {
     /// `verdict [--port P] [HEX]`.
-    Verdict { port: u8, record: Option<&'a str> },
+    Verdict {
+        port: u8,
+        record: Option<&'a str>,
+    },
     /// `check`.
     Check,
     /// `claims`.
     Claims,
-    /// `table [--frame HEX] [--port P]`.
-    Table { port: u8, frame: Option<&'a str> },
+    /// `table [--why] [--frame HEX] [--port P]`.
+    Table {
+        port: u8,
+        frame: Option<&'a str>,
+        why: bool,
+    },
 }
 
 /// The option that names the port at which a frame was taken.
@@ -64,16 +71,22 @@ fn table_command<'a>(alloc: Global) -> Result<Command<'a>, AllocError> {
         .long("frame")
         .value_name("HEX")
         .help("A record in hexadecimal digits: tells whether the table passes it");
+    let why = Arg::new(alloc, "why")
+        .long("why")
+        .action(ArgAction::SetTrue)
+        .requires_arg("frame")?
+        .help("Tells on the fault stream which rule decides the frame, counted from 0");
     Command::new(alloc, "table")
         .about(
             "Compiles a policy table to a program's listing, or tells `pass` or `block` for a frame",
         )
-        .override_usage("gw table [--frame HEX] [--port P] < TABLE")
+        .override_usage("gw table [--frame HEX [--why]] [--port P] < TABLE")
         .after_help(
             "Example: gw table --port 1 --frame 98EA00F903000000EBFE000000000000 < examples/diagnostics-port.toml",
         )
         .arg(taking_port(alloc))?
-        .arg(frame)
+        .arg(frame)?
+        .arg(why)
 }
 
 /// The commands, as `clap` reads them and shows their help.
@@ -105,6 +118,7 @@ pub fn read_words<'a, S: AsStr>(alloc: Global, words: &'a [S]) -> Result<Request
         Some(("table", table)) => Request::Table {
             port: table.get_one::<u8>("port").unwrap_or(0),
             frame: table.get_str("frame"),
+            why: table.get_flag("why"),
         },
         _ => Request::Check,
     })
