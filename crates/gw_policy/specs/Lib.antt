@@ -1,3 +1,4 @@
 pub mod Filter
 pub mod Batches
 pub mod BatchRefusals
+pub mod Allowed
