@@ -1,0 +1,150 @@
+-- Each copy on a lane is of a foreign frame that is allowed there.
+use Rattle.std.proofs.Common.{◌≡◌, ◌≢◌, ◌↔◌, ℕ, suc, zero, ◌+◌, ◌-◌, ◌<◌, ◌≤◌, Bool, true, false, ◌&&◌, ◌||◌, cond, eqb, ltb}
+use Rattle.std.proofs.Common.{List, [], ◌∷◌, ◌++◌, length, drop, Option, Some, None, Ok, refl, sym, ap, subst, ◌∙◌, arith, ⊎_elim}
+use Rattle.std.proofs.Common.{append-nil, length-append}
+use Rattle.std.specs.Prelude.{option_to_list, option_map, IsTrue}
+use Rattle.std.specs.List.{cons_option, All, Contains}
+use Rattle.std.specs.Option.{option_map_or}
+use Rattle.std.proofs.lemmas.Bool.{cases_eq, eq-eqb, eqb-true, ltb-false, or_cases, or_parts, or_left, or_right, and_parts}
+use Rattle.std.proofs.lemmas.Bool.{false≢true}
+use Rattle.std.proofs.lemmas.List.Folds.{list_any-append}
+use Rattle.std.proofs.lemmas.List.Elements.{All-nil, All-cons, All-append, All-weaker, All-head, All-tail, All-contains}
+use Rattle.std.proofs.lemmas.List.Elements.{Contains-append_left, Contains-push, Contains-append_cases}
+use Rattle.std.proofs.lemmas.Option.{slice_get_within, get_or_from_slice_get}
+use Rattle.gw_policy.specs.Filter.{IsFilter}
+use Rattle.gw_policy.specs.Batches.{Pair, in_force}
+use Rattle.gw_ledger.specs.Bounds.{Bounds}
+use Rattle.gw_ledger.specs.Ports.{has_port}
+use Rattle.gw_ledger.specs.declared.outcome.Outcome.{Outcome}
+use Rattle.gw_ledger.specs.declared.outcome.FrameCopy.{FrameCopy}
+use Rattle.gw_core.specs.PortHistory.{PortEvent, batch_published, frame_taken, step_made, copy_asked, Place, place_of, Taking}
+use Rattle.gw_core.specs.PortHistory.{taking, Work, instruction, placing, heard, last_taking, work, work_left, work_from}
+use Rattle.gw_core.specs.PortHistory.{steps_since, lane_after, waiting, places_at, placed_by, copy_of, allowed, placed_at}
+use Rattle.gw_core.specs.PortHistory.{placed_since, outcome_of, finished_after, need}
+use Rattle.gw_core.specs.Events.{history_of, all_batches, accepted, keep_accepted, refusal, reply, answer, piece_answer, judged}
+use Rattle.gw_core.specs.Events.{at_port, waiting_after}
+use Rattle.gw_core.specs.Standing.{AreSound}
+use Rattle.gw_core.specs.Copies.{placed_after}
+use Rattle.gw_core.specs.Headline.{IsEvent, MayLeave, WasFull, WasAllowed, WasForwarded, Headline}
+use Rattle.gw_core.specs.declared.event.Event.{Event}
+use Rattle.gw_core.specs.declared.event.Event.TheVariants.{Publish, Take, Step, Send}
+use Rattle.gw_core.specs.declared.event.Answer.{Answer}
+use Rattle.gw_core.specs.declared.event.Answer.TheVariants.{Finished, Placed, Lost}
+use Rattle.gw_core.specs.declared.event.EventRefusal.{EventRefusal}
+use Rattle.gw_core.proofs.Histories.{work_left-step}
+use Rattle.gw_core.proofs.Needs.{last_step}
+use Rattle.gw_core.proofs.Publishings.{sound_published}
+use Rattle.gw_core.proofs.Starts.{none_in_force, none_some}
+use Rattle.gw_core.proofs.Gateways.{batches_of_port}
+use Rattle.gw_core.proofs.Lanes.{last_number, placings, placings-drop, ascends, few_wait}
+use Rattle.gw_core.proofs.Stand.{StepsLaw}
+use Rattle.gw_core.proofs.Targets.{ReturnsLaw, may_leave, allowed_placed, placed_allowed, has_one, has_self}
+use Rattle.gw_core.proofs.Since.{AreEvents, events_all, events_accepted, sound_events, left_of, at_placing, placed_here, split_placed, placed_planned, copy_there, none_there, placed_back, fate, later_full, extend, full_now, step_since, same_fate, since, heard-later, newest_taken}
+use Rattle.gw_core.proofs.Forwarding.{is_foreign}
+
+-- each copy on a lane is of a foreign frame that is allowed there
+later_allowed : (limits : Bounds) (done : List Event) (p q : ℕ) (e : Event) (c : FrameCopy) → WasAllowed limits done p q c
+    → WasAllowed limits (e ∷ done) p q c
+later_allowed limits done p q e c a = record {
+  frame = a.frame;
+  earlier = a.earlier;
+  later = e ∷ a.later;
+  taken = ap (λ (x : List Event). e ∷ x) a.taken;
+  same = a.same;
+  foreign = a.foreign;
+  allowed = a.allowed;
+}
+
+-- what holds of the copy that a step may place
+pub if_placed : (P : FrameCopy → Type 0) (place : Place) (b : Bool) (o : Option Taking)
+    → ((t : Taking) → b ≡ true → o ≡ Some t → P (copy_of place t))
+    → All P (cond b (option_to_list (option_map (copy_of place) o)) [])
+if_placed P place false o h = All-nil P
+if_placed P place true None h = All-nil P
+if_placed P place true (Some t) h = All-cons P (copy_of place t) [] (h t refl refl) (All-nil P)
+
+-- a step that places at a port has that placing as its piece
+first_placing : (q : ℕ) (w : List Work) → places_at q w ≡ true → (rest : List Work) × (w ≡ placing q ∷ rest)
+first_placing q [] e = cc
+first_placing q (instruction _ _ ∷ rest) e = cc
+first_placing q (placing r ∷ rest) e = (rest, ap (λ n. placing n ∷ rest) (sym (eqb-true q r e)))
+
+-- the copy that a step places now is allowed
+allowed_now : ReturnsLaw → StepsLaw → (limits : Bounds) (p q : ℕ) (done : List Event) (t : Taking) → AreEvents done
+    → last_taking (history_of p done) ≡ Some t
+    → places_at q (work_left (place_of limits p) (history_of p done)) ≡ true
+    → WasAllowed limits (Step p ∷ done) p q (copy_of (place_of limits p) t)
+allowed_now returns steps limits p q done t events last here =
+    let place = place_of limits p in
+    let own = history_of p done in
+    let first = first_placing q (work_left place own) here in
+    let foreign : t.local ≡ false = is_foreign place own t (placing q) first.0 last first.1 in
+    let s = since limits p done t events last in
+    let published : t.published ≡ all_batches s.earlier = ap (λ (x : Taking). x.published) s.same ∙ batches_of_port p s.earlier in
+    let frame : t.frame ≡ s.frame = ap (λ (x : Taking). x.frame) s.same in
+    let self : eqb q q ≡ true = eq-eqb q q refl in
+    let some : placings q (work_left place own) ≡ 1 + placings q first.0 = ap (placings q) first.1
+    ∙ ap (λ b. cond b 1 0 + placings q first.0) self in
+    let part = placings-drop q (steps_since own) (work place t) in
+    let left = ap (placings q) (left_of place own t last) in
+    let planned : 1 ≤ placings q (work place t) = omega arith in
+    record {
+      frame = s.frame;
+      earlier = s.earlier;
+      later = Step p ∷ s.later;
+      taken = ap (λ (x : List Event). Step p ∷ x) s.order;
+      same = ap (copy_of place) s.same;
+      foreign = ap (λ (x : Taking). x.local) (sym s.same) ∙ foreign;
+      allowed = subst (λ (b : List (List Pair)). MayLeave limits b p s.frame q) published
+          (subst (λ (f : List ℕ). MayLeave limits t.published p f q) frame
+          ((may_leave returns steps limits p q t foreign
+          (λ f force. s.sound.filters q f (ap (in_force q) (sym published) ∙ force))).0
+          (allowed_placed place t q foreign planned)));
+    }
+
+-- so each copy on a lane is: one event adds at most one
+pub copies_allowed : ReturnsLaw → StepsLaw → (limits : Bounds) (p q : ℕ) (done : List Event) → AreEvents done
+    → All (WasAllowed limits done p q) (placed_after limits p q done)
+copies_allowed returns steps limits p q [] events = All-nil (WasAllowed limits [] p q)
+copies_allowed returns steps limits p q (e ∷ done) events = with_event e (copies_allowed returns steps limits p q done events.1)
+  where
+    before : List FrameCopy
+    before = placed_after limits p q done
+
+    none_more : (e : Event) → All (WasAllowed limits done p q) before → (b : Bool) (x : PortEvent)
+        → placed_by (place_of limits p) q x (history_of p done) (length (waiting_after limits p q done)) ≡ []
+        → All (WasAllowed limits (e ∷ done) p q)
+        (lane_after (place_of limits p) q (cons_option (cond b (Some x) None) (history_of p done))).placed
+    none_more e ih false x none = All-weaker (WasAllowed limits done p q) (WasAllowed limits (e ∷ done) p q)
+        (λ c. later_allowed limits done p q e c) before ih
+    none_more e ih true x none = All-append (WasAllowed limits (e ∷ done) p q) before
+        (placed_by (place_of limits p) q x (history_of p done) (length (waiting_after limits p q done)))
+        (All-weaker (WasAllowed limits done p q) (WasAllowed limits (e ∷ done) p q) (λ c. later_allowed limits done p q e c)
+        before ih)
+        (subst (λ (xs : List FrameCopy). All (WasAllowed limits (e ∷ done) p q) xs) (sym none)
+        (All-nil (WasAllowed limits (e ∷ done) p q)))
+
+    stepped : (r : ℕ) → All (WasAllowed limits done p q) before → (b : Bool) → eqb p r ≡ b
+        → All (WasAllowed limits (Step r ∷ done) p q)
+        (lane_after (place_of limits p) q (cons_option (cond b (Some step_made) None) (history_of p done))).placed
+    stepped r ih false is = All-weaker (WasAllowed limits done p q) (WasAllowed limits (Step r ∷ done) p q)
+        (λ c. later_allowed limits done p q (Step r) c) before ih
+    stepped r ih true is =
+        let w = work_left (place_of limits p) (history_of p done) in
+        let room = ltb (length (waiting_after limits p q done)) limits.lane in
+        All-append (WasAllowed limits (Step r ∷ done) p q) before
+        (placed_by (place_of limits p) q step_made (history_of p done) (length (waiting_after limits p q done)))
+        (All-weaker (WasAllowed limits done p q) (WasAllowed limits (Step r ∷ done) p q)
+        (λ c. later_allowed limits done p q (Step r) c) before ih)
+        (if_placed (WasAllowed limits (Step r ∷ done) p q) (place_of limits p) (places_at q w && room)
+        (last_taking (history_of p done))
+        (λ t b last. let parts = and_parts (places_at q w) room b in
+        subst (λ n. WasAllowed limits (Step n ∷ done) p q (copy_of (place_of limits p) t)) (eqb-true p r is)
+        (allowed_now returns steps limits p q done t events.1 last parts.0)))
+
+    with_event : (e : Event) → All (WasAllowed limits done p q) before
+        → All (WasAllowed limits (e ∷ done) p q) (placed_after limits p q (e ∷ done))
+    with_event (Publish batch) ih = none_more (Publish batch) ih true (batch_published batch) refl
+    with_event (Take r frame) ih = none_more (Take r frame) ih (eqb p r) (frame_taken frame) refl
+    with_event (Send to from) ih = none_more (Send to from) ih (eqb p from) (copy_asked to) refl
+    with_event (Step r) ih = stepped r ih (eqb p r) refl

@@ -1,0 +1,177 @@
+-- A gateway stands after one more sending.
+use Rattle.std.proofs.Common.{get_or-set_same, get_or-set_other, length-append, inl, inr, ◌⊎◌, ◌^◌, ◌≡◌, ◌≢◌, ℕ, suc, zero, ◌+◌}
+use Rattle.std.proofs.Common.{◌-◌, ◌<◌, ◌≤◌, Bool, true, false, cond, eqb, leb, List, [], ◌∷◌, ◌++◌, length, reverse, Option}
+use Rattle.std.proofs.Common.{Some, None, Result, Ok, Err, refl, sym, ap, subst, ◌∙◌, arith, slice_index_or, drop, min}
+use Rattle.std.specs.Prelude.{slice_get, slice_set, slice_index, option_to_list, OnErr}
+use Rattle.std.proofs.lemmas.Bool.Decides.{nat_tests}
+use Rattle.std.specs.List.{cons_option}
+use Rattle.std.proofs.lemmas.Option.{slice_get_read}
+use Rattle.std.proofs.lemmas.Bool.{cases_eq}
+use Rattle.gw_policy.specs.Batches.{Pair}
+use Rattle.gw_ledger.specs.Bounds.{Bounds}
+use Rattle.gw_ledger.specs.declared.ledger.OutLedger.{OutLedger}
+use Rattle.gw_ledger.specs.declared.outcome.FrameCopy.{FrameCopy}
+use Rattle.gw_core.specs.LaneView.{LaneView}
+use Rattle.gw_core.specs.PortHistory.{PortEvent, frame_taken, step_made, copy_asked, Place, place_of, waiting, outcomes}
+use Rattle.gw_core.specs.PortHistory.{ledger_of, batches, lane_after}
+use Rattle.gw_core.specs.Events.{history_of, all_batches, accepted, refusal, step_refusal, sent_after, answer, step_answer}
+use Rattle.gw_core.specs.Events.{at_port, names_no_port, batch_of, take_refusal, first_waiting, ledger_after, waiting_after}
+use Rattle.gw_core.specs.declared.event.Event.{Event}
+use Rattle.gw_core.specs.declared.event.Event.TheVariants.{Publish, Take, Step, Send}
+use Rattle.gw_core.specs.declared.event.Answer.{Answer}
+use Rattle.gw_core.specs.declared.event.EventRefusal.{EventRefusal}
+use Rattle.gw_core.specs.declared.event.EventRefusal.TheVariants.{NoSuchPort, Idle}
+use Rattle.gw_core.specs.Standing.{Worker, WorkerStands, place, lane_of, lanes_sent, AnswersStep, AnswersTake, IsWorker, AreFound}
+use Rattle.gw_core.specs.Standing.{AreSound}
+use Rattle.gw_core.proofs.Sendings.{worker_sent, answers_send, some_wait, none_wait, send_here, send_there, sent_there, sent_one}
+use Rattle.gw_core.proofs.Sendings.{sent_none, next_count}
+use Rattle.gw_core.proofs.Publishings.{sound_published, found_published, worker_published}
+use Rattle.gw_core.specs.declared.active.PairPlace.{PairPlace}
+use Rattle.gw_core.specs.declared.event.Answer.TheVariants.{Published, Sent, Empty}
+use Rattle.std.proofs.lemmas.List.{reverse-append, length-reverse}
+use Rattle.gw_core.specs.Gateway.{PlacesWith, Gateway, IsGateway, StandsAt, Stands, WorkerAt, CoreAnswers}
+use Rattle.gw_core.proofs.Gateways.{lane_waits, front_of, get_set_same, get_set_other, length_set, same_some, accepts, refuses, set_same, with_worker, core_worker, same_batches, batches_of_port, stands_with, stands_at, core_lanes, read_ledger, read_waiting}
+
+-- the worker after a sending, which changes one lane
+sent_worker : (c : Gateway) (done : List Event) (to from : ℕ) (w w2 : Worker) → StandsAt c done
+    → slice_get c.workers from ≡ Some w → to < c.limits.ports → w2 ≡ record w { lanes = lanes_sent w to }
+    → WorkerStands c.batches w2 (copy_asked to ∷ history_of from done)
+sent_worker c done to from w w2 s at lt is =
+    let h = s.workers from w at in
+    subst (λ (x : Worker). WorkerStands c.batches x (copy_asked to ∷ history_of from done)) (sym is)
+    (worker_sent c.batches w (history_of from done) to h.stands (subst (λ (l : Bounds). to < l.ports) (sym h.limits) lt))
+
+-- a port found no copy to send
+pub stands_empty : (c : Gateway) (done : List Event) (to from : ℕ) (w w2 : Worker) → StandsAt c done
+    → slice_get c.workers from ≡ Some w → to < c.limits.ports → w2 ≡ record w { lanes = lanes_sent w to }
+    → (lane_of w to).waiting ≡ option_to_list None ++ drop 1 (lane_of w to).waiting
+    → StandsAt (with_worker c from w2) (Send to from ∷ done)
+stands_empty c done to from w w2 s at lt is first =
+    let none : length (waiting (place_of c.limits from) to (history_of from done))
+    ≡ 0 = ap length (sym (lane_waits c done to from w s at lt)) ∙ none_wait (lane_of w to).waiting first in
+    stands_at c done (Send to from) (copy_asked to) from w w2 refl (send_here to from) (λ q ne. send_there to from q ne)
+    (λ r q. count none r q (cases_eq r from) (cases_eq q to))
+    s at (sent_worker c done to from w w2 s at lt is) (ap (λ (x : Worker). x.limits) is) (ap (λ (x : Worker). x.own) is)
+  where
+    count : length (waiting (place_of c.limits from) to (history_of from done)) ≡ 0 → (r q : ℕ) → (r ≡ from) ⊎ (r ≡ from → ⊥)
+        → (q ≡ to) ⊎ (q ≡ to → ⊥)
+        → sent_after c.limits r q (Send to from ∷ done) ≡ sent_after c.limits r q done
+    count none r q (inl a) (inl b) =
+        subst (λ n. sent_after c.limits n q (Send to from ∷ done) ≡ sent_after c.limits n q done) (sym a)
+        (subst (λ m. sent_after c.limits from m (Send to from ∷ done) ≡ sent_after c.limits from m done) (sym b)
+        (sent_none c.limits to from done none))
+    count none r q (inl a) (inr b) = sent_there c.limits to from r q done (λ z. b)
+    count none r q (inr a) other = sent_there c.limits to from r q done (λ z. absurd (a z))
+
+-- a port sent a copy
+pub stands_sent : (c : Gateway) (done : List Event) (to from : ℕ) (w w2 : Worker) (o o2 : OutLedger) (copy : FrameCopy)
+    → StandsAt c done → slice_get c.workers from ≡ Some w → slice_get c.outs to ≡ Some o
+    → to < c.limits.ports → from < c.limits.ports → w2 ≡ record w { lanes = lanes_sent w to }
+    → (lane_of w to).waiting ≡ option_to_list (Some copy) ++ drop 1 (lane_of w to).waiting
+    → o2.sent ≡ slice_set o.sent from (min (slice_index o.sent from + 1) (2 ^ 64 - 1))
+    → StandsAt (record c { workers = slice_set c.workers from w2; outs = slice_set c.outs to o2 }) (Send to from ∷ done)
+stands_sent c done to from w w2 o o2 copy s at out lt own is first counts =
+    stands_with c done (Send to from) (copy_asked to) from w w2 (slice_set c.outs to o2) refl (send_here to from)
+    (λ q ne. send_there to from q ne)
+    s at (sent_worker c done to from w w2 s at lt is) (ap (λ (x : Worker). x.limits) is) (ap (λ (x : Worker). x.own) is)
+    (length_set c.outs to o2 ∙ s.senders)
+    (λ q p get. by_out q p (cases_eq q to) get)
+  where
+    some : 0 < length (waiting (place_of c.limits from) to (history_of from done))
+    some = subst (λ (xs : List FrameCopy). 0 < length xs) (lane_waits c done to from w s at lt)
+        (some_wait (lane_of w to).waiting copy first)
+
+    small : from < length o.sent
+    small = let k = (s.outs to o out).0 in let m = s.limits.most_ports in omega arith
+
+    new_count : (r : ℕ) → (r ≡ from) ⊎ (r ≡ from → ⊥)
+        → slice_index (slice_set o.sent from (min (slice_index o.sent from + 1) (2 ^ 64 - 1))) r
+        ≡ min (sent_after c.limits r to (Send to from ∷ done)) (2 ^ 64 - 1)
+    new_count r (inl same) =
+        subst (λ n. slice_index (slice_set o.sent from (min (slice_index o.sent from + 1) (2 ^ 64 - 1))) n ≡ min
+        (sent_after c.limits n to (Send to from ∷ done)) (2 ^ 64 - 1)) (sym same)
+        (get_or-set_same o.sent from (min (slice_index o.sent from + 1) (2 ^ 64 - 1)) 0 small
+        ∙ next_count (slice_index o.sent from) (sent_after c.limits from to done)
+        (sent_after c.limits from to (Send to from ∷ done)) ((s.outs to o out).1 from) (sent_one c.limits to from done some))
+    new_count r (inr other) =
+        get_or-set_other o.sent from r (min (slice_index o.sent from + 1) (2 ^ 64 - 1)) 0 other
+        ∙ (s.outs to o out).1 r ∙ ap (λ n. min n (2 ^ 64 - 1))
+        (sym (sent_there c.limits to from r to done (λ z. absurd (other z))))
+
+    by_out : (q : ℕ) (p : OutLedger) → (q ≡ to) ⊎ (q ≡ to → ⊥) → slice_get (slice_set c.outs to o2) q ≡ Some p
+        → (length p.sent ≡ 16) × ((r : ℕ) → slice_index p.sent r ≡ min (sent_after c.limits r q (Send to from ∷ done))
+        (2 ^ 64 - 1))
+    by_out q p (inl same) get =
+        let it : o2 ≡ p = same_some o2 p
+        (sym (get_set_same c.outs to o2 o out) ∙ ap (slice_get (slice_set c.outs to o2)) (sym same) ∙ get) in
+        subst (λ (x : OutLedger). (length x.sent ≡ 16) ×
+        ((r : ℕ) → slice_index x.sent r ≡ min (sent_after c.limits r q (Send to from ∷ done)) (2 ^ 64 - 1))) it
+        (subst (λ m. (length o2.sent ≡ 16) × ((r : ℕ) → slice_index o2.sent r ≡ min
+        (sent_after c.limits r m (Send to from ∷ done)) (2 ^ 64 - 1))) (sym same) (
+          ap length counts ∙ length_set o.sent from _ ∙ (s.outs to o out).0,
+          λ r. ap (λ xs. slice_index xs r) counts ∙ new_count r (cases_eq r from),
+        ))
+    by_out q p (inr other) get =
+        let old = s.outs q p (sym (get_set_other c.outs to q o2 (λ z. other (sym z))) ∙ get) in
+        (old.0, λ r. old.1 r ∙ ap (λ n. min n (2 ^ 64 - 1)) (sym (sent_there c.limits to from r q done (λ z. other))))
+
+-- a sending is not refused
+send_allowed : (limits : Bounds) (done : List Event) (to from : ℕ) → to < limits.ports → from < limits.ports → to ≢ from
+    → refusal limits done (Send to from) ≡ None
+send_allowed limits done to from lt own other =
+    let a : leb limits.ports to ≡ false = grind (arith, nat_tests) in
+    let b : leb limits.ports from ≡ false = grind (arith, nat_tests) in
+    let d : eqb to from ≡ false = grind (arith, nat_tests) in
+    rw (a, b, d) refl
+
+-- a sending is answered by the copy that waited first, or by Empty
+pub core_sent : (c : Gateway) (i j to from : ℕ) (w w2 : Worker) (o o2 : OutLedger) (copy : FrameCopy) → i ≡ from → j ≡ to
+    → to < c.limits.ports → from < c.limits.ports → to ≢ from
+    → w ≡ slice_index_or c.workers i w → o ≡ slice_index_or c.outs j o → w2 ≡ record w { lanes = lanes_sent w to }
+    → (lane_of w to).waiting ≡ option_to_list (Some copy) ++ drop 1 (lane_of w to).waiting
+    → o2.sent ≡ slice_set o.sent from (min (slice_index o.sent from + 1) (2 ^ 64 - 1))
+    → ((done : List Event) → StandsAt c done → StandsAt
+    (record c { workers = slice_set c.workers i w2; outs = slice_set c.outs j o2 }) (Send to from ∷ done))
+    × ((history : List Event) → Stands c history → CoreAnswers c (Send to from) (Ok (Sent copy))
+    (record c { workers = slice_set c.workers i w2; outs = slice_set c.outs j o2 }) history)
+core_sent c i j to from w w2 o o2 copy ii jj lt own other read out is first counts = (moved, λ history s. answered history s)
+  where
+    at : (done : List Event) → StandsAt c done → slice_get c.workers from ≡ Some w
+    at done s = slice_get_read c.workers c.limits.ports from w (sym s.ports) own
+        (read ∙ ap (λ n. slice_index_or c.workers n w) ii)
+
+    at_out : (done : List Event) → StandsAt c done → slice_get c.outs to ≡ Some o
+    at_out done s = slice_get_read c.outs c.limits.ports to o (sym s.senders) lt (out ∙ ap (λ n. slice_index_or c.outs n o) jj)
+
+    moved : (done : List Event) → StandsAt c done
+        → StandsAt (record c { workers = slice_set c.workers i w2; outs = slice_set c.outs j o2 }) (Send to from ∷ done)
+    moved done s =
+        subst (λ n. StandsAt (record c { workers = slice_set c.workers n w2; outs = slice_set c.outs j o2 })
+        (Send to from ∷ done)) (sym ii)
+        (subst (λ n. StandsAt (record c { workers = slice_set c.workers from w2; outs = slice_set c.outs n o2 })
+        (Send to from ∷ done)) (sym jj)
+        (stands_sent c done to from w w2 o o2 copy s (at done s) (at_out done s) lt own is first counts))
+
+    answered : (history : List Event) → Stands c history
+        → CoreAnswers c (Send to from) (Ok (Sent copy))
+        (record c { workers = slice_set c.workers i w2; outs = slice_set c.outs j o2 }) history
+    answered history s =
+        accepts c (record c { workers = slice_set c.workers i w2; outs = slice_set c.outs j o2 }) history (Send to from)
+        (Sent copy) (send_allowed c.limits (accepted c.limits history) to from lt own other)
+        (answers_send (lane_of w to).waiting (Some copy) first
+        ∙ ap first_waiting (lane_waits c (accepted c.limits history) to from w s (at (accepted c.limits history) s) lt))
+        refl (moved (accepted c.limits history) s)
+
+pub core_empty : (c : Gateway) (i to from : ℕ) (w w2 : Worker) → i ≡ from → to < c.limits.ports → from < c.limits.ports
+    → to ≢ from
+    → w ≡ slice_index_or c.workers i w → w2 ≡ record w { lanes = lanes_sent w to }
+    → (lane_of w to).waiting ≡ option_to_list None ++ drop 1 (lane_of w to).waiting
+    → (history : List Event) → Stands c history → CoreAnswers c (Send to from) (Ok Empty) (with_worker c i w2) history
+core_empty c i to from w w2 ii lt own other read is first history s =
+    let done = accepted c.limits history in
+    let at = slice_get_read c.workers c.limits.ports from w (sym s.ports) own
+    (read ∙ ap (λ n. slice_index_or c.workers n w) ii) in
+    subst (λ n. CoreAnswers c (Send to from) (Ok Empty) (with_worker c n w2) history) (sym ii)
+    (accepts c (with_worker c from w2) history (Send to from) Empty (send_allowed c.limits done to from lt own other)
+    (answers_send (lane_of w to).waiting None first ∙ ap first_waiting (lane_waits c done to from w s at lt))
+    refl (stands_empty c done to from w w2 s at lt is first))

@@ -1,0 +1,201 @@
+-- A gateway stands after one more step.
+use Rattle.std.proofs.Common.{get_or-set_same, get_or-set_other, length-append, inl, inr, ◌⊎◌, ◌^◌, ◌≡◌, ◌≢◌, ℕ, suc, zero, ◌+◌}
+use Rattle.std.proofs.Common.{◌-◌, ◌<◌, ◌≤◌, Bool, true, false, cond, eqb, leb, List, [], ◌∷◌, ◌++◌, length, reverse, Option}
+use Rattle.std.proofs.Common.{Some, None, Result, Ok, Err, refl, sym, ap, subst, ◌∙◌, arith, slice_index_or, drop, min}
+use Rattle.std.specs.Prelude.{slice_get, slice_set, slice_index, option_to_list, OnErr}
+use Rattle.std.proofs.lemmas.Bool.Decides.{nat_tests}
+use Rattle.std.specs.List.{cons_option}
+use Rattle.std.proofs.lemmas.Option.{slice_get_read}
+use Rattle.std.proofs.lemmas.Bool.{cases_eq}
+use Rattle.gw_policy.specs.Batches.{Pair}
+use Rattle.gw_ledger.specs.Bounds.{Bounds}
+use Rattle.gw_ledger.specs.declared.ledger.OutLedger.{OutLedger}
+use Rattle.gw_ledger.specs.declared.outcome.FrameCopy.{FrameCopy}
+use Rattle.gw_core.specs.LaneView.{LaneView}
+use Rattle.gw_core.specs.PortHistory.{PortEvent, frame_taken, step_made, copy_asked, Place, place_of, waiting, outcomes}
+use Rattle.gw_core.specs.PortHistory.{ledger_of, batches, lane_after}
+use Rattle.gw_core.specs.Events.{history_of, all_batches, accepted, refusal, step_refusal, sent_after, answer, step_answer}
+use Rattle.gw_core.specs.Events.{at_port, names_no_port, batch_of, take_refusal, first_waiting, ledger_after, waiting_after}
+use Rattle.gw_core.specs.declared.event.Event.{Event}
+use Rattle.gw_core.specs.declared.event.Event.TheVariants.{Publish, Take, Step, Send}
+use Rattle.gw_core.specs.declared.event.Answer.{Answer}
+use Rattle.gw_core.specs.declared.event.EventRefusal.{EventRefusal}
+use Rattle.gw_core.specs.declared.event.EventRefusal.TheVariants.{NoSuchPort, Idle}
+use Rattle.gw_core.specs.Standing.{Worker, WorkerStands, place, lane_of, lanes_sent, AnswersStep, AnswersTake, IsWorker, AreFound}
+use Rattle.gw_core.specs.Standing.{AreSound}
+use Rattle.gw_core.proofs.Sendings.{worker_sent, answers_send, some_wait, none_wait, send_here, send_there, sent_there, sent_one}
+use Rattle.gw_core.proofs.Sendings.{sent_none, next_count}
+use Rattle.gw_core.proofs.Publishings.{sound_published, found_published, worker_published}
+use Rattle.gw_core.specs.declared.active.PairPlace.{PairPlace}
+use Rattle.gw_core.specs.declared.event.Answer.TheVariants.{Published, Sent, Empty}
+use Rattle.std.proofs.lemmas.List.{reverse-append, length-reverse}
+use Rattle.gw_core.specs.Gateway.{PlacesWith, Gateway, IsGateway, StandsAt, Stands, WorkerAt, CoreAnswers}
+use Rattle.gw_core.proofs.Gateways.{get_set_same, get_set_other, length_set, same_some, accepts, refuses, set_same, with_worker, core_worker, same_batches, batches_of_port, stands_with, stands_at, core_lanes, read_ledger, read_waiting}
+
+-- the history of a port after an event of it, and of another
+history_here : (p : ℕ) (done : List Event) → history_of p (Step p ∷ done) ≡ step_made ∷ history_of p done
+history_here p done = let e : eqb p p ≡ true = grind (arith, nat_tests) in rw e
+
+history_there : (p q : ℕ) (done : List Event) → p ≢ q → history_of p (Step q ∷ done) ≡ history_of p done
+history_there p q done ne = let e : eqb p q ≡ false = grind (arith, nat_tests) in rw e
+
+-- a step of a port's worker sends nothing
+sent_same : (limits : Bounds) (p q r : ℕ) (done : List Event) → sent_after limits p q (Step r ∷ done) ≡ sent_after limits p q done
+sent_same limits p q r done = go (eqb p r)
+  where
+    go : (b : Bool) → (lane_after (place_of limits p) q (cons_option (cond b (Some step_made) None) (history_of p done))).sent
+        ≡ sent_after limits p q done
+    go true = refl
+    go false = refl
+
+-- a worker made a step
+pub stands_step : (c : Gateway) (done : List Event) (p : ℕ) (w w2 : Worker) (answer : Answer)
+    → StandsAt c done → slice_get c.workers p ≡ Some w → AnswersStep c.batches w (Some answer) w2 (history_of p done)
+    → w2.limits ≡ w.limits → w2.own ≡ w.own
+    → StandsAt (record c { workers = slice_set c.workers p w2 }) (Step p ∷ done)
+stands_step c done p w w2 answer s at answers limits own = record {
+  limits = s.limits;
+  batches = s.batches;
+  few = s.few;
+  sound = s.sound;
+  latest = s.latest;
+  ports = length_set c.workers p w2 ∙ s.ports;
+  workers = λ q v get. by_port q v (cases_eq p q) get;
+  senders = s.senders;
+  outs = λ q o get. (
+    (s.outs q o get).0,
+    λ r. (s.outs q o get).1 r ∙ ap (λ n. min n (2 ^ 64 - 1))
+        (sym (sent_same c.limits r q p done)),
+  );
+}
+  where
+    here : WorkerAt c done p w
+    here = s.workers p w at
+
+    by_port : (q : ℕ) (v : Worker) → (p ≡ q) ⊎ (p ≡ q → ⊥) → slice_get (slice_set c.workers p w2) q ≡ Some v
+        → WorkerAt (record c { workers = slice_set c.workers p w2 }) (Step p ∷ done) q v
+    by_port q v (inl same) get =
+        let is : w2 ≡ v = same_some w2 v
+        (sym (get_set_same c.workers p w2 w at) ∙ ap (slice_get (slice_set c.workers p w2)) same ∙ get) in
+        let stands : WorkerStands c.batches w2 (history_of p (Step p ∷ done)) = subst (WorkerStands c.batches w2)
+        (sym (history_here p done)) answers.2 in
+        subst (λ n. WorkerAt (record c { workers = slice_set c.workers p w2 }) (Step p ∷ done) n v) same
+        (subst (λ (x : Worker). WorkerAt (record c { workers = slice_set c.workers p w2 }) (Step p ∷ done) p x) is
+        (record { limits = limits ∙ here.limits; own = own ∙ here.own; stands = stands }))
+    by_port q v (inr other) get =
+        let old = s.workers q v (sym (get_set_other c.workers p q w2 other) ∙ get) in
+        record {
+          limits = old.limits;
+          own = old.own;
+          stands = subst (WorkerStands c.batches v)
+              (sym (history_there q p done (λ e. other (sym e)))) old.stands;
+        }
+
+-- a step at a port that is not there is refused
+pub step_no_port : (c : Gateway) (history : List Event) (p : ℕ) → Stands c history → c.limits.ports ≤ p
+    → CoreAnswers c (Step p) (Err NoSuchPort) c history
+step_no_port c history p s past =
+    let e : leb c.limits.ports p ≡ true = grind (arith, nat_tests) in
+    refuses c history (Step p) NoSuchPort (rw e) s
+
+-- the worker of a port that is there answers a step, or is idle
+pub step_answers : (c : Gateway) (history : List Event) (p : ℕ) (w w2 : Worker) (given : Answer)
+    → Stands c history → p < c.limits.ports → slice_get c.workers p ≡ Some w
+    → ((done : List PortEvent) → WorkerStands c.batches w done → AnswersStep c.batches w (Some given) w2 done)
+    → w2.limits ≡ w.limits → w2.own ≡ w.own
+    → CoreAnswers c (Step p) (Ok given) (record c { workers = slice_set c.workers p w2 }) history
+step_answers c history p w w2 given s within at answers limits own =
+    let done = accepted c.limits history in
+    let here = s.workers p w at in
+    let told = answers (history_of p done) here.stands in
+    let e : leb c.limits.ports p ≡ false = grind (arith, nat_tests) in
+    let same : place w ≡ place_of c.limits p = ap (λ (l : Bounds). place_of l w.own) here.limits
+    ∙ ap (place_of c.limits) here.own in
+    accepts c (record c { workers = slice_set c.workers p w2 }) history (Step p) given
+    (rw e (subst (λ (x : Place). step_refusal x (history_of p done) ≡ None) same told.0))
+    (subst (λ (x : Place). given ≡ step_answer x (history_of p done)) same told.1)
+    refl
+    (stands_step c done p w w2 given s at told limits own)
+
+-- and where it is idle nothing changes
+pub step_idle : (c : Gateway) (history : List Event) (p : ℕ) (w w2 : Worker)
+    → Stands c history → p < c.limits.ports → slice_get c.workers p ≡ Some w
+    → ((done : List PortEvent) → WorkerStands c.batches w done → AnswersStep c.batches w None w2 done)
+    → CoreAnswers c (Step p) (Err Idle) c history × (w2 ≡ w)
+step_idle c history p w w2 s within at answers =
+    let done = accepted c.limits history in
+    let here = s.workers p w at in
+    let told = answers (history_of p done) here.stands in
+    let e : leb c.limits.ports p ≡ false = grind (arith, nat_tests) in
+    let same : place w ≡ place_of c.limits p = ap (λ (l : Bounds). place_of l w.own) here.limits
+    ∙ ap (place_of c.limits) here.own in (
+      refuses c history (Step p) Idle
+          (rw e (subst (λ (x : Place). step_refusal x (history_of p done) ≡ Some Idle) same (no_none _ told.0))) s,
+      told.1,
+    )
+  where
+    no_none : (b : Bool) → (cond b None (Some Idle)) ≢ None → cond b None (Some Idle) ≡ Some Idle
+    no_none true ne = absurd (ne refl)
+    no_none false ne = refl
+
+-- what the machine answers where a worker made a step or has none to make
+abbrev pub to_result : Option Answer → Result Answer EventRefusal
+to_result (Some answer) = Ok answer
+to_result None = Err Idle
+
+-- what a worker makes of a step, whatever its history
+abbrev pub Makes : List (List Pair) → Worker → Option Answer → Worker → Type 0
+Makes all w given w2 = (done : List PortEvent) → WorkerStands all w done → AnswersStep all w given w2 done
+
+-- a worker without a frame stays, and so does the gateway
+unchanged : (c : Gateway) (done : List Event) (i : ℕ) (w w2 : Worker) → StandsAt c done → slice_get c.workers i ≡ Some w
+    → Makes c.batches w None w2 → with_worker c i w2 ≡ c
+unchanged c done i w w2 s at makes =
+    let told = makes (history_of i done) (s.workers i w at).stands in
+    ap (λ (xs : List Worker). record c { workers = xs })
+    (ap (λ (x : Worker). slice_set c.workers i x) told.1 ∙ set_same c.workers i w at)
+
+-- the two cases as one: the answer of the worker, or that it is idle
+by_given : (c : Gateway) (p : ℕ) (w w2 : Worker) (given : Option Answer) → p < c.limits.ports → Makes c.batches w given w2
+    → w2.limits ≡ w.limits → w2.own ≡ w.own
+    → (history : List Event) → Stands c history → slice_get c.workers p ≡ Some w
+    → CoreAnswers c (Step p) (to_result given) (with_worker c p w2) history
+by_given c p w w2 (Some answer) within makes limits own history s at = step_answers c history p w w2 answer s within at makes
+    limits own
+by_given c p w w2 None within makes limits own history s at =
+    subst (λ (x : Gateway). CoreAnswers c (Step p) (Err Idle) x history)
+    (sym (unchanged c (accepted c.limits history) p w w2 s at makes))
+    (step_idle c history p w w2 s within at makes).0
+
+-- what a step answers, as the machine finds its worker
+pub core_step : (c : Gateway) (all : List (List Pair)) (i p : ℕ) (w w2 : Worker) (given : Option Answer) → all ≡ c.batches → i ≡ p
+    → p < c.limits.ports → w ≡ slice_index_or c.workers i w
+    → Makes all w given w2 → w2.limits ≡ w.limits → w2.own ≡ w.own
+    → (history : List Event) → Stands c history → CoreAnswers c (Step p) (to_result given) (with_worker c i w2) history
+core_step c all i p w w2 given same at within read makes limits own history s =
+    subst (λ n. CoreAnswers c (Step p) (to_result given) (with_worker c n w2) history) (sym at)
+    (by_given c p w w2 given within (subst (λ x. Makes x w given w2) same makes) limits own history s
+    (slice_get_read c.workers c.limits.ports p w (sym s.ports) within (read ∙ ap (λ n. slice_index_or c.workers n w) at)))
+
+-- some history leads to the gateway after it too
+stays_gateway : (c : Gateway) (p : ℕ) (w w2 : Worker) (given : Option Answer) → Makes c.batches w given w2 → w2.limits ≡ w.limits
+    → w2.own ≡ w.own
+    → (done : List Event) → StandsAt c done → slice_get c.workers p ≡ Some w → IsGateway (with_worker c p w2)
+stays_gateway c p w w2 (Some answer) makes limits own done s at =
+    (Step p ∷ done, stands_step c done p w w2 answer s at (makes (history_of p done) (s.workers p w at).stands) limits own)
+stays_gateway c p w w2 None makes limits own done s at =
+    (done, subst (λ (x : Gateway). StandsAt x done) (sym (unchanged c done p w w2 s at makes)) s)
+
+pub core_step_stays : (c : Gateway) (all : List (List Pair)) (i : ℕ) (w w2 : Worker) (given : Option Answer) → all ≡ c.batches
+    → i < c.limits.ports → w ≡ slice_index_or c.workers i w
+    → Makes all w given w2 → w2.limits ≡ w.limits → w2.own ≡ w.own → IsGateway c → IsGateway (with_worker c i w2)
+core_step_stays c all i w w2 given same within read makes limits own g =
+    stays_gateway c i w w2 given (subst (λ x. Makes x w given w2) same makes) limits own g.0 g.1
+    (slice_get_read c.workers c.limits.ports i w (sym g.1.ports) within read)
+
+pub core_step_same : (c : Gateway) (all : List (List Pair)) (i : ℕ) (w w2 : Worker) → all ≡ c.batches → i < c.limits.ports
+    → w ≡ slice_index_or c.workers i w
+    → Makes all w None w2 → IsGateway c → with_worker c i w2 ≡ c
+core_step_same c all i w w2 same within read makes g =
+    unchanged c g.0 i w w2 g.1 (slice_get_read c.workers c.limits.ports i w (sym g.1.ports) within read)
+    (subst (λ x. Makes x w None w2) same makes)

@@ -1,0 +1,132 @@
+-- A gateway stands after one more frame.
+use Rattle.std.proofs.Common.{get_or-set_same, get_or-set_other, length-append, inl, inr, ◌⊎◌, ◌^◌, ◌≡◌, ◌≢◌, ℕ, suc, zero, ◌+◌}
+use Rattle.std.proofs.Common.{◌-◌, ◌<◌, ◌≤◌, Bool, true, false, cond, eqb, leb, List, [], ◌∷◌, ◌++◌, length, reverse, Option}
+use Rattle.std.proofs.Common.{Some, None, Result, Ok, Err, refl, sym, ap, subst, ◌∙◌, arith, slice_index_or, drop, min}
+use Rattle.std.specs.Prelude.{slice_get, slice_set, slice_index, option_to_list, OnErr}
+use Rattle.std.proofs.lemmas.Bool.Decides.{nat_tests}
+use Rattle.std.specs.List.{cons_option}
+use Rattle.std.proofs.lemmas.Option.{slice_get_read}
+use Rattle.std.proofs.lemmas.Bool.{cases_eq}
+use Rattle.gw_policy.specs.Batches.{Pair}
+use Rattle.gw_ledger.specs.Bounds.{Bounds}
+use Rattle.gw_ledger.specs.declared.ledger.OutLedger.{OutLedger}
+use Rattle.gw_ledger.specs.declared.outcome.FrameCopy.{FrameCopy}
+use Rattle.gw_core.specs.LaneView.{LaneView}
+use Rattle.gw_core.specs.PortHistory.{PortEvent, frame_taken, step_made, copy_asked, Place, place_of, waiting, outcomes}
+use Rattle.gw_core.specs.PortHistory.{ledger_of, batches, lane_after}
+use Rattle.gw_core.specs.Events.{history_of, all_batches, accepted, refusal, step_refusal, sent_after, answer, step_answer}
+use Rattle.gw_core.specs.Events.{at_port, names_no_port, batch_of, take_refusal, first_waiting, ledger_after, waiting_after}
+use Rattle.gw_core.specs.declared.event.Event.{Event}
+use Rattle.gw_core.specs.declared.event.Event.TheVariants.{Publish, Take, Step, Send}
+use Rattle.gw_core.specs.declared.event.Answer.{Answer}
+use Rattle.gw_core.specs.declared.event.EventRefusal.{EventRefusal}
+use Rattle.gw_core.specs.declared.event.EventRefusal.TheVariants.{NoSuchPort, Idle}
+use Rattle.gw_core.specs.Standing.{Worker, WorkerStands, place, lane_of, lanes_sent, AnswersStep, AnswersTake, IsWorker, AreFound}
+use Rattle.gw_core.specs.Standing.{AreSound}
+use Rattle.gw_core.proofs.Sendings.{worker_sent, answers_send, some_wait, none_wait, send_here, send_there, sent_there, sent_one}
+use Rattle.gw_core.proofs.Sendings.{sent_none, next_count}
+use Rattle.gw_core.proofs.Publishings.{sound_published, found_published, worker_published}
+use Rattle.gw_core.specs.declared.active.PairPlace.{PairPlace}
+use Rattle.gw_core.specs.declared.event.Answer.TheVariants.{Published, Sent, Empty}
+use Rattle.std.proofs.lemmas.List.{reverse-append, length-reverse}
+use Rattle.gw_core.specs.Gateway.{PlacesWith, Gateway, IsGateway, StandsAt, Stands, WorkerAt, CoreAnswers}
+use Rattle.gw_core.proofs.Gateways.{lane_waits, front_of, get_set_same, get_set_other, length_set, same_some, accepts, refuses, set_same, with_worker, core_worker, same_batches, batches_of_port, stands_with, stands_at, core_lanes, read_ledger, read_waiting}
+
+-- a taking is an event of its own port alone, and sends nothing
+take_here : (p : ℕ) (frame : List ℕ) → at_port p (Take p frame) ≡ Some (frame_taken frame)
+take_here p frame = let e : eqb p p ≡ true = grind (arith, nat_tests) in rw e
+
+take_there : (p q : ℕ) (frame : List ℕ) → q ≢ p → at_port q (Take p frame) ≡ None
+take_there p q frame ne = let e : eqb q p ≡ false = grind (arith, nat_tests) in rw e
+
+take_sent : (limits : Bounds) (r q p : ℕ) (frame : List ℕ) (done : List Event)
+    → sent_after limits r q (Take p frame ∷ done) ≡ sent_after limits r q done
+take_sent limits r q p frame done = go (eqb r p)
+  where
+    go : (b : Bool) → (lane_after (place_of limits r) q
+        (cons_option (cond b (Some (frame_taken frame)) None) (history_of r done))).sent ≡ sent_after limits r q done
+    go true = refl
+    go false = refl
+
+-- a worker is offered a frame
+abbrev pub TakesAs : Worker → Result Answer EventRefusal → Worker → List ℕ → List (Option PairPlace) → ℕ → Type 0
+TakesAs w given w2 frame latest front = (all : List (List Pair)) (done : List PortEvent) → WorkerStands all w done
+    → AreFound all latest (batches done) → front ≡ length (batches done)
+    → AnswersTake all w given w2 done frame
+
+-- what the worker answers for the history of its port, and what the gateway answers for its own
+told_take : (c : Gateway) (p : ℕ) (w w2 : Worker) (given : Result Answer EventRefusal) (frame : List ℕ) (front : ℕ)
+    → TakesAs w given w2 frame c.latest front → front ≡ length c.batches
+    → (done : List Event) → StandsAt c done → slice_get c.workers p ≡ Some w
+    → AnswersTake c.batches w given w2 (history_of p done) frame
+told_take c p w w2 given frame front makes fronts done s at =
+    makes c.batches (history_of p done) (s.workers p w at).stands
+    (subst (AreFound c.batches c.latest) (sym (batches_of_port p done)) s.latest)
+    (fronts ∙ sym (front_of c done s) ∙ ap length (sym (batches_of_port p done)))
+
+taken_by : (c : Gateway) (p : ℕ) (w w2 : Worker) (given : Result Answer EventRefusal) (frame : List ℕ) (front : ℕ)
+    → p < c.limits.ports → TakesAs w given w2 frame c.latest front
+    → front ≡ length c.batches → w2.limits ≡ w.limits → w2.own ≡ w.own → (history : List Event) → Stands c history
+    → slice_get c.workers p ≡ Some w
+    → CoreAnswers c (Take p frame) given (with_worker c p w2) history
+taken_by c p w w2 (Ok answer) frame front within makes fronts limits own history s at =
+    let done = accepted c.limits history in
+    let here = s.workers p w at in
+    let told = told_take c p w w2 (Ok answer) frame front makes fronts done s at in
+    let e : leb c.limits.ports p ≡ false = grind (arith, nat_tests) in
+    let allowed : take_refusal c.limits (place_of c.limits p) (history_of p done) ≡ None =
+    subst (λ n. take_refusal c.limits (place_of c.limits n) (history_of p done) ≡ None) here.own
+    (subst (λ (l : Bounds). take_refusal l (place_of l w.own) (history_of p done) ≡ None) here.limits told.0) in
+    accepts c (with_worker c p w2) history (Take p frame) answer (rw e allowed) told.1 refl
+    (stands_at c done (Take p frame) (frame_taken frame) p w w2 refl (take_here p frame) (λ q ne. take_there p q frame ne)
+    (λ r q. take_sent c.limits r q p frame done) s at told.2 limits own)
+taken_by c p w w2 (Err why) frame front within makes fronts limits own history s at =
+    let done = accepted c.limits history in
+    let here = s.workers p w at in
+    let told = told_take c p w w2 (Err why) frame front makes fronts done s at in
+    let e : leb c.limits.ports p ≡ false = grind (arith, nat_tests) in
+    let refused : take_refusal c.limits (place_of c.limits p) (history_of p done) ≡ Some why =
+    subst (λ n. take_refusal c.limits (place_of c.limits n) (history_of p done) ≡ Some why) here.own
+    (subst (λ (l : Bounds). take_refusal l (place_of l w.own) (history_of p done) ≡ Some why) here.limits told.0) in
+    subst (λ (x : Gateway). CoreAnswers c (Take p frame) (Err why) x history) (sym (as_it_was c p w w2 at told.1))
+    (refuses c history (Take p frame) why (rw e refused) s)
+  where
+    as_it_was : (c : Gateway) (p : ℕ) (w w2 : Worker) → slice_get c.workers p ≡ Some w → w2 ≡ w → with_worker c p w2 ≡ c
+    as_it_was c p w w2 at same = ap (λ (xs : List Worker). record c { workers = xs })
+        (ap (λ (x : Worker). slice_set c.workers p x) same ∙ set_same c.workers p w at)
+
+-- what a taking answers, as the machine finds its worker
+pub core_take : (c : Gateway) (i p : ℕ) (w w2 : Worker) (given : Result Answer EventRefusal) (frame : List ℕ) (front : ℕ) → i ≡ p
+    → p < c.limits.ports → w ≡ slice_index_or c.workers i w
+    → TakesAs w given w2 frame c.latest front → front ≡ length c.batches → w2.limits ≡ w.limits → w2.own ≡ w.own
+    → (history : List Event) → Stands c history → CoreAnswers c (Take p frame) given (with_worker c i w2) history
+core_take c i p w w2 given frame front at within read makes fronts limits own history s =
+    subst (λ n. CoreAnswers c (Take p frame) given (with_worker c n w2) history) (sym at)
+    (taken_by c p w w2 given frame front within makes fronts limits own history s
+    (slice_get_read c.workers c.limits.ports p w (sym s.ports) within (read ∙ ap (λ n. slice_index_or c.workers n w) at)))
+
+-- some history leads to the gateway after it, which is the same where it is refused
+pub core_take_stays : (c : Gateway) (i : ℕ) (w w2 : Worker) (given : Result Answer EventRefusal) (frame : List ℕ) (front : ℕ)
+    → i < c.limits.ports → w ≡ slice_index_or c.workers i w
+    → TakesAs w given w2 frame c.latest front → front ≡ length c.batches → w2.limits ≡ w.limits → w2.own ≡ w.own → IsGateway c
+    → IsGateway (with_worker c i w2) × OnErr given (with_worker c i w2 ≡ c)
+core_take_stays c i w w2 given frame front within read makes fronts limits own g = go given
+    (told_take c i w w2 given frame front makes fronts g.0 g.1 at)
+  where
+    at : slice_get c.workers i ≡ Some w
+    at = slice_get_read c.workers c.limits.ports i w (sym g.1.ports) within read
+
+    go : (r : Result Answer EventRefusal) → AnswersTake c.batches w r w2 (history_of i g.0) frame
+        → IsGateway (with_worker c i w2) × OnErr r (with_worker c i w2 ≡ c)
+    go (Ok answer) told = (
+      (
+        Take i frame ∷ g.0,
+        stands_at c g.0 (Take i frame) (frame_taken frame) i w w2 refl (take_here i frame) (λ q ne. take_there i q frame ne)
+            (λ r q. take_sent c.limits r q i frame g.0) g.1 at told.2 limits own,
+      ),
+      tt,
+    )
+    go (Err why) told =
+        let e : with_worker c i w2 ≡ c = ap (λ (xs : List Worker). record c { workers = xs })
+        (ap (λ (x : Worker). slice_set c.workers i x) told.1 ∙ set_same c.workers i w at) in
+        ((g.0, subst (λ (x : Gateway). StandsAt x g.0) (sym e) g.1), e)

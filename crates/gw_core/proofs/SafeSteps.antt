@@ -1,0 +1,181 @@
+-- Each instruction that a step makes is one of accepted code, at which the machine stands safely.
+use Rattle.std.proofs.Common.{◌≡◌, ◌≢◌, ℕ, suc, zero, ◌+◌, ◌-◌, ◌<◌, ◌≤◌, Bool, true, false, not, cond, eqb, List, [], ◌∷◌, ◌++◌}
+use Rattle.std.proofs.Common.{length, drop, map, Option, Some, None, refl, sym, ap, subst, ◌∙◌, arith, ⊎_elim}
+use Rattle.std.specs.Prelude.{MatchOption}
+use Rattle.std.specs.List.{filter, flat_map, range_with_len}
+use Rattle.std.proofs.lemmas.Bool.Decides.{nat_tests}
+use Rattle.std.proofs.lemmas.Bool.{cases_eq}
+use Rattle.gw_insn.specs.declared.insn.Insn.{Insn}
+use Rattle.gw_verify.specs.Flow.{program_forms}
+use Rattle.gw_verify.specs.Accepted.{IsAccepted}
+use Rattle.gw_machine.specs.Machine.{Machine, Outcome, Goes, Ends}
+use Rattle.gw_machine.specs.Answers.{answer_of, steps_of}
+use Rattle.gw_machine.specs.Runs.{Reaches, at_start, after, IsStep, IsRunning, LoadsAreStored}
+use Rattle.gw_policy.specs.Filter.{Filter, IsFilter}
+use Rattle.gw_policy.specs.Batches.{Pair, in_force, steps}
+use Rattle.gw_ledger.specs.Bounds.{Bounds}
+use Rattle.gw_core.specs.PortHistory.{PortEvent, Place, place_of, Taking, Work, instruction, placing, placing_if}
+use Rattle.gw_core.specs.PortHistory.{instructions_from, steps_at, is_allowed, work_for, work_from, work, work_left, last_taking}
+use Rattle.gw_core.specs.PortHistory.{steps_since, heard}
+use Rattle.gw_core.specs.Events.{history_of, all_batches}
+use Rattle.gw_core.specs.Safety.{RunsInside, MakesNext, IsSafeStep}
+use Rattle.gw_core.specs.declared.event.Event.{Event}
+use Rattle.gw_core.proofs.Stand.{StepsLaw}
+use Rattle.gw_core.proofs.Targets.{ReturnsLaw}
+use Rattle.gw_core.proofs.Gateways.{batches_of_port}
+use Rattle.gw_core.proofs.Since.{AreEvents, since, newest_taken, left_of}
+use Rattle.gw_core.proofs.Forwarding.{is_foreign}
+
+-- what accepted code says of its running machines
+abbrev pub LoadsLaw : Type 0
+LoadsLaw = (code : List Insn) (octets : List ℕ) (port : ℕ) → IsAccepted (program_forms code) → LoadsAreStored code octets port
+
+abbrev pub PlacesLaw : Type 0
+PlacesLaw = (code : List Insn) (octets : List ℕ) (port : ℕ) → IsAccepted (program_forms code) → (m : Machine)
+    → IsRunning code octets port m → m.place < length code
+
+-- a machine that n steps lead to, and what its next step leads to
+pub record RunsOn (code : List Insn) (octets : List ℕ) (port n : ℕ) : Type 0 where
+  pub machine : Machine
+  pub reached : Reaches code octets port n machine
+  pub out : Outcome
+  pub steps : IsStep code octets port machine out
+
+-- each machine on the way to one that has a step has one too
+on_the_way : (code : List Insn) (octets : List ℕ) (port : ℕ) {b : ℕ} {m : Machine} (out : Outcome) → Reaches code octets port b m
+    → IsStep code octets port m out
+    → (n : ℕ) → n ≤ b → RunsOn code octets port n
+on_the_way code octets port out at_start step n le =
+    let here : n ≡ 0 = omega arith in
+    subst (λ k. RunsOn code octets port k) (sym here) (record { machine = _; reached = at_start; out = out; steps = step })
+on_the_way code octets port out (after {n = b} {m = m} {m' = m'} reached goes) step n le = ⊎_elim
+    (λ (last : n ≡ suc b). subst (λ k. RunsOn code octets port k) (sym last)
+    (record { machine = m'; reached = after reached goes; out = out; steps = step }))
+    (λ (before : n ≢ suc b). on_the_way code octets port (Goes m') reached goes n (omega arith))
+    (cases_eq n (suc b))
+
+-- accepted code is at a safe instruction after each number of steps that is below its own
+runs_inside : ReturnsLaw → StepsLaw → LoadsLaw → PlacesLaw → (code : List Insn) (frame : List ℕ) (p n : ℕ)
+    → IsAccepted (program_forms code)
+    → n < steps_of code frame p → RunsInside code frame p n
+runs_inside returns few loads places code frame p n ok lt =
+    let answer = (returns code frame p (answer_of code frame p) (steps_of code frame p) ok).1 (refl, refl) in
+    let before = answer.0 in
+    let total : steps_of code frame p ≡ suc before = answer.4 in
+    let way = on_the_way code frame p (Ends (answer_of code frame p)) answer.2 answer.3 n (omega arith) in
+    let most = (few code frame p ok).1 in
+    record {
+      accepted = ok;
+      machine = way.machine;
+      reached = way.reached;
+      inside = places code frame p ok way.machine (n, way.reached);
+      stored = λ insn word here loaded. loads code frame p ok way.machine insn word (n, way.reached) here loaded;
+      out = way.out;
+      steps = way.steps;
+      within = omega arith;
+    }
+
+-- each instruction among the work is for another port of the gateway, and one of those that its policy makes
+abbrev pub AreDue : Place → Taking → List Work → Type 0
+AreDue place t [] = Unit {0}
+AreDue place t (placing _ ∷ rest) = AreDue place t rest
+AreDue place t (instruction q n ∷ rest) = ((q < place.ports) × (q ≢ place.own) × (n < steps_at place t q)) × AreDue place t rest
+
+-- work in two parts, and what is left of it
+due-append : (place : Place) (t : Taking) (xs ys : List Work) → AreDue place t xs → AreDue place t ys → AreDue place t (xs ++ ys)
+due-append place t [] ys a b = b
+due-append place t (placing q ∷ xs) ys a b = due-append place t xs ys a b
+due-append place t (instruction q n ∷ xs) ys a b = (a.0, due-append place t xs ys a.1 b)
+
+due-drop : (place : Place) (t : Taking) (k : ℕ) (xs : List Work) → AreDue place t xs → AreDue place t (drop k xs)
+due-drop place t zero xs a = a
+due-drop place t (suc k) [] a = tt
+due-drop place t (suc k) (placing q ∷ xs) a = due-drop place t k xs a
+due-drop place t (suc k) (instruction q n ∷ xs) a = due-drop place t k xs a.1
+
+-- the instructions for a port that is offered are due, and so are those of all ports
+due_instructions : (place : Place) (t : Taking) (q : ℕ) → q < place.ports → q ≢ place.own → (n k : ℕ) → n + k ≤ steps_at place t q
+    → AreDue place t (map (instruction q) (range_with_len n k))
+due_instructions place t q there other n zero le = tt
+due_instructions place t q there other n (suc k) le =
+    ((there, other, omega arith), due_instructions place t q there other (n + 1) k (omega arith))
+
+due_for : (place : Place) (t : Taking) (q : ℕ) → q < place.ports → q ≢ place.own → AreDue place t (work_for place t q)
+due_for place t q there other = due-append place t (instructions_from place t q 0) (placing_if (is_allowed place t q) q)
+    (due_instructions place t q there other 0 (steps_at place t q - 0) (omega arith)) (go (is_allowed place t q))
+  where
+    go : (b : Bool) → AreDue place t (placing_if b q)
+    go true = tt
+    go false = tt
+
+due_range : (place : Place) (t : Taking) (from n : ℕ) → from + n ≤ place.ports
+    → AreDue place t (flat_map (work_for place t) (filter (λ r. not (eqb r place.own)) (range_with_len from n)))
+due_range place t from zero le = tt
+due_range place t from (suc n) le = go (eqb from place.own) refl (due_range place t (from + 1) n (omega arith))
+  where
+    offered : List ℕ
+    offered = filter (λ r. not (eqb r place.own)) (range_with_len (from + 1) n)
+
+    go : (b : Bool) → eqb from place.own ≡ b → AreDue place t (flat_map (work_for place t) offered)
+        → AreDue place t (flat_map (work_for place t) (cond (not b) (from ∷ offered) offered))
+    go true is h = h
+    go false is h =
+        let other : from ≢ place.own = grind (arith, nat_tests) in
+        due-append place t (work_for place t from) (flat_map (work_for place t) offered)
+        (due_for place t from (omega arith) other) h
+
+-- so is what is left of the last frame's work
+due_left : (place : Place) (own : List PortEvent) (t : Taking) → last_taking own ≡ Some t → AreDue place t (work_left place own)
+due_left place own t e = subst (AreDue place t) (sym (left_of place own t e))
+    (due-drop place t (steps_since own) (work place t) (whole t.local))
+  where
+    whole : (b : Bool) → AreDue place t (cond b [] (work_from place t 0))
+    whole true = tt
+    whole false = due_range place t 0 (place.ports - 0) (omega arith)
+
+-- the frame that has work was taken
+taken_of : (place : Place) (own : List PortEvent) (piece : Work) (rest : List Work) → work_left place own ≡ piece ∷ rest
+    → (t : Taking) × (last_taking own ≡ Some t)
+taken_of place own piece rest left = go (last_taking own) refl
+  where
+    none : last_taking own ≡ None → work_left place own ≡ []
+    none e = rw e refl
+
+    go : (o : Option Taking) → last_taking own ≡ o → (t : Taking) × (last_taking own ≡ Some t)
+    go None e = let empty = none e in let never : [] ≡ piece ∷ rest = sym empty ∙ left in cc
+    go (Some t) e = (t, e)
+
+-- an instruction that is made next is a safe step
+pub safe_step : ReturnsLaw → StepsLaw → LoadsLaw → PlacesLaw → (limits : Bounds) (done : List Event) (p q n : ℕ) → AreEvents done
+    → MakesNext limits done p q n
+    → IsSafeStep limits done p q n
+safe_step returns few loads places limits done p q n events next =
+    let place = place_of limits p in
+    let own = history_of p done in
+    let taken = taken_of place own (instruction q n) next.0 next.1 in
+    let t = taken.0 in
+    let s = since limits p done t events taken.1 in
+    let due : AreDue place t (instruction q n ∷ next.0) = subst (AreDue place t) next.1 (due_left place own t taken.1) in
+    let published : t.published ≡ all_batches s.earlier = ap (λ (x : Taking). x.published) s.same ∙ batches_of_port p s.earlier in
+    let frame : t.frame ≡ s.frame = ap (λ (x : Taking). x.frame) s.same in
+    let fewer : n < steps (in_force q (all_batches s.earlier)) s.frame p =
+    subst (λ (b : List (List Pair)). n < steps (in_force q b) s.frame p) published
+    (subst (λ (f : List ℕ). n < steps (in_force q t.published) f p) frame due.0.2) in
+    record {
+      frame = s.frame;
+      earlier = s.earlier;
+      later = s.later;
+      taken = s.order;
+      newest = newest_taken limits p done t s taken.1;
+      there = due.0.0;
+      other = due.0.1;
+      few = fewer;
+      runs = by_policy s.frame (in_force q (all_batches s.earlier)) (λ f force. s.sound.filters q f force) fewer;
+    }
+  where
+    by_policy : (frame : List ℕ) (policy : Option Filter) → ((f : Filter) → policy ≡ Some f → IsFilter f)
+        → n < steps policy frame p
+        → MatchOption policy (n ≡ 0) (λ filter. RunsInside filter.code frame p n)
+    by_policy frame None sound lt = omega arith
+    by_policy frame (Some filter) sound lt = runs_inside returns few loads places filter.code frame p n
+        (sound filter refl).accepted lt

@@ -1,0 +1,254 @@
+//! The event machine.
+
+ghost use Rattle.std.specs.Prelude.{◌≡◌, ℕ, ◌<◌, ◌≤◌, List, [], ◌∷◌, length, IfOk, IfErr, OnErr, slice_index};
+ghost use Rattle.gw_core.specs.Gateway.{Stands, CoreAnswers};
+ghost use Rattle.gw_core.specs.Events.{accepted, ledger_after, waiting_after, sent_after};
+ghost use Rattle.gw_core.specs.declared.event.Event.{Event};
+
+use crate::active::{PairPlace, PairPlaces};
+use crate::event::{Answer, Event, EventRefusal};
+use crate::refusal::OutOfMemory;
+use crate::worker::Worker;
+use gw_frame::Frame;
+use gw_ledger::{InLedger, Limits, OutLedger};
+use gw_policy::Batch;
+use std::alloc::{AllocError, Global};
+use std::marker::Model;
+
+/// A gateway as one machine, whose events are the single steps of its actors: the operator, the ports' workers and the
+/// senders. What it holds after any list of events is what the definitions give for that list.
+#[derive(Drop)]
+pub struct Core {
+    limits: Limits,
+    batches: Vec<Batch>,
+    // where the policies in force stand
+    latest: PairPlaces,
+    workers: Vec<Worker>,
+    outs: Vec<OutLedger>,
+}
+
+impl Model for Core {
+    ghost use Rattle.std.specs.Prelude.{◌≡◌, ◌≤◌};
+    ghost use Rattle.std.specs.Vec.{vec_capacity};
+    ghost use Rattle.gw_core.specs.Gateway.{Gateway, IsGateway};
+
+    ghost Value = { Gateway };
+
+    ghost view = { λ c. record {
+      limits = c.limits;
+      batches = c.batches.items;
+      latest = c.latest;
+      workers = c.workers.items;
+      outs = c.outs.items;
+    } };
+
+    ghost invariant = { λ c. (c.limits.versions ≤ vec_capacity c.batches)
+        × IsGateway (record {
+          limits = c.limits;
+          batches = c.batches.items;
+          latest = c.latest;
+          workers = c.workers.items;
+          outs = c.outs.items;
+        }) };
+}
+
+impl Core {
+    /// A gateway before any event, with all the memory that its events will need: room for as many batches as may be
+    /// published, and for the copies of each lane.
+    pub fn new(alloc: Global, limits: Limits) -> Result<Core, OutOfMemory>
+        ensures limits { IfOk result (λ core. core.limits ≡ limits) }
+        ensures stands { IfOk result (λ core. Stands core []) }
+    {
+        match parts(alloc, limits) {
+            Ok(core) => Ok(core),
+            Err(_) => Err(OutOfMemory),
+        }
+    }
+
+    /// Does one event, or refuses it (72 to 76, the first that holds) and changes nothing. It takes no memory. A refused
+    /// batch is dropped.
+    pub fn event(&mut self, event: Event) -> Result<Answer, EventRefusal>
+        ensures answers { (history : List Event) → Stands self.old history
+            → CoreAnswers self.old event result self.new history }
+        ensures refused { OnErr result (self.new ≡ self.old) }
+        ensures limits { self.new.limits ≡ self.old.limits }
+    {
+        match event {
+            Event::Publish(batch) => self.publish(batch),
+            Event::Take(port, frame) => self.take(port, frame),
+            Event::Step(port) => self.step(port),
+            Event::Send { to, from } => self.send(to, from),
+        }
+    }
+
+    fn step(&mut self, port: u8) -> Result<Answer, EventRefusal>
+        ensures answers { (history : List Event) → Stands self.old history
+            → CoreAnswers self.old (Event.Step port) result self.new history }
+        ensures refused { OnErr result (self.new ≡ self.old) }
+        ensures limits { self.new.limits ≡ self.old.limits }
+    {
+        if u32::from(port) >= self.limits.ports() {
+            return Err(EventRefusal::NoSuchPort);
+        }
+        match self.workers[usize::from(port)].step(&self.batches) {
+            Some(answer) => Ok(answer),
+            None => Err(EventRefusal::Idle),
+        }
+    }
+
+    fn take(&mut self, port: u8, frame: Frame) -> Result<Answer, EventRefusal>
+        ensures answers { (history : List Event) → Stands self.old history
+            → CoreAnswers self.old (Event.Take port frame) result self.new history }
+        ensures refused { OnErr result (self.new ≡ self.old) }
+        ensures limits { self.new.limits ≡ self.old.limits }
+    {
+        if u32::from(port) >= self.limits.ports() {
+            return Err(EventRefusal::NoSuchPort);
+        }
+        let front = self.batches.len() as u32;
+        self.workers[usize::from(port)].take(frame, &self.latest, front)
+    }
+
+    fn send(&mut self, to: u8, from: u8) -> Result<Answer, EventRefusal>
+        ensures answers { (history : List Event) → Stands self.old history
+            → CoreAnswers self.old (Event.Send to from) result self.new history }
+        ensures refused { OnErr result (self.new ≡ self.old) }
+        ensures limits { self.new.limits ≡ self.old.limits }
+    {
+        let ports = self.limits.ports();
+        if u32::from(to) >= ports || u32::from(from) >= ports || to == from {
+            return Err(EventRefusal::NoSuchPort);
+        }
+        match self.workers[usize::from(from)].send(to) {
+            Some(copy) => {
+                self.outs[usize::from(to)].add_sent(from);
+                Ok(Answer::Sent(copy))
+            }
+            None => Ok(Answer::Empty),
+        }
+    }
+
+    fn publish(&mut self, batch: Batch) -> Result<Answer, EventRefusal>
+        ensures answers { (history : List Event) → Stands self.old history
+            → CoreAnswers self.old (Event.Publish batch) result self.new history }
+        ensures refused { OnErr result (self.new ≡ self.old) }
+        ensures limits { self.new.limits ≡ self.old.limits }
+    {
+        let front = self.batches.len();
+        let Some(latest) = places_with(&batch, self.limits.ports(), front, self.latest) else {
+            return Err(EventRefusal::NoSuchPort);
+        };
+        if front >= self.limits.versions() as usize {
+            return Err(EventRefusal::VersionsSpent);
+        }
+        self.latest = latest;
+        self.batches.push_reserved(batch);
+        Ok(Answer::Published {
+            front: front as u32 + 1,
+        })
+    }
+}
+
+ghost use Rattle.std.specs.Prelude.{MatchOption, true, false};
+ghost use Rattle.gw_policy.specs.Batches.{Pair};
+ghost use Rattle.gw_core.specs.Events.{names_no_port};
+ghost use Rattle.gw_core.specs.Gateway.{PlacesWith};
+
+/// The places of the policies in force once a batch is published as the one of this index, or none where the batch
+/// names a port that is not there.
+fn places_with(batch: &Batch, ports: u32, index: usize, latest: PairPlaces) -> Option<PairPlaces>
+    requires { ports ≤ 16 }
+    ensures { MatchOption result (names_no_port ports batch.now ≡ true)
+        (λ places. (names_no_port ports batch.now ≡ false) × PlacesWith batch.now index latest places) }
+{
+    let mut places = latest;
+    for pair in 0..batch.len() {
+        let Some((port, policy)) = batch.pair(pair) else {
+            unreachable!()
+        };
+        // A policy's program is accepted, and means what its table does.
+        let _program = policy.program();
+        if u32::from(port) >= ports {
+            return None;
+        }
+        places[usize::from(port)] = Some(PairPlace { batch: index, pair });
+    }
+    Some(places)
+}
+
+impl Core {
+    ghost use Rattle.std.specs.Prelude.{MatchResult};
+    ghost use Rattle.gw_core.specs.Runs.{RunsTo};
+
+    /// Does events one after another, and gives the answer of each. The list of answers is made first: where memory for
+    /// it was refused (71), nothing has changed and the events come back.
+    pub fn run(
+        &mut self,
+        alloc: Global,
+        events: Vec<Event>,
+    ) -> Result<Vec<Result<Answer, EventRefusal>>, Vec<Event>>
+        ensures answers { (history : List Event) → Stands self.old history
+            → IfOk result (λ answers. RunsTo self.old history events.items answers.items self.new) }
+        ensures handed_back { IfErr result (λ back. back.items ≡ events.items) }
+        ensures unchanged { OnErr result (self.new ≡ self.old) }
+        ensures limits { self.new.limits ≡ self.old.limits }
+    {
+        let Ok(mut answers) = Vec::with_capacity(alloc, events.len()) else {
+            return Err(events);
+        };
+        for event in events {
+            answers.push_reserved(self.event(event));
+        }
+        Ok(answers)
+    }
+
+    /// What a port counts of the frames taken there.
+    pub fn ledger(&self, port: u8) -> &InLedger
+        requires { port < self.now.limits.ports }
+        ensures { (history : List Event) → Stands self.now history
+            → result.now ≡ ledger_after self.now.limits port (accepted self.now.limits history) }
+    {
+        self.workers[usize::from(port)].ledger()
+    }
+
+    /// What a port counts of the copies sent there.
+    pub fn sent(&self, port: u8) -> &OutLedger
+        requires { port < self.now.limits.ports }
+        ensures { (history : List Event) (from : ℕ) → Stands self.now history
+            → slice_index result.now.sent from ≡ sent_after self.now.limits from port (accepted self.now.limits history) }
+    {
+        &self.outs[usize::from(port)]
+    }
+
+    /// How many copies wait at a port for another.
+    pub fn waiting(&self, from: u8, to: u8) -> usize
+        requires from { from < self.now.limits.ports }
+        requires to { to < self.now.limits.ports }
+        ensures { (history : List Event) → Stands self.now history
+            → result ≡ length (waiting_after self.now.limits from to (accepted self.now.limits history)) }
+    {
+        self.workers[usize::from(from)].waiting(to)
+    }
+}
+
+// The gateway, or that the memory for it was refused: room for every batch, and for the copies of every lane.
+fn parts(alloc: Global, limits: Limits) -> Result<Core, AllocError>
+    ensures limits { IfOk result (λ core. core.limits ≡ limits) }
+    ensures stands { IfOk result (λ core. Stands core []) }
+{
+    let batches = Vec::with_capacity(alloc, limits.versions() as usize)?;
+    let ports = limits.ports() as u8;
+    let mut workers = Vec::with_capacity(alloc, usize::from(ports))?;
+    let mut outs = Vec::with_capacity(alloc, usize::from(ports))?;
+    for own in 0..ports {
+        workers.push_reserved(Worker::new(alloc, limits, own)?);
+        outs.push_reserved(OutLedger::new());
+    }
+    Ok(Core {
+        limits,
+        batches,
+        latest: [None; 16],
+        workers,
+        outs,
+    })
+}
