@@ -1,45 +1,27 @@
 -- Each copy on a lane is of a foreign frame that is allowed there.
-use Rattle.std.proofs.Common.{◌≡◌, ◌≢◌, ◌↔◌, ℕ, suc, zero, ◌+◌, ◌-◌, ◌<◌, ◌≤◌, Bool, true, false, ◌&&◌, ◌||◌, cond, eqb, ltb}
-use Rattle.std.proofs.Common.{List, [], ◌∷◌, ◌++◌, length, drop, Option, Some, None, Ok, refl, sym, ap, subst, ◌∙◌, arith, ⊎_elim}
-use Rattle.std.proofs.Common.{append-nil, length-append}
-use Rattle.std.specs.Prelude.{option_to_list, option_map, IsTrue}
-use Rattle.std.specs.List.{cons_option, All, Contains}
-use Rattle.std.specs.Option.{option_map_or}
-use Rattle.std.proofs.lemmas.Bool.{cases_eq, eq-eqb, eqb-true, ltb-false, or_cases, or_parts, or_left, or_right, and_parts}
-use Rattle.std.proofs.lemmas.Bool.{false≢true}
-use Rattle.std.proofs.lemmas.List.Folds.{list_any-append}
-use Rattle.std.proofs.lemmas.List.Elements.{All-nil, All-cons, All-append, All-weaker, All-head, All-tail, All-contains}
-use Rattle.std.proofs.lemmas.List.Elements.{Contains-append_left, Contains-push, Contains-append_cases}
-use Rattle.std.proofs.lemmas.Option.{slice_get_within, get_or_from_slice_get}
-use Rattle.gw_policy.specs.Filter.{IsFilter}
+use Rattle.std.proofs.Common.{◌≡◌, ℕ, ◌+◌, ◌-◌, ◌≤◌, Bool, true, false, ◌&&◌, cond, eqb, ltb}
+use Rattle.std.proofs.Common.{List, [], ◌∷◌, length, Option, Some, None, refl, sym, ap, subst, ◌∙◌, arith}
+use Rattle.std.specs.Prelude.{option_to_list, option_map}
+use Rattle.std.specs.List.{cons_option, All}
+use Rattle.std.proofs.lemmas.Bool.{eq-eqb, eqb-true, and_parts}
+use Rattle.std.proofs.lemmas.List.Elements.{All-nil, All-cons, All-append, All-weaker}
 use Rattle.gw_policy.specs.Batches.{Pair, in_force}
 use Rattle.gw_ledger.specs.Bounds.{Bounds}
-use Rattle.gw_ledger.specs.Ports.{has_port}
-use Rattle.gw_ledger.specs.declared.outcome.Outcome.{Outcome}
 use Rattle.gw_ledger.specs.declared.outcome.FrameCopy.{FrameCopy}
 use Rattle.gw_core.specs.PortHistory.{PortEvent, batch_published, frame_taken, step_made, copy_asked, Place, place_of, Taking}
-use Rattle.gw_core.specs.PortHistory.{taking, Work, instruction, placing, heard, last_taking, work, work_left, work_from}
-use Rattle.gw_core.specs.PortHistory.{steps_since, lane_after, waiting, places_at, placed_by, copy_of, allowed, placed_at}
-use Rattle.gw_core.specs.PortHistory.{placed_since, outcome_of, finished_after, need}
-use Rattle.gw_core.specs.Events.{history_of, all_batches, accepted, keep_accepted, refusal, reply, answer, piece_answer, judged}
-use Rattle.gw_core.specs.Events.{at_port, waiting_after}
-use Rattle.gw_core.specs.Standing.{AreSound}
+use Rattle.gw_core.specs.PortHistory.{Work, instruction, placing, last_taking, work, work_left}
+use Rattle.gw_core.specs.PortHistory.{steps_since, lane_after, places_at, placed_by, copy_of, allowed}
+use Rattle.gw_core.specs.Events.{history_of, all_batches}
+use Rattle.gw_core.specs.Events.{waiting_after}
 use Rattle.gw_core.specs.Copies.{placed_after}
-use Rattle.gw_core.specs.Headline.{IsEvent, MayLeave, WasFull, WasAllowed, WasForwarded, Headline}
+use Rattle.gw_core.specs.Headline.{MayLeave, WasAllowed}
 use Rattle.gw_core.specs.declared.event.Event.{Event}
 use Rattle.gw_core.specs.declared.event.Event.TheVariants.{Publish, Take, Step, Send}
-use Rattle.gw_core.specs.declared.event.Answer.{Answer}
-use Rattle.gw_core.specs.declared.event.Answer.TheVariants.{Finished, Placed, Lost}
-use Rattle.gw_core.specs.declared.event.EventRefusal.{EventRefusal}
-use Rattle.gw_core.proofs.Histories.{work_left-step}
-use Rattle.gw_core.proofs.Needs.{last_step}
-use Rattle.gw_core.proofs.Publishings.{sound_published}
-use Rattle.gw_core.proofs.Starts.{none_in_force, none_some}
 use Rattle.gw_core.proofs.Gateways.{batches_of_port}
-use Rattle.gw_core.proofs.Lanes.{last_number, placings, placings-drop, ascends, few_wait}
+use Rattle.gw_core.proofs.Lanes.{placings, placings-drop}
 use Rattle.gw_core.proofs.Stand.{StepsLaw}
-use Rattle.gw_core.proofs.Targets.{ReturnsLaw, may_leave, allowed_placed, placed_allowed, has_one, has_self}
-use Rattle.gw_core.proofs.Since.{AreEvents, events_all, events_accepted, sound_events, left_of, at_placing, placed_here, split_placed, placed_planned, copy_there, none_there, placed_back, fate, later_full, extend, full_now, step_since, same_fate, since, heard-later, newest_taken}
+use Rattle.gw_core.proofs.Targets.{ReturnsLaw, may_leave, allowed_placed}
+use Rattle.gw_core.proofs.Since.{AreEvents, left_of, since}
 use Rattle.gw_core.proofs.Forwarding.{is_foreign}
 
 -- each copy on a lane is of a foreign frame that is allowed there

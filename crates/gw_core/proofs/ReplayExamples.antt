@@ -1,11 +1,10 @@
 -- Worked examples: what gateways answer to whole lists of events, the oldest first.
-use Rattle.std.proofs.Common.{◌≡◌, ℕ, true, false, List, [], ◌∷◌, replicate, None, Result, Ok, Err, refl, sym, ap, ◌∙◌}
+use Rattle.std.proofs.Common.{◌≡◌, ℕ, true, false, List, [], ◌∷◌, replicate, None, Result, Ok, Err, refl, sym, ap}
 use Rattle.gw_insn.specs.declared.insn.Insn.TheVariants.{ReturnConstant}
 use Rattle.gw_machine.specs.Answers.{answer_of, answer_within, steps_of}
 use Rattle.gw_policy.specs.Batches.{Pair}
 use Rattle.gw_ledger.specs.Bounds.{Bounds}
 use Rattle.gw_ledger.specs.Ports.{ports_below}
-use Rattle.gw_ledger.specs.declared.outcome.Outcome.{Outcome}
 use Rattle.gw_core.specs.PortHistory.{place_of, taking, need, instruction, placing, work_left, steps_since}
 use Rattle.gw_core.specs.Events.{history_of, accepted, keep_accepted, refusal, reply, reply_after, replies}
 use Rattle.gw_core.specs.declared.event.Event.{Event}

@@ -16,7 +16,7 @@ use Rattle.gw_policy.specs.Batches.{Pair, in_force, steps}
 use Rattle.gw_ledger.specs.Bounds.{Bounds}
 use Rattle.gw_core.specs.PortHistory.{PortEvent, Place, place_of, Taking, Work, instruction, placing, placing_if}
 use Rattle.gw_core.specs.PortHistory.{instructions_from, steps_at, is_allowed, work_for, work_from, work, work_left, last_taking}
-use Rattle.gw_core.specs.PortHistory.{steps_since, heard}
+use Rattle.gw_core.specs.PortHistory.{steps_since}
 use Rattle.gw_core.specs.Events.{history_of, all_batches}
 use Rattle.gw_core.specs.Safety.{RunsInside, MakesNext, IsSafeStep}
 use Rattle.gw_core.specs.declared.event.Event.{Event}
@@ -24,7 +24,6 @@ use Rattle.gw_core.proofs.Stand.{StepsLaw}
 use Rattle.gw_core.proofs.Targets.{ReturnsLaw}
 use Rattle.gw_core.proofs.Gateways.{batches_of_port}
 use Rattle.gw_core.proofs.Since.{AreEvents, since, newest_taken, left_of}
-use Rattle.gw_core.proofs.Forwarding.{is_foreign}
 
 -- what accepted code says of its running machines
 abbrev pub LoadsLaw : Type 0

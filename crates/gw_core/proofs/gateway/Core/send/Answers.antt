@@ -46,7 +46,10 @@ returns-in-Some-clause-answers c =
     let is_view : g ≡ c.args.self.now = c.self.view_is in
     let P : Gateway → Type 0 = λ x. (history : List Event) → Stands x history
     → CoreAnswers x (Send c.args.to c.args.from) (Ok (Sent c.in-Some.copy))
-    (record g { workers = slice_set g.workers c.from-2.result c.send.new.self; outs = slice_set g.outs c.from-in-Some.result c.add_sent.new.self }) history in
+    (record g {
+      workers = slice_set g.workers c.from-2.result c.send.new.self;
+      outs = slice_set g.outs c.from-in-Some.result c.add_sent.new.self;
+    }) history in
     subst P is_view both.1
 
 pub returns-in-None-clause-answers : goal.returns-in-None-clause-answers
@@ -60,4 +63,5 @@ returns-in-None-clause-answers c =
     let is_view : g ≡ c.args.self.now = c.self.view_is in
     let P : Gateway → Type 0 = λ x. (history : List Event) → Stands x history
     → CoreAnswers x (Send c.args.to c.args.from) (Ok Empty) (with_worker g c.from-2.result c.send.new.self) history in
-    subst P is_view (core_empty g c.from-2.result c.args.to c.args.from c.index_mut.result.now c.send.new.self c.from-2.ensures lt own other c.index_mut.ensures.value c.in-None.ensures.lanes c.in-None.ensures.first)
+    subst P is_view (core_empty g c.from-2.result c.args.to c.args.from c.index_mut.result.now c.send.new.self c.from-2.ensures
+    lt own other c.index_mut.ensures.value c.in-None.ensures.lanes c.in-None.ensures.first)
