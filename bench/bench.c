@@ -1,6 +1,6 @@
 /*
  * Times the gateway's machine beside libpcap's bpf_filter, and a table's rules beside its program: the same records, one
- * process, in turn. Prints two tables in markdown. Fails where two answers to the same question differ.
+ * process, in turn; then the event machine. Prints three tables in markdown. Fails where two answers to the same question differ.
  */
 #include "bench.h"
 
@@ -176,7 +176,7 @@ static bool time_rules(const char *name, const uint8_t (*records)[16])
     printf("|---|---|---|---|---|---|---|---|\n");
     printf("| %zu | %.1f | %d of %d | %.1f | %.1f | %.1f | %.2f | %.2f |\n", length, (double)steps / RECORDS, passed, RECORDS,
            rules_best / frames, our_best / frames, their_best / frames, our_best / rules_best, our_best / their_best);
-    return true;
+    return time_events(text, text_length, records);
 }
 
 int main(int argc, char **argv)

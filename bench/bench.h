@@ -17,6 +17,10 @@ bool gw_bench_judge(const char *text, size_t length, const uint8_t (*records)[16
                     bool *verdicts, size_t room);
 size_t gw_bench_compile(const char *text, size_t length, struct bpf_insn *code, size_t room);
 
+size_t gw_bench_events(const char *text, size_t length, const uint8_t (*records)[16], size_t count, bool run);
+uint64_t gw_bench_steps(const struct bpf_insn *code, size_t length, const uint8_t (*records)[16], size_t count,
+                        uint32_t rounds, bool core);
+
 struct program {
     const char *name;
     size_t length;
@@ -28,6 +32,9 @@ void write_filter(struct program *p);
 void write_empty_table(struct program *p);
 void write_rules(struct program *p);
 void write_long_table(struct program *p);
+
+/* Times the event machine, with the table of a text for sixteen ports. */
+bool time_events(const char *text, size_t length, const uint8_t (*records)[16]);
 
 /* The first records of a vehicle's bus. */
 void write_records(uint8_t (*records)[16]);

@@ -5,10 +5,12 @@ ghost use Rattle.std.specs.Prelude.{◌≡◌, ◌≢◌, drop, length};
 ghost use Rattle.std.specs.Bool.{OnFalse, OnTrue};
 ghost use Rattle.gw_bench.specs.Exports.{IsCompiled, IsJudged, IsRun};
 
+mod events;
 mod interchange;
 mod loading;
 mod rounds;
 
+pub use events::{gw_bench_events, gw_bench_steps};
 use gw_table::compile;
 pub use interchange::{BpfInsn, Record};
 use loading::{load_frames, load_program, load_table, store_code};
