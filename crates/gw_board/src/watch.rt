@@ -1,0 +1,170 @@
+//! The end that reads.
+
+ghost use Rattle.std.specs.Prelude.{◌≡◌, ◌≤◌, MatchResult, length};
+ghost use Rattle.gw_policy.specs.Batches.{Places};
+ghost use Rattle.std.specs.Arc.{arc_value};
+ghost use Rattle.std.specs.Fn.{FnOnceReturnsAt};
+ghost use mathlib.Core.List.{IsPrefix};
+ghost use Rattle.gw_board.specs.Ends.{numbers_of};
+ghost use Rattle.gw_board.specs.Lists.{longer, InForceAfter};
+
+use crate::count::CountReader;
+use crate::history::Prefix;
+use crate::refusals::NoReading;
+use crate::shelf::Shelf;
+use crossbeam_utils::rule::Unruled;
+use gw_policy::PolicySet;
+use std::alloc::Global;
+use std::marker::Model;
+use std::sync::Arc;
+
+/// What the operator had published when it told. Contracts see it as `Known`.
+#[derive(Drop)]
+pub struct Told {
+    list: Prefix,
+}
+
+impl Model for Told {
+    ghost use Rattle.gw_board.specs.Ends.{Known};
+
+    ghost Value = { Known };
+
+    ghost view = { λ t. t.list };
+}
+
+impl Told {
+    pub(crate) fn new(list: Prefix) -> Told
+        ensures { result ≡ list }
+    {
+        Told { list }
+    }
+
+    /// How many batches it has, at most 65535.
+    pub fn len(&self) -> u64
+        ensures value { result ≡ length self.now.batches }
+        ensures few { length self.now.batches ≤ 65535 }
+    {
+        self.list.len()
+    }
+}
+
+/// Reads the policies in force without waiting. Contracts see the list of batches that it knows, as `Known`.
+#[derive(Drop)]
+pub struct Watch {
+    // There but while a call reads.
+    reader: Option<CountReader>,
+    shelf: Arc<Shelf, Global>,
+    // The policies in force after the batches of `read`.
+    set: PolicySet,
+    read: Prefix,
+    known: Prefix,
+}
+
+impl Model for Watch {
+    ghost use Rattle.std.specs.Prelude.{◌≡◌};
+    ghost use Rattle.std.specs.Arc.{arc_value};
+    ghost use Rattle.gw_board.specs.Lists.{InForceAfter};
+    ghost use Rattle.gw_board.specs.Ends.{Known, numbers_of};
+
+    ghost Value = { Known };
+
+    ghost view = { λ w. w.known };
+
+    ghost invariant = { λ w. InForceAfter w.set w.read.batches × (w.read.board ≡ w.known.board)
+        × ((arc_value w.shelf).tag ≡ numbers_of w.known.board) };
+}
+
+impl Watch {
+    ghost use Rattle.gw_board.specs.Ends.{Known};
+    ghost use Rattle.std.specs.Prelude.{[]};
+
+    pub(crate) fn new(reader: CountReader, shelf: Arc<Shelf, Global>, nothing: Prefix) -> Watch
+        requires empty { nothing.batches ≡ [] }
+        requires board { (arc_value shelf).tag ≡ numbers_of nothing.board }
+        ensures { result ≡ nothing }
+    {
+        Watch {
+            reader: Some(reader),
+            shelf,
+            set: PolicySet::new(),
+            read: nothing.again(),
+            known: nothing,
+        }
+    }
+
+    /// How many batches it knows, at most 65535.
+    pub fn len(&self) -> u64
+        ensures value { result ≡ length self.now.batches }
+        ensures few { length self.now.batches ≤ 65535 }
+    {
+        self.known.len()
+    }
+
+    /// It knows the longer list from now on, which both begin.
+    pub fn learn(&mut self, told: &Told)
+        requires { told.now.board ≡ self.old.board }
+        ensures board { self.new.board ≡ self.old.board }
+        ensures value { self.new ≡ record self.old { batches = longer self.old.batches told.now.batches } }
+        ensures kept { IsPrefix self.old.batches self.new.batches }
+        ensures told { IsPrefix told.now.batches self.new.batches }
+    {
+        self.known = self.known.longer(&told.list);
+    }
+
+    /// Enters the board, and calls `f` once on the policies in force after the list that is known then, which begins with the
+    /// list that was known. Refused, 77, it calls nothing and knows what it knew.
+    pub fn with<R, F: FnOnce(&PolicySet) -> R + Drop>(&mut self, f: F) -> Result<R, NoReading>
+        requires { F.IsAlwaysCallable f }
+        ensures board { self.new.board ≡ self.old.board }
+        ensures read { MatchResult result
+            (λ r. IsPrefix self.old.batches self.new.batches
+            × (set : Places) × InForceAfter set self.new.batches × FnOnceReturnsAt F.FnOnce f set r)
+            (λ _. self.new ≡ self.old) }
+    {
+        let count = self.published()?;
+        self.catch_up(count)?;
+        // A list that was learnt may be ahead of what `left_right` shows, and a frame is never judged by a shorter one.
+        if self.read.len() < self.len() {
+            return Err(NoReading);
+        }
+        self.known = self.read.longer(&self.known);
+        Ok(f(&self.set))
+    }
+
+    // How many batches are published, as found at the one step of entering.
+    fn published(&mut self) -> Result<u64, NoReading>
+        ensures { self.new ≡ self.old }
+    {
+        let Some(reader) = self.reader.take() else {
+            return Err(NoReading);
+        };
+        match reader.enter_as::<Unruled>() {
+            Ok(reading) => {
+                let count = reading.get().0;
+                self.reader = Some(reading.leave());
+                Ok(count)
+            }
+            Err(reader) => {
+                self.reader = Some(reader);
+                Err(NoReading)
+            }
+        }
+    }
+
+    // Absorbs what was published, up to as many batches. The list that is known stays.
+    fn catch_up(&mut self, count: u64) -> Result<(), NoReading>
+        ensures { self.new ≡ self.old }
+    {
+        while self.read.len() < count {
+            let Some(entry) = self.shelf.get(self.read.len() as usize) else {
+                return Err(NoReading);
+            };
+            let read = entry.list().longer(&self.read);
+            let Ok(()) = self.set.absorb(entry.batch()) else {
+                return Err(NoReading);
+            };
+            self.read = read;
+        }
+        Ok(())
+    }
+}
