@@ -1,0 +1,7 @@
+use Rattle.std.proofs.Common.{◌≡◌}
+use Rattle.std.specs.Vec.Iter.{into_iter_items}
+use Rattle.gw_ports.proofs.Dealing.{Dealt}
+use Rattle.gw_ports.proofs.parts.deal.deal_from.Given as goal
+
+abbrev pub invariant-loop-destination : goal.invariant-loop-destination
+invariant-loop-destination l = Dealt l.port l.destination l.lanes.items l.initial.outs l.outs (into_iter_items l.initial.froms) (into_iter_items l.froms) (into_iter_items l.tos)

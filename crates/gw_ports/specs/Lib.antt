@@ -1,0 +1,6 @@
+pub mod Ends
+pub mod Placing
+pub mod Offers
+pub mod Sending
+pub mod Making
+pub mod Refusals

@@ -1,0 +1,29 @@
+-- What taking a copy out does.
+use Rattle.std.specs.Prelude.{◌≡◌, ℕ, ◌<◌, List, length, ◌++◌, ◌∷◌, [], slice_index, slice_set, Option, Some}
+use Rattle.gw_ledger.specs.Ledgers.{count_after}
+use Rattle.gw_ledger.specs.declared.ledger.OutLedger.{OutLedger}
+use Rattle.gw_ledger.specs.declared.outcome.FrameCopy.{FrameCopy}
+use Rattle.gw_lanes.specs.Ends.{Outlet}
+use Rattle.gw_ports.specs.Ends.{Egress, lane_at}
+
+-- the copy was taken from the lane, behind those taken before
+pub record Pops (old : Option Outlet) (copy : FrameCopy) (new : Option Outlet) : Type 0 where
+  pub before : Outlet
+  pub was : old ≡ Some before
+  pub is : new ≡ Some (record before { taken = before.taken ++ copy ∷ [] })
+
+-- the copy was taken from the lane of this source, and nothing from any other
+pub record PopsFrom (source : ℕ) (old : List (Option Outlet)) (copy : FrameCopy) (new : List (Option Outlet)) : Type 0 where
+  pub there : source < length old
+  pub lane : Pops (lane_at old source) copy (lane_at new source)
+  pub others : new ≡ slice_set old source (lane_at new source)
+
+-- the ledger with one more copy of a source
+abbrev pub sent_with : OutLedger → ℕ → OutLedger
+sent_with ledger source = record { sent = slice_set ledger.sent source (count_after (slice_index ledger.sent source)) }
+
+-- a copy from this source left at the port, and was counted there
+pub record Sends (source : ℕ) (old : Egress) (copy : FrameCopy) (new : Egress) : Type 0 where
+  pub port : new.port ≡ old.port
+  pub lanes : PopsFrom source old.lanes copy new.lanes
+  pub ledger : new.ledger ≡ sent_with old.ledger source

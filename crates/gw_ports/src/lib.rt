@@ -1,0 +1,13 @@
+//! The ends of a gateway's ports, which threads of the caller's may use, each in its own.
+#![tactic(auto)]
+
+mod parts;
+mod place;
+mod port_in;
+mod port_out;
+mod refusals;
+
+pub use parts::{Parts, gateway};
+pub use port_in::PortIn;
+pub use port_out::PortOut;
+pub use refusals::{MakeRefusal, OfferRefusal};

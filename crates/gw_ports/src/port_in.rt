@@ -1,0 +1,104 @@
+//! The end at which a port takes frames.
+
+ghost use Rattle.std.specs.Prelude.{◌≡◌, [], OnOk, sum_by};
+ghost use mathlib.Core.List.{IsPrefix};
+ghost use Rattle.gw_claims.specs.Holders.{HoldsAfter};
+ghost use Rattle.gw_board.specs.Lists.{longer};
+ghost use Rattle.gw_ports.specs.Ends.{HasLanes, placed_on};
+ghost use Rattle.gw_ports.specs.Making.{nothing_counted};
+
+use gw_board::{NoReading, Told, Watch};
+use gw_claims::Claims;
+use gw_lanes::LaneIn;
+use gw_ledger::InLedger;
+use std::marker::Model;
+
+mod offer;
+
+/// The end at which a port takes frames. Contracts see it as `Ingress`.
+#[derive(Drop)]
+pub struct PortIn {
+    port: u8,
+    frames: u32,
+    watch: Watch,
+    claims: Claims,
+    // By destination, so a lane's index is its port. There is none at the port's own number.
+    lanes: Vec<Option<LaneIn>>,
+    ledger: InLedger,
+}
+
+impl Model for PortIn {
+    ghost use Rattle.gw_ports.specs.Ends.{Ingress, HasLanes, IsCounted, CountsPlaced};
+
+    ghost Value = { Ingress };
+
+    ghost view = { λ p. record {
+      port = p.port;
+      board = p.watch.board;
+      known = p.watch.batches;
+      claims = p.claims;
+      frames = p.frames;
+      lanes = p.lanes.items;
+      ledger = p.ledger;
+    } };
+
+    ghost invariant = { λ p. HasLanes p.port p.lanes.items × IsCounted p.ledger p.frames × CountsPlaced p.ledger p.lanes.items };
+}
+
+impl PortIn {
+    pub(crate) fn new(port: u8, frames: u32, watch: Watch, lanes: Vec<Option<LaneIn>>) -> PortIn
+        requires lanes { HasLanes port lanes.items }
+        requires empty { sum_by placed_on lanes.items ≡ 0 }
+        ensures made { result ≡ record {
+          port = port;
+          board = watch.board;
+          known = watch.batches;
+          claims = result.claims;
+          frames = frames;
+          lanes = lanes.items;
+          ledger = nothing_counted;
+        } }
+        ensures claims { HoldsAfter result.claims [] }
+    {
+        PortIn {
+            port,
+            frames,
+            watch,
+            claims: Claims::new(),
+            lanes,
+            ledger: InLedger::new(),
+        }
+    }
+
+    /// What became of the frames that were taken.
+    pub fn ledger(&self) -> &InLedger
+        ensures { result.now ≡ self.now.ledger }
+    {
+        &self.ledger
+    }
+
+    /// It knows the longer list from now on, which both begin.
+    pub fn learn(&mut self, told: &Told)
+        requires { told.now.board ≡ self.old.board }
+        ensures value { self.new ≡ record self.old { known = longer self.old.known told.now.batches } }
+        ensures kept { IsPrefix self.old.known self.new.known }
+        ensures told { IsPrefix told.now.batches self.new.known }
+    {
+        self.watch.learn(told);
+    }
+
+    // It knows just the operator's list from now on, which begins with what it knew. Refused, it may know more.
+    pub(crate) fn settle(&mut self, published: &Told) -> Result<(), NoReading>
+        requires { published.now.board ≡ self.old.board }
+        ensures settled { OnOk result ((self.new ≡ record self.old { known = published.now.batches })
+            × IsPrefix self.old.known published.now.batches) }
+        ensures more { (self.new ≡ record self.old { known = self.new.known }) × IsPrefix self.old.known self.new.known }
+    {
+        self.watch.learn(published);
+        self.watch.with(|_| ())?;
+        if self.watch.len() != published.len() {
+            return Err(NoReading);
+        }
+        Ok(())
+    }
+}

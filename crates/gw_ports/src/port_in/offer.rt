@@ -1,0 +1,113 @@
+//! Taking a frame. It enters the board once, and takes no memory and no lock.
+
+ghost use Rattle.std.specs.Prelude.{◌≡◌, ◌≤◌, ◌<◌, ◌↔◌, ℕ, List, [], length, reverse, if◌then◌else◌, ◌==◌, ◌&&◌, not, MatchResult, OnErr, Err};
+ghost use mathlib.Core.List.{IsPrefix};
+ghost use Rattle.gw_policy.specs.Batches.{passes, policy_at};
+ghost use Rattle.gw_policy.specs.Allowed.{allowed_ports};
+ghost use Rattle.gw_claims.specs.Holders.{HoldsAfter};
+ghost use Rattle.gw_ledger.specs.Ports.{ports_below, IsPartOf, IsPortSet};
+ghost use Rattle.gw_ledger.specs.Ledgers.{ledger_with};
+ghost use Rattle.gw_ports.specs.Ends.{IsCounted};
+ghost use Rattle.gw_ports.specs.Offers.{Offered};
+ghost use Rattle.gw_ports.specs.declared.refusals.OfferRefusal.TheVariants.{FramesSpent, NoReading};
+
+use super::PortIn;
+use crate::place::place;
+use crate::refusals::OfferRefusal;
+use gw_board::{NoReading, Watch};
+use gw_frame::Frame;
+use gw_ledger::{FrameCopy, InLedger, Outcome, PortSet};
+use gw_policy::PolicySet;
+
+impl PortIn {
+    /// Takes a frame, and places a copy of it on the lane to each port to which the policies in force allow it. A local frame
+    /// is allowed nowhere. Refused, first with 76 and then with 77, it is not taken, and nothing changes.
+    pub fn offer(&mut self, frame: Frame) -> Result<Outcome, OfferRefusal>
+        ensures offered { (heard : List (List ℕ)) → HoldsAfter self.old.claims heard
+            → MatchResult result (λ outcome. Offered heard self.old frame outcome self.new) (λ _. self.new ≡ self.old) }
+        ensures unchanged { OnErr result (self.new ≡ self.old) }
+        ensures spent { (result ≡ Err FramesSpent) ↔ (self.old.ledger.taken ≡ self.old.frames) }
+    {
+        if self.ledger.taken >= u64::from(self.frames) {
+            return Err(OfferRefusal::FramesSpent);
+        }
+        let local = self.claims.is_local(&frame);
+        let ports = self.lanes.len() as u8;
+        let Ok(allowed) = judge(&mut self.watch, ports, self.port, local, &frame) else {
+            return Err(OfferRefusal::NoReading);
+        };
+        let number = self.ledger.taken as u32;
+        let copy = FrameCopy {
+            from: self.port,
+            number,
+            frame,
+        };
+        let placed = place(&mut self.lanes, allowed, copy);
+        let outcome = Outcome {
+            number,
+            front: self.watch.len() as u32,
+            local,
+            allowed,
+            placed,
+        };
+        self.claims.hear(&frame);
+        count(&mut self.ledger, &outcome, self.frames);
+        Ok(outcome)
+    }
+}
+
+// The ports to which a frame is allowed by the batches that are known afterwards.
+fn judge(
+    watch: &mut Watch,
+    ports: u8,
+    own: u8,
+    local: bool,
+    frame: &Frame,
+) -> Result<PortSet, NoReading>
+    requires { ports ≤ 16 }
+    ensures board { watch.new.board ≡ watch.old.board }
+    ensures judged { MatchResult result
+        (λ allowed. IsPrefix watch.old.batches watch.new.batches
+        × (allowed ≡ allowed_ports ports local (reverse watch.new.batches) own frame.now))
+        (λ _. watch.new ≡ watch.old) }
+{
+    watch.with(|set| allowed(set, ports, own, local, frame))
+}
+
+fn allowed(set: &PolicySet, ports: u8, own: u8, local: bool, frame: &Frame) -> PortSet
+    requires { ports ≤ 16 }
+    ensures { result ≡ (if local then [] else
+        ports_below ports (λ port. not (port == own) && passes (policy_at port set.now) frame.now own)) }
+{
+    let mut allowed = PortSet::new();
+    if local {
+        return allowed;
+    }
+    for port in 0..ports {
+        if may_leave(set, port, own, frame) {
+            allowed.add(port);
+        }
+    }
+    allowed
+}
+
+// Whether a frame that was taken at the port `own` may leave at another.
+fn may_leave(set: &PolicySet, port: u8, own: u8, frame: &Frame) -> bool
+    ensures { result ≡ (not (port == own) && passes (policy_at port set.now) frame.now own) }
+{
+    port != own && set.verdict(port, frame, own)
+}
+
+// Counts a frame that was taken and is finished.
+fn count(ledger: &mut InLedger, outcome: &Outcome, frames: u32)
+    requires counted { IsCounted ledger.old frames }
+    requires room { ledger.old.taken < frames }
+    requires part { IsPartOf outcome.now.placed outcome.now.allowed }
+    ensures added { ledger.new ≡ ledger_with ledger.old outcome.now }
+    ensures counted { IsCounted ledger.new frames }
+    ensures set { IsPortSet outcome.now.placed }
+{
+    // The one set is a part of the other, and so no greater.
+    let _sizes = (outcome.allowed.len(), outcome.placed.len());
+    ledger.add_outcome(outcome);
+}

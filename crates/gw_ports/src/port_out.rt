@@ -1,0 +1,114 @@
+//! The end at which copies leave at a port.
+
+ghost use Rattle.std.specs.Prelude.{◌≡◌, ℕ, None, MatchOption, IsSome};
+ghost use Rattle.gw_ports.specs.Sending.{Pops, PopsFrom};
+
+use gw_lanes::LaneOut;
+use gw_ledger::{FrameCopy, OutLedger};
+use std::alloc::{AllocError, Global};
+use std::marker::Model;
+
+/// The end at which copies leave at a port. Contracts see it as `Egress`.
+#[derive(Drop)]
+pub struct PortOut {
+    port: u8,
+    // By source, so a lane's index is its port. There is none at the port's own number.
+    lanes: Vec<Option<LaneOut>>,
+    // The source that `next` looks at first.
+    turn: usize,
+    ledger: OutLedger,
+}
+
+impl Model for PortOut {
+    ghost use Rattle.std.specs.Prelude.{◌≡◌, ◌≤◌, length};
+    ghost use Rattle.gw_ports.specs.Ends.{Egress, HasLanes, CountsSent};
+
+    ghost Value = { Egress };
+
+    ghost view = { λ p. record { port = p.port; lanes = p.lanes.items; ledger = p.ledger } };
+
+    ghost invariant = { λ p. HasLanes p.port p.lanes.items × CountsSent p.ledger p.lanes.items × (p.turn ≤ 16) };
+}
+
+impl PortOut {
+    ghost use Rattle.std.specs.Prelude.{◌≡◌, ◌≢◌, ◌<◌, ◌++◌, ◌∷◌, [], length, OnOk, ℕ, None, MatchOption, IfSome, IsSome};
+    ghost use Rattle.gw_ports.specs.Making.{new_egress};
+    ghost use Rattle.gw_ports.specs.Ends.{taken_from};
+    ghost use Rattle.gw_ports.specs.Sending.{Sends};
+
+    // An end without lanes.
+    pub(crate) fn new(alloc: Global, port: u8) -> PortOut
+        ensures { result ≡ new_egress port [] }
+    {
+        PortOut {
+            port,
+            lanes: Vec::new(alloc),
+            turn: 0,
+            ledger: OutLedger::new(),
+        }
+    }
+
+    // The lane of the next source, none for the port itself.
+    pub(crate) fn add(&mut self, lane: Option<LaneOut>) -> Result<(), AllocError>
+        requires few { length self.old.lanes < 16 }
+        requires none { length self.old.lanes ≡ self.old.port → lane ≡ None }
+        requires there { length self.old.lanes ≢ self.old.port → IsSome lane }
+        requires new { taken_from lane ≡ 0 }
+        ensures { OnOk result (self.new ≡ record self.old { lanes = self.old.lanes ++ lane ∷ [] }) }
+    {
+        self.lanes.push(lane)?;
+        Ok(())
+    }
+
+    /// What it counted of the copies that left.
+    pub fn ledger(&self) -> &OutLedger
+        ensures { result.now ≡ self.now.ledger }
+    {
+        &self.ledger
+    }
+
+    /// The oldest copy that waits on the lane of the first source that has one, in a circle that begins after the source that
+    /// it gave last, at first with port 0.
+    pub fn next(&mut self) -> Option<FrameCopy>
+        ensures { MatchOption result (self.new ≡ self.old) (λ copy. (source : ℕ) × Sends source self.old copy self.new) }
+    {
+        let ports = self.lanes.len();
+        for step in 0..ports {
+            let source = (self.turn + step) % ports;
+            if let Some(copy) = self.next_from(source as u8) {
+                self.turn = source + 1;
+                return Some(copy);
+            }
+        }
+        None
+    }
+
+    /// The oldest copy that waits on the lane of a source. There is none for a number that is no other port.
+    pub fn next_from(&mut self, port: u8) -> Option<FrameCopy>
+        ensures sent { MatchOption result (self.new ≡ self.old) (λ copy. Sends port self.old copy self.new) }
+        ensures other { IfSome result (λ _. (port ≢ self.old.port) × (port < length self.old.lanes)) }
+    {
+        let copy = take(&mut self.lanes, usize::from(port))?;
+        self.ledger.add_sent(port);
+        Some(copy)
+    }
+}
+
+// The oldest copy of a lane, if there is such a lane.
+fn take(lanes: &mut [Option<LaneOut>], source: usize) -> Option<FrameCopy>
+    ensures { MatchOption result (lanes.new ≡ lanes.old) (λ copy. PopsFrom source lanes.old copy lanes.new) }
+{
+    if source >= lanes.len() {
+        return None;
+    }
+    take_from(&mut lanes[source])
+}
+
+fn take_from(lane: &mut Option<LaneOut>) -> Option<FrameCopy>
+    ensures { MatchOption result (lane.new ≡ lane.old) (λ copy. Pops lane.old copy lane.new) }
+{
+    match lane {
+        Some(lane) => lane.pop(),
+        None => None,
+    }
+}
