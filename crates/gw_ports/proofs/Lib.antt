@@ -6,3 +6,7 @@ pub mod Popping
 pub mod Dealing
 pub mod DealingAll
 pub mod Summing
+pub mod Balancing
+pub mod Rooms
+pub mod SettlingAll
+pub mod Finishing

@@ -64,3 +64,13 @@ count_of copies = min copies (2 ^ 64 - 1)
 pub record CountsSent (ledger : OutLedger) (lanes : List (Option Outlet)) : Type 0 where
   pub sources : length ledger.sent ≡ 16
   pub sent : (source : ℕ) → source < 16 → slice_index ledger.sent source ≡ count_of (taken_from (lane_at lanes source))
+
+-- what each end keeps of its counts
+pub record IsSoundIngress (ingress : Ingress) : Type 0 where
+  pub bounded : ingress.frames < 2 ^ 32
+  pub counted : IsCounted ingress.ledger ingress.frames
+  pub placed : CountsPlaced ingress.ledger ingress.lanes
+
+pub record IsSoundEgress (egress : Egress) : Type 0 where
+  pub few : length egress.lanes ≤ 16
+  pub counted : CountsSent egress.ledger egress.lanes

@@ -4,3 +4,4 @@ pub mod Offers
 pub mod Sending
 pub mod Making
 pub mod Refusals
+pub mod Closing

@@ -1,12 +1,14 @@
 //! The ends of a gateway's ports, which threads of the caller's may use, each in its own.
 #![tactic(auto)]
 
+mod closing;
 mod parts;
 mod place;
 mod port_in;
 mod port_out;
 mod refusals;
 
+pub use closing::{CloseRefusal, LaneLeft, Report, close};
 pub use parts::{Parts, gateway};
 pub use port_in::PortIn;
 pub use port_out::PortOut;

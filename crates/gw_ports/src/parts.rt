@@ -25,7 +25,8 @@ pub struct Parts {
 /// The parts of a new gateway: nothing is published, known, heard, placed or counted.
 pub fn gateway(alloc: Global, limits: Limits) -> Result<Parts, MakeRefusal>
     ensures operator { IfOk result (λ parts. parts.operator ≡ new_operator parts.operator.board limits) }
-    ensures known { IfOk result (λ parts. All (λ ingress. (ingress.board ≡ parts.operator.board) × (ingress.known ≡ [])) parts.ins.items) }
+    ensures known { IfOk result (λ parts. All
+        (λ ingress. (ingress.board ≡ parts.operator.board) × (ingress.known ≡ [])) parts.ins.items) }
     ensures ends { IfOk result (λ parts. AreNewEnds limits.ports limits.frames limits.lane parts.ins.items parts.outs.items) }
 {
     let Ok((operator, watches)) = board(alloc, limits) else {

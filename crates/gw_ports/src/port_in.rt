@@ -23,7 +23,7 @@ pub struct PortIn {
     watch: Watch,
     claims: Claims,
     // By destination, so a lane's index is its port. There is none at the port's own number.
-    lanes: Vec<Option<LaneIn>>,
+    pub(crate) lanes: Vec<Option<LaneIn>>,
     ledger: InLedger,
 }
 
@@ -46,6 +46,8 @@ impl Model for PortIn {
 }
 
 impl PortIn {
+    ghost use Rattle.gw_ports.specs.Ends.{IsSoundIngress};
+
     pub(crate) fn new(port: u8, frames: u32, watch: Watch, lanes: Vec<Option<LaneIn>>) -> PortIn
         requires lanes { HasLanes port lanes.items }
         requires empty { sum_by placed_on lanes.items ≡ 0 }
@@ -72,8 +74,10 @@ impl PortIn {
 
     /// What became of the frames that were taken.
     pub fn ledger(&self) -> &InLedger
-        ensures { result.now ≡ self.now.ledger }
+        ensures ledger { result.now ≡ self.now.ledger }
+        ensures sound { IsSoundIngress self.now }
     {
+        let _frames = self.frames;
         &self.ledger
     }
 
@@ -100,5 +104,12 @@ impl PortIn {
             return Err(NoReading);
         }
         Ok(())
+    }
+
+    // Its lanes, by destination.
+    pub(crate) fn into_lanes(self) -> Vec<Option<LaneIn>>
+        ensures { result.items ≡ self.lanes }
+    {
+        self.lanes
     }
 }

@@ -1,9 +1,12 @@
 //! The end at which copies leave at a port.
 
 ghost use Rattle.std.specs.Prelude.{◌≡◌, ℕ, None, MatchOption, IsSome};
+ghost use Rattle.gw_ports.specs.Ends.{lane_at};
 ghost use Rattle.gw_ports.specs.Sending.{Pops, PopsFrom};
+ghost use Rattle.gw_ports.specs.Closing.{IsWaiting, ring_to, ring_from};
 
-use gw_lanes::LaneOut;
+use crate::PortIn;
+use gw_lanes::{LaneIn, LaneOut};
 use gw_ledger::{FrameCopy, OutLedger};
 use std::alloc::{AllocError, Global};
 use std::marker::Model;
@@ -33,7 +36,8 @@ impl Model for PortOut {
 impl PortOut {
     ghost use Rattle.std.specs.Prelude.{◌≡◌, ◌≢◌, ◌<◌, ◌++◌, ◌∷◌, [], length, OnOk, ℕ, None, MatchOption, IfSome, IsSome};
     ghost use Rattle.gw_ports.specs.Making.{new_egress};
-    ghost use Rattle.gw_ports.specs.Ends.{taken_from};
+    ghost use Rattle.gw_ports.specs.Ends.{taken_from, lane_at, IsSoundEgress};
+    ghost use Rattle.gw_ports.specs.Closing.{IsWaiting, ring_to, ring_from};
     ghost use Rattle.gw_ports.specs.Sending.{Sends};
 
     // An end without lanes.
@@ -62,7 +66,8 @@ impl PortOut {
 
     /// What it counted of the copies that left.
     pub fn ledger(&self) -> &OutLedger
-        ensures { result.now ≡ self.now.ledger }
+        ensures ledger { result.now ≡ self.now.ledger }
+        ensures sound { IsSoundEgress self.now }
     {
         &self.ledger
     }
@@ -92,6 +97,27 @@ impl PortOut {
         self.ledger.add_sent(port);
         Some(copy)
     }
+
+    // How many copies wait on the lane from another port, if there is one.
+    pub(crate) fn waiting_from(&mut self, source: u8, from: &mut PortIn, to: u8) -> Option<usize>
+        requires { ring_to (lane_at from.old.lanes to) ≡ ring_from (lane_at self.old.lanes source) }
+        ensures same { (self.new ≡ self.old) × (from.new ≡ from.old) }
+        ensures waiting { IsWaiting (lane_at from.old.lanes to) (lane_at self.old.lanes source) result }
+    {
+        waiting_at(
+            &mut from.lanes,
+            usize::from(to),
+            &mut self.lanes,
+            usize::from(source),
+        )
+    }
+
+    // Its lanes, by source.
+    pub(crate) fn into_lanes(self) -> Vec<Option<LaneOut>>
+        ensures { result.items ≡ self.lanes }
+    {
+        self.lanes
+    }
 }
 
 // The oldest copy of a lane, if there is such a lane.
@@ -110,5 +136,33 @@ fn take_from(lane: &mut Option<LaneOut>) -> Option<FrameCopy>
     match lane {
         Some(lane) => lane.pop(),
         None => None,
+    }
+}
+
+// How many copies wait between two ends, if both are there.
+fn waiting_at(
+    inlets: &mut [Option<LaneIn>],
+    to: usize,
+    outlets: &mut [Option<LaneOut>],
+    source: usize,
+) -> Option<usize>
+    requires { ring_to (lane_at inlets.old to) ≡ ring_from (lane_at outlets.old source) }
+    ensures same { (inlets.new ≡ inlets.old) × (outlets.new ≡ outlets.old) }
+    ensures waiting { IsWaiting (lane_at inlets.old to) (lane_at outlets.old source) result }
+{
+    if to >= inlets.len() || source >= outlets.len() {
+        return None;
+    }
+    waiting_between(&mut inlets[to], &mut outlets[source])
+}
+
+fn waiting_between(inlet: &mut Option<LaneIn>, outlet: &mut Option<LaneOut>) -> Option<usize>
+    requires { ring_to inlet.old ≡ ring_from outlet.old }
+    ensures same { (inlet.new ≡ inlet.old) × (outlet.new ≡ outlet.old) }
+    ensures waiting { IsWaiting inlet.old outlet.old result }
+{
+    match (inlet, outlet) {
+        (Some(inlet), Some(outlet)) => Some(outlet.left(inlet)),
+        _ => None,
     }
 }

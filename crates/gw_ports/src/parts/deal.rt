@@ -44,7 +44,8 @@ pub(super) fn deal(
 // An end for each port, without lanes.
 fn without_lanes(alloc: Global, ports: u8) -> Result<Vec<PortOut>, AllocError>
     ensures count { IfOk result (λ outs. vec_len outs ≡ ports) }
-    ensures new { IfOk result (λ outs. (k : ℕ) (d : Egress) → k < length outs.items → slice_index_or outs.items k d ≡ new_egress k []) }
+    ensures new { IfOk result (λ outs. (k : ℕ) (d : Egress) → k < length outs.items
+        → slice_index_or outs.items k d ≡ new_egress k []) }
 {
     let mut outs = Vec::new(alloc);
     for port in 0..ports {
@@ -68,7 +69,8 @@ fn deal_from(
     requires outs { (k : ℕ) (d : Egress) → k < length outs.old
         → ((slice_index_or outs.old k d).port ≡ k) × (length (slice_index_or outs.old k d).lanes ≡ port) }
     ensures lanes { IfOk result (λ lanes. (vec_len lanes ≡ length outs.old) × HasLanes port lanes.items) }
-    ensures taken { IfOk result (λ lanes. (room : ℕ) → All (λ inlet. inlet ≡ new_inlet inlet.ring room) (into_iter_items froms.old)
+    ensures taken { IfOk result (λ lanes. (room : ℕ)
+        → All (λ inlet. inlet ≡ new_inlet inlet.ring room) (into_iter_items froms.old)
         → All (IsNewLane room) lanes.items × All (λ inlet. inlet ≡ new_inlet inlet.ring room) (into_iter_items froms.new)) }
     ensures paired { OnOk result (into_iter_items tos.new ≡ map new_outlet (into_iter_items froms.new)) }
     ensures left { OnOk result (length (into_iter_items froms.new) + length outs.old ≡ length (into_iter_items froms.old) + 1) }

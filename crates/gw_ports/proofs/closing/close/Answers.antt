@@ -1,0 +1,168 @@
+use Rattle.std.proofs.Common.{◌≡◌, ℕ, ◌<◌, ◌∙◌, ◌++◌, List, Option, drop, length, map, take, slice_index_or, sum_by, arith, ap, refl, sym, subst}
+use Rattle.std.specs.List.{All}
+use Rattle.std.specs.Vec.Iter.{into_iter_items}
+use Rattle.std.proofs.lemmas.List.{with_items_is}
+use mathlib.Core.List.{IsPrefix}
+use Rattle.gw_ledger.specs.Ledgers.{AreBalanced}
+use Rattle.gw_ledger.specs.declared.ledger.InLedger.{InLedger}
+use Rattle.gw_ledger.specs.declared.ledger.OutLedger.{OutLedger}
+use Rattle.gw_lanes.specs.Ends.{Inlet, Outlet}
+use Rattle.gw_policy.specs.Batches.{Pair}
+use Rattle.gw_ports.specs.Ends.{Ingress, Egress, IsSoundIngress, IsSoundEgress}
+use Rattle.gw_ports.specs.Closing.{AreLeft, AreRooms, KnowsMore, Match, columns_of, lanes_of, rows_of}
+use Rattle.gw_ports.specs.declared.closing.LaneLeft.{LaneLeft}
+use Rattle.gw_ports.proofs.Balancing.{balanced}
+use Rattle.gw_ports.proofs.SettlingAll.{Settles, knew_less, rows_stay}
+use Rattle.gw_ports.proofs.closing.close.Goals as goal
+
+pub settle_all-requires : goal.settle_all-requires
+settle_all-requires c = λ k d below.
+    let ins = c.args.parts.ins in
+    let kept : c.prepare.new.ins ≡ ins.items = c.prepare.ensures.same.0 ∙ c.deref_mut.ensures.value in
+    let lent : c.deref_mut-3.result.now ≡ ins.items =
+    c.deref_mut-3.ensures.value ∙ with_items_is ins c.prepare.new.ins (ap length kept ∙ sym ins.ok.0) ∙ kept in
+    let size = ap length lent in
+    ap (λ l. (slice_index_or l k d).board) lent ∙ c.requires.boards k d (omega arith) ∙ sym (ap (λ t. t.board) c.tell-told.ensures)
+
+-- The ends are as they were, but for what ports in know.
+pub returns-in_default-settle_all-clause-back : goal.returns-in_default-settle_all-clause-back
+returns-in_default-settle_all-clause-back c =
+    let ins = c.args.parts.ins in
+    let outs = c.args.parts.outs in
+    let now = c.settle_all.new.ins in
+    let kept : c.prepare.new.ins ≡ ins.items = c.prepare.ensures.same.0 ∙ c.deref_mut.ensures.value in
+    let kept_outs : c.prepare.new.outs ≡ outs.items = c.prepare.ensures.same.1 ∙ c.deref_mut-2.ensures.value in
+    let before : take ins.len (c.prepare.new.ins ++ drop (length c.prepare.new.ins) ins.items) ≡ ins.items =
+    with_items_is ins c.prepare.new.ins (ap length kept ∙ sym ins.ok.0) ∙ kept in
+    let lent : c.deref_mut-3.result.now ≡ ins.items = c.deref_mut-3.ensures.value ∙ before in
+    let size : length now ≡ length ins.items = c.settle_all.ensures.size ∙ ap length lent in
+    let after : take ins.len (now ++ drop (length now) (take ins.len (c.prepare.new.ins ++ drop (length c.prepare.new.ins) ins.items))) ≡ now =
+    ap (λ l. take ins.len (now ++ drop (length now) l)) before ∙ with_items_is ins now (size ∙ sym ins.ok.0) in (
+      refl,
+      with_items_is outs c.prepare.new.outs (ap length kept_outs ∙ sym outs.ok.0) ∙ kept_outs,
+      ap length after ∙ size,
+      (λ k d below.
+          subst (λ (l : List Ingress). KnowsMore (slice_index_or ins.items k d) (slice_index_or l k d)) (sym after)
+          (subst (λ (l : List Ingress). KnowsMore (slice_index_or l k d) (slice_index_or now k d)) lent
+          (c.settle_all.ensures.more k d (let n = ap length lent in omega arith)))),
+    )
+
+-- Settling leaves the lanes as they are, so that rows and columns still match, and the rooms are theirs.
+
+pub finish_all-requires-clause-pairs : goal.finish_all-requires-clause-pairs
+finish_all-requires-clause-pairs c =
+    let ins = c.args.parts.ins in
+    let outs = c.args.parts.outs in
+    let now = c.settle_all.new.ins in
+    let told = c.tell-told.result.batches in
+    let kept : c.prepare.new.ins ≡ ins.items = c.prepare.ensures.same.0 ∙ c.deref_mut.ensures.value in
+    let before : take ins.len (c.prepare.new.ins ++ drop (length c.prepare.new.ins) ins.items) ≡ ins.items =
+    with_items_is ins c.prepare.new.ins (ap length kept ∙ sym ins.ok.0) ∙ kept in
+    let lent : c.deref_mut-3.result.now ≡ ins.items = c.deref_mut-3.ensures.value ∙ before in
+    let size : length now ≡ length ins.items = c.settle_all.ensures.size ∙ ap length lent in
+    let after : take ins.len (now ++ drop (length now) (take ins.len (c.prepare.new.ins ++ drop (length c.prepare.new.ins) ins.items))) ≡ now =
+    ap (λ l. take ins.len (now ++ drop (length now) l)) before ∙ with_items_is ins now (size ∙ sym ins.ok.0) in
+    let settled : (k : ℕ) (d : Ingress) → k < length ins.items → Settles told (slice_index_or ins.items k d) (slice_index_or now k d) =
+    subst
+    (λ (l : List Ingress). (k : ℕ) (d : Ingress) → k < length l → Settles told (slice_index_or l k d) (slice_index_or now k d))
+    lent c.in-Ok-settle_all.ensures.settled in
+    let rows : rows_of (take ins.len (now ++ drop (length now) (take ins.len (c.prepare.new.ins ++ drop (length c.prepare.new.ins) ins.items))))
+    ≡ rows_of ins.items =
+    ap rows_of after ∙ rows_stay told ins.items now size settled in
+    let kept_outs : c.prepare.new.outs ≡ outs.items = c.prepare.ensures.same.1 ∙ c.deref_mut-2.ensures.value in
+    let columns : map into_iter_items c.take_columns-columns.result.items ≡ columns_of outs.items =
+    c.take_columns-columns.ensures
+    ∙ ap columns_of (with_items_is outs c.prepare.new.outs (ap length kept_outs ∙ sym outs.ok.0) ∙ kept_outs) in
+    subst (λ (r : List (List (Option Inlet))). Match r (map into_iter_items c.take_columns-columns.result.items)) (sym rows)
+    (subst (λ (cs : List (List (Option Outlet))). Match (rows_of ins.items) cs) (sym columns) c.requires.lanes)
+
+pub finish_all-requires-clause-rooms : goal.finish_all-requires-clause-rooms
+finish_all-requires-clause-rooms c =
+    let ins = c.args.parts.ins in
+    let outs = c.args.parts.outs in
+    let now = c.settle_all.new.ins in
+    let told = c.tell-told.result.batches in
+    let kept : c.prepare.new.ins ≡ ins.items = c.prepare.ensures.same.0 ∙ c.deref_mut.ensures.value in
+    let before : take ins.len (c.prepare.new.ins ++ drop (length c.prepare.new.ins) ins.items) ≡ ins.items =
+    with_items_is ins c.prepare.new.ins (ap length kept ∙ sym ins.ok.0) ∙ kept in
+    let lent : c.deref_mut-3.result.now ≡ ins.items = c.deref_mut-3.ensures.value ∙ before in
+    let size : length now ≡ length ins.items = c.settle_all.ensures.size ∙ ap length lent in
+    let after : take ins.len (now ++ drop (length now) (take ins.len (c.prepare.new.ins ++ drop (length c.prepare.new.ins) ins.items))) ≡ now =
+    ap (λ l. take ins.len (now ++ drop (length now) l)) before ∙ with_items_is ins now (size ∙ sym ins.ok.0) in
+    let settled : (k : ℕ) (d : Ingress) → k < length ins.items → Settles told (slice_index_or ins.items k d) (slice_index_or now k d) =
+    subst
+    (λ (l : List Ingress). (k : ℕ) (d : Ingress) → k < length l → Settles told (slice_index_or l k d) (slice_index_or now k d))
+    lent c.in-Ok-settle_all.ensures.settled in
+    let rows : rows_of (take ins.len (now ++ drop (length now) (take ins.len (c.prepare.new.ins ++ drop (length c.prepare.new.ins) ins.items))))
+    ≡ rows_of ins.items =
+    ap rows_of after ∙ rows_stay told ins.items now size settled in
+    let kept_outs : c.prepare.new.outs ≡ outs.items = c.prepare.ensures.same.1 ∙ c.deref_mut-2.ensures.value in
+    let columns : map into_iter_items c.take_columns-columns.result.items ≡ columns_of outs.items =
+    c.take_columns-columns.ensures
+    ∙ ap columns_of (with_items_is outs c.prepare.new.outs (ap length kept_outs ∙ sym outs.ok.0) ∙ kept_outs) in
+    let rooms = c.in-Ok.prepared.rooms.items in
+    let made : AreRooms (lanes_of 0 (rows_of ins.items) (columns_of outs.items)) rooms =
+    subst (λ (o : List Egress). AreRooms (lanes_of 0 (rows_of ins.items) (columns_of o)) rooms) c.deref_mut-2.ensures.value
+    (subst (λ (i : List Ingress). AreRooms (lanes_of 0 (rows_of i) (columns_of c.deref_mut-2.result.now)) rooms)
+    c.deref_mut.ensures.value c.in-Ok.ensures.rooms) in
+    subst
+    (λ (r : List (List (Option Inlet))). AreRooms (lanes_of 0 r (map into_iter_items c.take_columns-columns.result.items)) rooms)
+    (sym rows)
+    (subst (λ (cs : List (List (Option Outlet))). AreRooms (lanes_of 0 (rows_of ins.items) cs) rooms) (sym columns) made)
+
+pub returns-clause-closed : goal.returns-clause-closed
+returns-clause-closed c =
+    let ins = c.args.parts.ins in
+    let outs = c.args.parts.outs in
+    let now = c.settle_all.new.ins in
+    let told = c.tell-told.result.batches in
+    let kept : c.prepare.new.ins ≡ ins.items = c.prepare.ensures.same.0 ∙ c.deref_mut.ensures.value in
+    let before : take ins.len (c.prepare.new.ins ++ drop (length c.prepare.new.ins) ins.items) ≡ ins.items =
+    with_items_is ins c.prepare.new.ins (ap length kept ∙ sym ins.ok.0) ∙ kept in
+    let lent : c.deref_mut-3.result.now ≡ ins.items = c.deref_mut-3.ensures.value ∙ before in
+    let size : length now ≡ length ins.items = c.settle_all.ensures.size ∙ ap length lent in
+    let after : take ins.len (now ++ drop (length now) (take ins.len (c.prepare.new.ins ++ drop (length c.prepare.new.ins) ins.items))) ≡ now =
+    ap (λ l. take ins.len (now ++ drop (length now) l)) before ∙ with_items_is ins now (size ∙ sym ins.ok.0) in
+    let settled : (k : ℕ) (d : Ingress) → k < length ins.items → Settles told (slice_index_or ins.items k d) (slice_index_or now k d) =
+    subst
+    (λ (l : List Ingress). (k : ℕ) (d : Ingress) → k < length l → Settles told (slice_index_or l k d) (slice_index_or now k d))
+    lent c.in-Ok-settle_all.ensures.settled in
+    let rows : rows_of (take ins.len (now ++ drop (length now) (take ins.len (c.prepare.new.ins ++ drop (length c.prepare.new.ins) ins.items))))
+    ≡ rows_of ins.items =
+    ap rows_of after ∙ rows_stay told ins.items now size settled in
+    let kept_outs : c.prepare.new.outs ≡ outs.items = c.prepare.ensures.same.1 ∙ c.deref_mut-2.ensures.value in
+    let columns : map into_iter_items c.take_columns-columns.result.items ≡ columns_of outs.items =
+    c.take_columns-columns.ensures
+    ∙ ap columns_of (with_items_is outs c.prepare.new.outs (ap length kept_outs ∙ sym outs.ok.0) ∙ kept_outs) in
+    let lefts = c.finish_all.result.items in
+    let published : told ≡ c.args.parts.operator.published = ap (λ t. t.batches) c.tell-told.ensures in
+    let taken : c.in-Ok.prepared.ins.items ≡ map (λ (i : Ingress). i.ledger) ins.items =
+    c.in-Ok.ensures.ins.0 ∙ ap (λ l. map (λ (i : Ingress). i.ledger) l) c.deref_mut.ensures.value in
+    let sent : c.in-Ok.prepared.outs.items ≡ map (λ (e : Egress). e.ledger) outs.items =
+    c.in-Ok.ensures.outs.0 ∙ ap (λ l. map (λ (e : Egress). e.ledger) l) c.deref_mut-2.ensures.value in
+    let sound : All IsSoundIngress ins.items =
+    subst (λ (l : List Ingress). All IsSoundIngress l) c.deref_mut.ensures.value c.in-Ok.ensures.ins.1 in
+    let sound_outs : All IsSoundEgress outs.items =
+    subst (λ (l : List Egress). All IsSoundEgress l) c.deref_mut-2.ensures.value c.in-Ok.ensures.outs.1 in
+    let whole : All (λ (e : Egress). length e.lanes ≡ length ins.items) outs.items =
+    λ k d below. c.requires.whole k d below ∙ sym c.requires.enough_ins in
+    let left : AreLeft (lanes_of 0 (rows_of ins.items) (columns_of outs.items)) lefts =
+    subst (λ (cs : List (List (Option Outlet))). AreLeft (lanes_of 0 (rows_of ins.items) cs) lefts) columns
+    (subst
+    (λ (r : List (List (Option Inlet))). AreLeft (lanes_of 0 r (map into_iter_items c.take_columns-columns.result.items)) lefts)
+    rows c.finish_all.ensures) in
+    let sum = sum_by (λ (lane : LaneLeft). length lane.left.items) lefts in
+    let balances : AreBalanced (map (λ (i : Ingress). i.ledger) ins.items) (map (λ (e : Egress). e.ledger) outs.items) sum =
+    balanced ins.items outs.items lefts sound sound_outs c.requires.lanes whole left in
+    record {
+      taken = taken;
+      sent = sent;
+      front_is = c.len.ensures.value ∙ ap length published;
+      known =
+          subst (λ (l : List (List Pair)). All (λ (i : Ingress). IsPrefix i.known l) ins.items) published
+          (knew_less told ins.items now settled);
+      left = left;
+      balances =
+          subst (λ (l : List InLedger). AreBalanced l c.in-Ok.prepared.outs.items sum) (sym taken)
+          (subst (λ (l : List OutLedger). AreBalanced (map (λ (i : Ingress). i.ledger) ins.items) l sum) (sym sent) balances);
+    }
