@@ -13,3 +13,6 @@ pub use parts::{Parts, gateway};
 pub use port_in::PortIn;
 pub use port_out::PortOut;
 pub use refusals::{MakeRefusal, OfferRefusal};
+
+#[cfg(test)]
+mod tests;
