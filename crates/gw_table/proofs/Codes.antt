@@ -15,7 +15,10 @@ forms_of-map [] = refl
 forms_of-map (insn ∷ rest) = rw (insn_of-raw_of insn, forms_of-map rest)
 
 -- code that goes on with a group, once the group is there
-pub group_pushed : (before after whole : List Raw) (rules : List Rule) (groups : List (List Rule)) (last : List Insn) → after ≡ before ++ map raw_of (group_code rules) → before ++ map raw_of (flat_map group_code (rules ∷ groups) ++ last) ≡ whole → after ++ map raw_of (flat_map group_code groups ++ last) ≡ whole
+pub group_pushed : (before after whole : List Raw) (rules : List Rule) (groups : List (List Rule)) (last : List Insn)
+    → after ≡ before ++ map raw_of (group_code rules)
+    → before ++ map raw_of (flat_map group_code (rules ∷ groups) ++ last) ≡ whole
+    → after ++ map raw_of (flat_map group_code groups ++ last) ≡ whole
 group_pushed before after whole rules groups last pushed goes_on =
     ap (λ code. code ++ map raw_of (flat_map group_code groups ++ last)) pushed
     ∙ append_assoc before (map raw_of (group_code rules)) (map raw_of (flat_map group_code groups ++ last))
@@ -23,6 +26,7 @@ group_pushed before after whole rules groups last pushed goes_on =
     ∙ ap (λ code. before ++ map raw_of code) (sym (append_assoc (group_code rules) (flat_map group_code groups) last))
     ∙ goes_on
 
+-- decoded code, beside the instructions that it was encoded from
 same_insns : (xs ys : List Insn) → map Some xs ≡ map Some ys → xs ≡ ys
 same_insns [] [] e = refl
 same_insns [] (y ∷ ys) e = absurd (cc)
@@ -37,5 +41,6 @@ insns_of-map [] = refl
 insns_of-map (insn ∷ rest) = rw (insn_of-raw_of insn, insns_of-map rest) refl
 
 -- a program that decodes the fields of a code is that code
-pub program_of : (program code : List Insn) (raws : List Raw) → raws ≡ map raw_of code → map Some program ≡ map insn_of raws → program ≡ code
+pub program_of : (program code : List Insn) (raws : List Raw) → raws ≡ map raw_of code → map Some program ≡ map insn_of raws
+    → program ≡ code
 program_of program code raws e decoded = same_insns program code (decoded ∙ ap (map insn_of) e ∙ insns_of-map code)

@@ -29,15 +29,18 @@ record Continues (code : List Insn) : Type 0 where
 abbrev IsLoad : Insn → Type 0
 IsLoad insn = (after : ℕ) → 0 < after → IsFine after (form insn)
 
+-- what each part of an emission is made of is fine, from the tests to the whole
 longer : {A : Type 0} (xs ys : List A) → 0 < length ys → length xs < length (xs ++ ys)
 longer xs ys some = omega (arith, length-append xs ys)
 
-tests_fine : (load : Insn) (span : Span) (skipped rest : List Insn) → IsLoad load → AllFine (skipped ++ rest) → Continues rest → Continues (tests load span (length skipped) ++ (skipped ++ rest))
+tests_fine : (load : Insn) (span : Span) (skipped rest : List Insn) → IsLoad load → AllFine (skipped ++ rest) → Continues rest
+    → Continues (tests load span (length skipped) ++ (skipped ++ rest))
 tests_fine load span skipped rest is_load all goes =
     let long = longer skipped rest goes.some in
     record { fine = (is_load _ (omega arith), ((omega arith, omega arith), ((omega arith, omega arith), all))); some = omega arith }
 
-part_fine : (load : Insn) (span : Span) (skipped rest : List Insn) → IsLoad load → Continues (skipped ++ rest) → Continues rest → Continues ((tests_unless_whole load span (length skipped) ++ skipped) ++ rest)
+part_fine : (load : Insn) (span : Span) (skipped rest : List Insn) → IsLoad load → Continues (skipped ++ rest)
+    → Continues rest → Continues ((tests_unless_whole load span (length skipped) ++ skipped) ++ rest)
 part_fine load span skipped rest is_load within goes = by (is_whole 255 span)
   where
     by : (whole : Bool) → Continues (((if whole then [] else tests load span (length skipped)) ++ skipped) ++ rest)
@@ -55,7 +58,8 @@ body_fine [] rest goes = goes
 body_fine (rule ∷ rules) rest goes =
     subst Continues (sym (append_assoc (rule_code rule) (body rules) rest)) (rule_fine rule (body rules ++ rest) (body_fine rules rest goes))
 
-head_fine : (rule : Rule) (rules : List Rule) (rest : List Insn) → Continues (body (rule ∷ rules) ++ rest) → Continues rest → Continues ((head (rule ∷ rules) ++ body (rule ∷ rules)) ++ rest)
+head_fine : (rule : Rule) (rules : List Rule) (rest : List Insn) → Continues (body (rule ∷ rules) ++ rest) → Continues rest
+    → Continues ((head (rule ∷ rules) ++ body (rule ∷ rules)) ++ rest)
 head_fine rule [] rest within goes = tests_fine (LoadScratchA 0) rule.pgn (body (rule ∷ [])) rest (λ after l. (l, omega arith)) within.fine goes
 head_fine rule (next ∷ rules) rest within goes =
     let long = longer (body (rule ∷ next ∷ rules)) rest goes.some in
@@ -141,6 +145,7 @@ emission_fine : (table : Meaning) → AllFine (emission table)
 emission_fine table =
     prologue_fine table.other (flat_map group_code (groups_of table.rules) ++ return_of table.otherwise ∷ []) (groups_fine (groups_of table.rules) (return_of table.otherwise ∷ []) (record { fine = (tt, tt); some = omega arith }))
 
+-- how long the parts of an emission are, from the tests to the whole
 tests_length : (load : Insn) (span : Span) (leave : ℕ) → length (tests_unless_whole load span leave) ≤ 3
 tests_length load span leave = by (is_whole 255 span)
   where
@@ -184,11 +189,14 @@ emission_length table few =
     let rules = groups_of table.rules in
     omega (arith, length-append (flat_map group_code rules) (return_of table.otherwise ∷ []), groups_length rules, ap length (all_of-groups_of table.rules))
 
+-- an emission is accepted
 at_most : (n most : ℕ) (more : Bool) → (nat_le n most && more) ≡ true → n ≤ most
 at_most n most more e = leb-true n most (and_parts (nat_le n most) more e).0
 
 -- the prologue stores words 0, 1 and 2 on each way through it
-no_bare_word : (other : Action) (rest : List Insn) (word i : ℕ) → word < 3 → At (program_forms (prologue other ++ rest)) i (λ insn. Loads insn word) → IsBare (program_forms (prologue other ++ rest)) i word → ⊥
+no_bare_word : (other : Action) (rest : List Insn) (word i : ℕ) → word < 3
+    → At (program_forms (prologue other ++ rest)) i (λ insn. Loads insn word)
+    → IsBare (program_forms (prologue other ++ rest)) i word → ⊥
 no_bare_word other rest zero i l at bare =
     no_bare_load (λ n. nat_le n 20 && not (nat_eq n 14)) 0 (program_forms (prologue other)) (program_forms rest) refl refl (λ n e. omega (arith, at_most n 20 _ e)) i at.insn at.here at.holds bare
 no_bare_word other rest (suc zero) i l at bare =

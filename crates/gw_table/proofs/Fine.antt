@@ -23,11 +23,13 @@ IsFine after (Branch comparison operand jt jf) = (jt < after) × (jf < after)
 IsFine after (ReturnConstant k) = Unit {0}
 IsFine after _ = ⊥
 
+-- each instruction of a code is fine before those that follow it
 abbrev pub AllFine : List Insn → Type 0
 AllFine [] = Unit {0}
 AllFine (insn ∷ rest) = IsFine (length rest) (form insn) × AllFine rest
 
 module _ (after : ℕ) where
+  -- a fine instruction has none of the faults that one has by itself
   no_zero : (insn : Form) → IsFine after insn → DividesByZero insn → ⊥
   no_zero (Alu And (Constant k)) fine divides = divides
   no_zero (Alu Rsh (Constant k)) fine divides = divides
@@ -57,6 +59,7 @@ module _ (after : ℕ) where
   no_ancillary (Load Byte k) fine ancillary = omega arith
   no_ancillary _ fine ancillary = ancillary
 
+  -- an instruction that is no return has one behind it
   goes_on : (insn : Form) → IsFine after insn → IsNoReturn insn → 0 < after
   goes_on (Load Word k) fine on = fine.0
   goes_on (Load Half k) fine on = absurd fine
@@ -71,6 +74,7 @@ module _ (after : ℕ) where
   goes_on (ReturnConstant k) fine on = absurd on
   goes_on _ fine on = absurd fine
 
+  -- tables load the scratch words 0 to 2 alone
   loads_below : (insn : Form) (word : ℕ) → IsFine after insn → Loads insn word → word < 3
   loads_below (LoadScratch r k) word fine loads = omega arith
   loads_below _ word fine loads = absurd loads
@@ -83,7 +87,9 @@ record FineAt (len i : ℕ) (found : Option Form) : Type 0 where
   total : i + 1 + after ≡ len
   fine : IsFine after insn
 
-fine_at : (code : List Insn) (i : ℕ) (found : Option Form) → AllFine code → slice_get (program_forms code) i ≡ Some found → FineAt (length code) i found
+-- what stands at a place of fine code
+fine_at : (code : List Insn) (i : ℕ) (found : Option Form) → AllFine code → slice_get (program_forms code) i ≡ Some found
+    → FineAt (length code) i found
 fine_at [] i found all here = absurd (cc)
 fine_at (insn ∷ rest) zero found all here = record { insn = form insn; is = cc; after = length rest; total = omega arith; fine = all.0 }
 fine_at (insn ∷ rest) (suc i) found all here =
@@ -93,14 +99,16 @@ fine_at (insn ∷ rest) (suc i) found all here =
 
 module _ (code : List Insn) (all : AllFine code) where
   -- the property of the instruction at a place, with the place
-  with_fine : {P : Form → Type 0} (i : ℕ) → At (program_forms code) i P → (after : ℕ) × (insn : Form) × (i + 1 + after ≡ length code) × IsFine after insn × P insn
+  with_fine : {P : Form → Type 0} (i : ℕ) → At (program_forms code) i P
+      → (after : ℕ) × (insn : Form) × (i + 1 + after ≡ length code) × IsFine after insn × P insn
   with_fine {P} i at =
       let here = fine_at code i (Some at.insn) all at.here in
       let same : at.insn ≡ here.insn = cc (here.is) in
       (here.after, here.insn, here.total, here.fine, subst P same at.holds)
 
   -- fine code in which no bare place loads one of the first three words is accepted
-  pub accepted : 0 < length code → length code ≤ 4096 → ((word i : ℕ) → word < 3 → At (program_forms code) i (λ insn. Loads insn word) → IsBare (program_forms code) i word → ⊥) → IsAccepted (program_forms code)
+  pub accepted : 0 < length code → length code ≤ 4096
+      → ((word i : ℕ) → word < 3 → At (program_forms code) i (λ insn. Loads insn word) → IsBare (program_forms code) i word → ⊥) → IsAccepted (program_forms code)
   accepted some short bare cause i fault = by cause fault
     where
       len : length (program_forms code) ≡ length code

@@ -43,11 +43,13 @@ module _ (octets : List ℕ) (port : ℕ) where
   answer_in-find (rule ∷ rules) otherwise =
       rw all_hold-matches (by (matches octets port rule) (answer_in-find rules otherwise))
     where
-      by : (here : Bool) → answer_in rules otherwise ≡ answer_for (action_in rules otherwise) → (if here then answer_for rule.action else answer_in rules otherwise) ≡ answer_for (unwrap_or (option_map (λ rule. rule.action) (if here then Some rule else find (matches octets port) rules)) otherwise)
+      by : (here : Bool) → answer_in rules otherwise ≡ answer_for (action_in rules otherwise)
+          → (if here then answer_for rule.action else answer_in rules otherwise) ≡ answer_for (unwrap_or (option_map (λ rule. rule.action) (if here then Some rule else find (matches octets port) rules)) otherwise)
       by true later = refl
       by false later = later
 
-  emission_yields : (table : Meaning) → IsRecord octets → port < 256 → Yields octets port (emission table) start (answer_for (action_for table octets port))
+  emission_yields : (table : Meaning) → IsRecord octets → port < 256
+      → Yields octets port (emission table) start (answer_for (action_for table octets port))
   emission_yields table is_record fits =
       let otherwise = answer_for table.otherwise in
       let last = return_of table.otherwise ∷ [] in
@@ -57,7 +59,8 @@ module _ (octets : List ℕ) (port : ℕ) where
       let yields = prologue_yields octets port is_record table.other rest _ (subst (Decides octets port fields rest) answer decides) in
       subst (Yields octets port (emission table) start) (chosen (is_extended_data (word_of octets))) yields
     where
-      chosen : (extended : Bool) → (if extended then answer_for (action_in table.rules table.otherwise) else answer_for table.other) ≡ answer_for (if extended then action_in table.rules table.otherwise else table.other)
+      chosen : (extended : Bool)
+          → (if extended then answer_for (action_in table.rules table.otherwise) else answer_for table.other) ≡ answer_for (if extended then action_in table.rules table.otherwise else table.other)
       chosen true = refl
       chosen false = refl
 
@@ -66,7 +69,8 @@ module _ (octets : List ℕ) (port : ℕ) where
   HasOneAnswer table =
       (answer n : ℕ) → Returns (emission table) octets port answer n ↔ ((answer ≡ answer_of (emission table) octets port) × (n ≡ steps_of (emission table) octets port))
 
-  answer_of-emission : (table : Meaning) → HasOneAnswer table → IsRecord octets → port < 256 → answer_of (emission table) octets port ≡ answer_for (action_for table octets port)
+  answer_of-emission : (table : Meaning) → HasOneAnswer table → IsRecord octets → port < 256
+      → answer_of (emission table) octets port ≡ answer_for (action_for table octets port)
   answer_of-emission table one_answer is_record fits =
       let answer = answer_for (action_for table octets port) in
       let returns = returns_from (emission table) octets port 0 start answer (emission table) refl at_start (emission_yields table is_record fits) in
@@ -78,6 +82,7 @@ module _ (octets : List ℕ) (port : ℕ) where
   blocks Block = (λ e. refl, λ e. refl)
 
   -- an emission blocks what its table blocks
-  pub emission_blocks : (table : Meaning) → HasOneAnswer table → IsRecord octets → port < 256 → (answer_of (emission table) octets port ≡ 0) ↔ (table_passes table octets port ≡ false)
+  pub emission_blocks : (table : Meaning) → HasOneAnswer table → IsRecord octets → port < 256
+      → (answer_of (emission table) octets port ≡ 0) ↔ (table_passes table octets port ≡ false)
   emission_blocks table one_answer is_record fits =
       rw (answer_of-emission table one_answer is_record fits) (blocks (action_for table octets port))

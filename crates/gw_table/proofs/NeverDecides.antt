@@ -150,7 +150,8 @@ decider_parts : (octets : List ℕ) (port number : ℕ) (table : Meaning) (rule 
 decider_parts octets port number table rule decides here =
     all_parts _ _ _ (lies_in port rule.from) (decider_holds octets port number table rule decides here)
 
-earlier_fails : (octets : List ℕ) (port number by : ℕ) (table : Meaning) (rule : Rule) → Decides table octets port (part.Rule number)
+earlier_fails : (octets : List ℕ) (port number by : ℕ) (table : Meaning) (rule : Rule)
+    → Decides table octets port (part.Rule number)
     → by < number → slice_get table.rules by ≡ Some rule → matches octets port rule ≡ false
 earlier_fails octets port number by table rule decides before here =
     let first = position-Some (matches octets port) table.rules number rule decides.1 in

@@ -102,7 +102,8 @@ rule_in-IsRule value rule is =
     option_and_then_some _ (rule_action value) rule is (λ action _ is_rule.
     with_ranges value rule action (ranges_in value) refl is_rule)
 
-cons_option-All : {A : Type 0} (P : A → Type 0) (found : Option A) (rest : List A) → ((x : A) → found ≡ Some x → P x) → All P rest → All P (cons_option found rest)
+cons_option-All : {A : Type 0} (P : A → Type 0) (found : Option A) (rest : List A) → ((x : A) → found ≡ Some x → P x)
+    → All P rest → All P (cons_option found rest)
 cons_option-All P None rest here more = more
 cons_option-All P (Some x) rest here more = All-cons P x rest (here x refl) more
 
@@ -110,7 +111,8 @@ pub rules-IsRule : (values : List Data) → All IsRule (filter_map rule_in value
 rules-IsRule [] = All-nil IsRule
 rules-IsRule (value ∷ values) = cons_option-All IsRule (rule_in value) _ (rule_in-IsRule value) (rules-IsRule values)
 
-cons_option-length : {A : Type 0} (found : Option A) (rest : List A) (n : ℕ) → length rest ≤ n → length (cons_option found rest) ≤ n + 1
+cons_option-length : {A : Type 0} (found : Option A) (rest : List A) (n : ℕ) → length rest ≤ n
+    → length (cons_option found rest) ≤ n + 1
 cons_option-length None rest n few = omega arith
 cons_option-length (Some x) rest n few = omega arith
 

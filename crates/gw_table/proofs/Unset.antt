@@ -23,6 +23,7 @@ module _ (test : ℕ → Bool) (word : ℕ) where
   all_pass_on place [] = true
   all_pass_on place (form ∷ forms) = (not (test place) || passes_on place form) && all_pass_on (place + 1) forms
 
+  -- where an instruction stores no word and the place after it passes, the test passes on
   leads_on : (insn : Form) (i j : ℕ) → passes_on i (Some insn) ≡ true → (Stores insn word → ⊥) → LeadsTo insn i j → test j ≡ true
   leads_on insn i j = by insn
     where
@@ -39,7 +40,9 @@ module _ (test : ℕ → Bool) (word : ℕ) where
       by (Branch c o jt jf) e s (inr l) = at (i + 1 + jf) (and_parts (test (i + 1 + jt)) (test (i + 1 + jf)) e).1 l
       by _ e s l = at (i + 1) e l
 
-  passes_at : (front rest : Forms) (place i : ℕ) (insn : Form) → all_pass_on place front ≡ true → i < length front → slice_get (front ++ rest) i ≡ Some (Some insn) → test (place + i) ≡ true → passes_on (place + i) (Some insn) ≡ true
+  -- the test at a place of the front
+  passes_at : (front rest : Forms) (place i : ℕ) (insn : Form) → all_pass_on place front ≡ true → i < length front
+      → slice_get (front ++ rest) i ≡ Some (Some insn) → test (place + i) ≡ true → passes_on (place + i) (Some insn) ≡ true
   passes_at [] rest place i insn all l here passes = absurd (omega arith)
   passes_at (form ∷ front) rest place zero insn all l here passes =
       let at : place + 0 ≡ place = omega arith in
@@ -62,20 +65,24 @@ module _ (test : ℕ → Bool) (word : ℕ) where
         let on = passes_at front rest 0 i insn all (within i passes) here (subst (λ n. test n ≡ true) (sym at) passes) in
         subst (λ n. passes_on n (Some insn) ≡ true) at on
 
+    -- the test passes along each path that leaves the word unset
     next_passes : (i j : ℕ) → test i ≡ true → (StoresAt (front ++ rest) i word → ⊥) → IsNext (front ++ rest) i j → test j ≡ true
     next_passes i j passes unset next =
         leads_on next.insn i j (here_passes i next.insn next.here passes) (λ stores. unset (record { insn = next.insn; here = next.here; stores = stores })) next.leads
 
-    along : (i : ℕ) (js : List ℕ) (j : ℕ) → test i ≡ true → Walks (front ++ rest) i (js ++ j ∷ []) → All (λ k. StoresAt (front ++ rest) k word → ⊥) (i ∷ js) → test j ≡ true
+    along : (i : ℕ) (js : List ℕ) (j : ℕ) → test i ≡ true → Walks (front ++ rest) i (js ++ j ∷ [])
+        → All (λ k. StoresAt (front ++ rest) k word → ⊥) (i ∷ js) → test j ≡ true
     along i [] j passes walks unset = next_passes i j passes (All-head (λ k. StoresAt (front ++ rest) k word → ⊥) i [] unset) walks.0
     along i (k ∷ js) j passes walks unset =
         let first = All-head (λ n. StoresAt (front ++ rest) n word → ⊥) i (k ∷ js) unset in
         along k js j (next_passes i k passes first walks.0) walks.1 (All-tail (λ n. StoresAt (front ++ rest) n word → ⊥) i (k ∷ js) unset)
 
+    -- so it passes at each place that such a path comes to
     bare_passes : (i : ℕ) → IsBare (front ++ rest) i word → test i ≡ true
     bare_passes i bare = by bare.to.earlier (subst (IsPath (front ++ rest)) bare.to.ends bare.to.path) bare.to.unset
       where
-        by : (earlier : List ℕ) → IsPath (front ++ rest) (earlier ++ i ∷ []) → All (λ k. StoresAt (front ++ rest) k word → ⊥) earlier → test i ≡ true
+        by : (earlier : List ℕ) → IsPath (front ++ rest) (earlier ++ i ∷ [])
+            → All (λ k. StoresAt (front ++ rest) k word → ⊥) earlier → test i ≡ true
         by [] path unset = subst (λ n. test n ≡ true) (sym path.0) first
         by (k ∷ ks) path unset = along k ks i (subst (λ n. test n ≡ true) (sym path.0) first) path.2 unset
 
