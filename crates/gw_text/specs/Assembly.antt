@@ -23,6 +23,19 @@ refusal_number (TooFar line) = 47
 refusal_number (TooMany line) = 48
 refusal_number OutOfMemory = 49
 
+-- the line that a refusal is about
+abbrev pub refusal_line : AsmRefusal → Option ℕ
+refusal_line (BadToken line) = Some line
+refusal_line (UnknownWord line) = Some line
+refusal_line (BadOperand line) = Some line
+refusal_line (BadNumber line) = Some line
+refusal_line (LabelTwice line) = Some line
+refusal_line (NoSuchLabel line) = Some line
+refusal_line (Backward line) = Some line
+refusal_line (TooFar line) = Some line
+refusal_line (TooMany line) = Some line
+refusal_line OutOfMemory = None
+
 -- the labels that a line begins with, and what follows them
 abbrev pub is_label : List ℕ → List ℕ → Bool
 is_label token next = is_word token && same_text next (codes ":")

@@ -4,6 +4,7 @@
 mod assembler;
 mod comments;
 mod disassembler;
+mod explained;
 mod forms;
 mod line;
 mod lines;
@@ -16,4 +17,5 @@ mod tokens;
 
 pub use assembler::assemble;
 pub use disassembler::disassemble;
+pub use explained::Explained;
 pub use refusal::AsmRefusal;

@@ -34,7 +34,7 @@ pub enum AsmRefusal {
 }
 
 impl AsmRefusal {
-    ghost use Rattle.gw_text.specs.Assembly.{refusal_number};
+    ghost use Rattle.gw_text.specs.Assembly.{refusal_line, refusal_number};
 
     /// The number of the refusal, 40 to 49.
     pub fn number(self) -> u32
@@ -51,6 +51,24 @@ impl AsmRefusal {
             AsmRefusal::TooFar { .. } => 47,
             AsmRefusal::TooMany { .. } => 48,
             AsmRefusal::OutOfMemory => 49,
+        }
+    }
+
+    /// The line, counted from 1, that the refusal is about.
+    pub fn line(self) -> Option<usize>
+        ensures { result ≡ refusal_line self }
+    {
+        match self {
+            AsmRefusal::BadToken { line }
+            | AsmRefusal::UnknownWord { line }
+            | AsmRefusal::BadOperand { line }
+            | AsmRefusal::BadNumber { line }
+            | AsmRefusal::LabelTwice { line }
+            | AsmRefusal::NoSuchLabel { line }
+            | AsmRefusal::Backward { line }
+            | AsmRefusal::TooFar { line }
+            | AsmRefusal::TooMany { line } => Some(line),
+            AsmRefusal::OutOfMemory => None,
         }
     }
 }
