@@ -1,5 +1,6 @@
 -- All of it is public meaning: what the command line promises of its input, its output and its status.
 pub mod Answers
+pub mod Assemblies
 pub mod Checks
 pub mod ClaimLines
 pub mod Commands

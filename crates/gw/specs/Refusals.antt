@@ -1,5 +1,5 @@
 -- The lines of refusals.
-use Rattle.std.specs.Prelude.{ℕ, List, [], ◌∷◌, ◌++◌, codes, decimal}
+use Rattle.std.specs.Prelude.{ℕ, Option, Some, None, List, [], ◌∷◌, ◌++◌, codes, decimal}
 use Rattle.std.specs.List.{flat_map}
 use Rattle.gw_frame.specs.Record.{refusal_number}
 use Rattle.gw_insn.specs.Listing as listing
@@ -8,12 +8,13 @@ use Rattle.gw_insn.specs.declared.reading.ListRefusal.TheVariants.{BadField}
 use Rattle.gw_verify.specs.Cause.{cause_number}
 use Rattle.gw_verify.specs.declared.cause.Cause.{Cause}
 use Rattle.gw_verify.specs.declared.cause.Cause.TheVariants.{UnsetWord, OutOfMemory}
+use Rattle.gw_text.specs.Assembly as asm
 use Rattle.gw_table.specs.TableText as table
 use Rattle.gw_table.specs.declared.refusal.TableRefusal.{TableRefusal}
 use Rattle.gw_table.specs.declared.refusal.TableRefusal.TheVariants.{BadRange}
 use Rattle.gw.specs.declared.refusal.Refusal.{Refusal}
 use Rattle.gw.specs.declared.refusal.Refusal.TheVariants as refusal
-use Rattle.gw.specs.declared.refusal.Refusal.TheVariants.{Record, RecordOnLine, Listing, Program, Unset, Table, ReadFault, TooMuchInput, NotUtf8}
+use Rattle.gw.specs.declared.refusal.Refusal.TheVariants.{Record, RecordOnLine, Listing, Program, Unset, Assembler, Table, ReadFault, TooMuchInput, NotUtf8}
 use Rattle.gw.specs.declared.record.RecordFault.{RecordFault}
 use Rattle.gw.specs.declared.record.RecordFault.TheVariants.{NoDigit, OddDigits, NoRecord}
 
@@ -28,6 +29,7 @@ number_of (RecordOnLine line fault) = record_number fault
 number_of (Listing why) = listing.refusal_number why
 number_of (Program refused path) = cause_number refused.why
 number_of (Unset refused path output) = cause_number refused.why
+number_of (Assembler why text) = asm.refusal_number why
 number_of ReadFault = 96
 number_of (Table why) = table.refusal_number why
 number_of TooMuchInput = 98
@@ -44,6 +46,10 @@ cause_details (UnsetWord word) place = place ∷ word ∷ []
 cause_details OutOfMemory place = []
 cause_details _ place = place ∷ []
 
+abbrev pub line_details : Option ℕ → List ℕ
+line_details (Some line) = line ∷ []
+line_details None = []
+
 abbrev pub table_details : TableRefusal → List ℕ
 table_details (BadRange rule field why) = rule ∷ []
 table_details _ = []
@@ -53,6 +59,7 @@ details_of (RecordOnLine line fault) = line ∷ []
 details_of (Listing why) = listing_details why
 details_of (Program refused path) = cause_details refused.why refused.place
 details_of (Unset refused path output) = cause_details refused.why refused.place
+details_of (Assembler why text) = line_details (asm.refusal_line why)
 details_of (Table why) = table_details why
 details_of _ = []
 

@@ -5,6 +5,7 @@ ghost use Rattle.gw_trace.specs.Tries.{inner_of, has_failed, reads_of};
 ghost use Rattle.gw.specs.Commands.{Does};
 ghost use Rattle.gw.specs.Verdicts.{AnswersVerdict, RefusesVerdict};
 
+use crate::asm::{asm, list};
 use crate::check::check;
 use crate::claims::claims;
 use crate::refusal::Refusal;
@@ -47,6 +48,8 @@ pub fn command<S: AsStr, R: Read, W: Write, F: Write>(
             verdict(alloc, port, record, input, output, faults)
         }
         Ok(Request::Check) => check(alloc, input, output, faults),
+        Ok(Request::Asm) => asm(alloc, input, output, faults),
+        Ok(Request::List) => list(alloc, input, output, faults),
         Ok(Request::Claims) => claims(alloc, input, output, faults),
         Ok(Request::Table { port, frame, why }) => {
             table(alloc, port, frame, why, input, output, faults)

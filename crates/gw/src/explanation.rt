@@ -1,6 +1,7 @@
 //! What a refusal says to a person.
 
 use crate::refusal::Refusal;
+use gw_text::Explained;
 use gw_verify::{Cause, Path, Refused};
 use std::error::Error;
 use std::fmt;
@@ -18,6 +19,16 @@ impl Display for Refusal {
             } => unset(f, refused, path),
             Refusal::Program { refused, .. } => write!(f, "{refused}"),
             Refusal::Unset { refused, path, .. } => unset(f, refused, path),
+            Refusal::Assembler { why, text } => match str::from_utf8(text.as_slice()) {
+                Ok(text) => {
+                    let explained = Explained {
+                        text,
+                        refusal: *why,
+                    };
+                    write!(f, "{explained}")
+                }
+                Err(_) => write!(f, "{why}"),
+            },
             Refusal::ReadFault => f.write_str("the input could not be read"),
             Refusal::Table(why) => write!(f, "{why}"),
             Refusal::NotUtf8 => f.write_str("the input is no text: it is not UTF-8"),

@@ -2,6 +2,7 @@
 #![tactic(auto)]
 
 mod answer;
+mod asm;
 mod check;
 mod claims;
 mod command;

@@ -3,12 +3,13 @@
 ghost use Rattle.std.specs.Prelude.{◌≡◌, ◌≤◌, ◌++◌, ◌∷◌, length, decimal};
 ghost use Rattle.std.specs.List.{flat_map};
 ghost use Rattle.gw_verify.specs.Cause.{cause_number};
-ghost use Rattle.gw.specs.Refusals.{cause_details, refused_line};
+ghost use Rattle.gw.specs.Refusals.{cause_details, line_details, refused_line};
 
 use crate::line::Line;
 use crate::record::RecordFault;
 use gw_insn::ListRefusal;
 use gw_table::TableRefusal;
+use gw_text::AsmRefusal;
 use gw_verify::{Cause, Path, Refused};
 
 /// Why the program refuses what it was given.
@@ -37,6 +38,8 @@ pub enum Refusal {
     },
     /// 96: a read failed.
     ReadFault,
+    /// 40 to 49: a text that means no code, and the text.
+    Assembler { why: AsmRefusal, text: Vec<u8> },
     /// 50 to 55: a text that is no table.
     Table(TableRefusal),
     /// 98: an input of more than 1048576 octets.
@@ -61,6 +64,7 @@ impl Refusal {
             Refusal::Listing(why) => why.number(),
             Refusal::Program { refused, .. } => refused.why.number(),
             Refusal::Unset { refused, .. } => refused.why.number(),
+            Refusal::Assembler { why, .. } => why.number(),
             Refusal::ReadFault => 96,
             Refusal::Table(why) => why.number(),
             Refusal::TooMuchInput => 98,
@@ -81,6 +85,7 @@ impl Refusal {
             Refusal::Listing(ListRefusal::BadField { index }) => line
                 .text(" ")
                 .number(*index as u64),
+            Refusal::Assembler { why, .. } => on_line(line, why.line()),
             Refusal::Table(TableRefusal::BadRange { rule, .. }) => line
                 .text(" ")
                 .number(*rule as u64),
@@ -89,6 +94,18 @@ impl Refusal {
             _ => line,
         };
         line.text("\n")
+    }
+}
+
+/// The line that a refusal is about, if there is one.
+fn on_line(line: Line, at: Option<usize>) -> Line
+    requires { length line ≤ 32 }
+    ensures octets { result ≡ line ++ flat_map (λ n. 32 ∷ decimal n) (line_details at) }
+    ensures len { length result ≤ 80 }
+{
+    match at {
+        Some(at) => line.text(" ").number(at as u64),
+        None => line,
     }
 }
 

@@ -14,6 +14,10 @@ pub enum Request<'a> {
     },
     /// `check`.
     Check,
+    /// `asm`.
+    Asm,
+    /// `list`.
+    List,
     /// `claims`.
     Claims,
     /// `table [--why] [--frame HEX] [--port P]`.
@@ -55,6 +59,20 @@ fn check_command<'a>(alloc: Global) -> Command<'a> {
         .about("Checks a program's listing: `accepted <count>`, or why it is refused")
         .override_usage("gw check < LISTING")
         .after_help("Example: gw check <<< '2,48 0 0 1,22 0 0 0,'")
+}
+
+fn asm_command<'a>(alloc: Global) -> Command<'a> {
+    Command::new(alloc, "asm")
+        .about("Assembles a program's text to its listing")
+        .override_usage("gw asm < TEXT")
+        .after_help("Example: gw asm < examples/speed-limit.asm")
+}
+
+fn list_command<'a>(alloc: Global) -> Command<'a> {
+    Command::new(alloc, "list")
+        .about("Writes the text of a listing's program, which `asm` reads back")
+        .override_usage("gw list < LISTING")
+        .after_help("Example: gw list <<< '2,48 0 0 1,22 0 0 0,'")
 }
 
 fn claims_command<'a>(alloc: Global) -> Command<'a> {
@@ -102,6 +120,8 @@ fn commands<'a>(alloc: Global) -> Result<Command<'a>, AllocError> {
         .subcommand_required(true)
         .subcommand(verdict_command(alloc)?)?
         .subcommand(check_command(alloc))?
+        .subcommand(asm_command(alloc))?
+        .subcommand(list_command(alloc))?
         .subcommand(claims_command(alloc))?
         .subcommand(table_command(alloc)?)
 }
@@ -114,6 +134,8 @@ pub fn read_words<'a, S: AsStr>(alloc: Global, words: &'a [S]) -> Result<Request
             port: verdict.get_one::<u8>("port").unwrap_or(0),
             record: verdict.get_str("record"),
         },
+        Some(("asm", _)) => Request::Asm,
+        Some(("list", _)) => Request::List,
         Some(("claims", _)) => Request::Claims,
         Some(("table", table)) => Request::Table {
             port: table.get_one::<u8>("port").unwrap_or(0),

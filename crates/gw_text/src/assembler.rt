@@ -1,6 +1,6 @@
 //! The assembler.
 
-ghost use Rattle.std.specs.Prelude.{◌≡◌, ◌≢◌, Some, IfOk, IfErr};
+ghost use Rattle.std.specs.Prelude.{◌≡◌, ◌≢◌, ◌≤◌, length, Some, IfOk, IfErr};
 ghost use Rattle.gw_text.specs.declared.refusal.AsmRefusal.{AsmRefusal as Refusal};
 ghost use Rattle.gw_text.specs.Assembly.{Assembles, first_refusal};
 
@@ -19,6 +19,7 @@ const MOST_INSTRUCTIONS: usize = 4096;
 /// The code that an assembler text means.
 pub fn assemble(alloc: Global, text: &str) -> Result<Vec<Raw>, AsmRefusal>
     ensures assembled { IfOk result (λ code. Assembles text.now code.items) }
+    ensures few { IfOk result (λ code. length code.items ≤ 4096) }
     ensures refused { IfErr result (λ e. e ≢ Refusal.OutOfMemory → first_refusal text.now ≡ Some e) }
 {
     let text = blanked(alloc, text.as_bytes())?;

@@ -1,5 +1,7 @@
 use Rattle.std.proofs.Common.{◌≡◌, ◌≤◌, ℕ, List, [], map, length, get_or, None, sym, ap, subst, ◌∙◌, arith}
 use Rattle.std.specs.List.{enumerate_from}
+use Rattle.std.proofs.lemmas.List.{length-map}
+use Rattle.std.proofs.lemmas.List.FromFn.{length-enumerate_from}
 use Rattle.gw_text.specs.Assembly.{Line, lines_from, numbered, definitions, defined_again, instructions, place_of, raw_at}
 use Rattle.gw_text.specs.Sources.{instruction_view, label_view, place_in}
 use Rattle.gw_text.proofs.TextFaults.{lines_are, refused_target, refused_length, faultless_text, all_inside}
@@ -50,3 +52,11 @@ returns-clause-assembled c =
     (omega (arith, c.deref-4.ensures.len, c.len.ensures, c.if-len-gt-MOST_INSTRUCTIONS.false))
     (c.in_ok-encode.ensures
     ∙ ap (λ is. map (raw_at (place_in c.in_ok-places.places)) (enumerate_from 0 (map instruction_view is))) (c.deref-5.ensures.value ∙ sym c.deref-4.ensures.value))
+
+pub returns-clause-few : goal.returns-clause-few
+returns-clause-few c =
+    let views = map instruction_view c.deref-5.result.now in
+    let long =
+        ap length c.in_ok-encode.ensures ∙ length-map (enumerate_from 0 views) (raw_at (place_in c.in_ok-places.places)) ∙ length-enumerate_from 0 views
+        ∙ length-map c.deref-5.result.now instruction_view ∙ ap length (c.deref-5.ensures.value ∙ sym c.deref-4.ensures.value) in
+    omega (arith, long, c.deref-4.ensures.len, c.len.ensures, c.if-len-gt-MOST_INSTRUCTIONS.false)
