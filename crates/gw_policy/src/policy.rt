@@ -63,12 +63,14 @@ impl Policy {
         &self.program
     }
 
-    /// Whether a frame that was taken at the port `from` passes. The program is run, also for a table.
+    /// Whether a frame that was taken at the port `from` passes. A table is judged by its rules, which is faster than to run
+    /// its program.
     pub fn verdict(&self, frame: &Frame, from: u8) -> bool
         ensures { result ≡ filter_passes self.now frame.now from }
     {
-        // A table and its program mean the same on records, and a frame's octets are one.
-        let _record = frame.bytes();
-        run(&self.program, frame, from) != 0
+        match &self.table {
+            Some(table) => table.verdict(frame, from),
+            None => run(&self.program, frame, from) != 0,
+        }
     }
 }
