@@ -19,3 +19,6 @@ pub use assembler::assemble;
 pub use disassembler::disassemble;
 pub use explained::Explained;
 pub use refusal::AsmRefusal;
+
+#[cfg(test)]
+mod tests;

@@ -1,0 +1,295 @@
+use crate::{AsmRefusal, Explained, assemble, disassemble};
+use gw_insn::{read_listing, write_listing};
+use gw_verify::{Cause, Program};
+use std::alloc::{AllocError, Global};
+use std::str;
+use std::test::Fail;
+
+/// What the assembler answers, as a listing or as a refusal.
+fn answer(alloc: Global, text: &str) -> Result<Result<Vec<u8>, AsmRefusal>, AllocError> {
+    match assemble(alloc, text) {
+        Ok(code) if code.len() <= 4096 => Ok(Ok(write_listing(alloc, &code)?)),
+        Ok(_) => Ok(Ok(Vec::new(alloc))),
+        Err(refusal) => Ok(Err(refusal)),
+    }
+}
+
+#[test]
+fn assembles_to_listings(rt: HostRuntime) -> Result<(), Fail> {
+    for (text, want) in [
+        ("", "0,"),
+        (
+            "ldh [12]\njne #0x806, drop\nret #-1\ndrop: ret #0\n",
+            "4,40 0 0 12,21 0 1 2054,6 0 0 4294967295,6 0 0 0,",
+        ),
+        ("ldx 4*([14]&0xf)\nret %a ; end", "2,177 0 0 14,22 0 0 0,"),
+        ("ldi 010\n/* two\nlines */ ret #0b11", "2,0 0 0 8,6 0 0 3,"),
+        ("jlt x, L\nret #0\nL: ret #1", "3,61 0 1 0,6 0 0 0,6 0 0 1,"),
+        ("ld #ifidx\nret a", "2,32 0 0 4294963208,22 0 0 0,"),
+        ("ld ifidx\nret a", "2,32 0 0 4294963208,22 0 0 0,"),
+        (
+            "jeq #0, L1, L2\nL1: st M[3]\nL2: ld M[3]\nret a\n",
+            "4,21 0 1 0,2 0 0 3,96 0 0 3,22 0 0 0,",
+        ),
+        ("ja L\nld M[3]\nL: ret #1\n", "3,5 0 0 1,96 0 0 3,6 0 0 1,"),
+    ] {
+        let listing = answer(rt.alloc(), text)?;
+        assert_eq!(rt;
+            listing.as_deref().ok(),
+            Some(want.as_bytes()),
+            "at {text:?}"
+        );
+    }
+    Ok(())
+}
+
+#[test]
+fn refuses_with_line_and_number(rt: HostRuntime) {
+    for (text, want, number) in [
+        ("ld $", AsmRefusal::BadToken { line: 1 }, 40),
+        ("ret #0\n/* open\n", AsmRefusal::BadToken { line: 2 }, 40),
+        ("foo #1", AsmRefusal::UnknownWord { line: 1 }, 41),
+        ("ret x", AsmRefusal::BadOperand { line: 1 }, 42),
+        ("ld #08", AsmRefusal::BadNumber { line: 1 }, 43),
+        ("ld #4294967296", AsmRefusal::BadNumber { line: 1 }, 43),
+        ("ld #-0", AsmRefusal::BadNumber { line: 1 }, 43),
+        (
+            "a: ret #0\na: ret #1",
+            AsmRefusal::LabelTwice { line: 2 },
+            44,
+        ),
+        ("jmp Z\nret #0", AsmRefusal::NoSuchLabel { line: 1 }, 45),
+        ("b: jmp b", AsmRefusal::Backward { line: 1 }, 46),
+        (
+            "a: ld #0\na: ret #0\nld #1\nld #2\nld #09",
+            AsmRefusal::BadNumber { line: 5 },
+            43,
+        ),
+        (
+            "b: jmp b\na: ret #0\na: ret #1",
+            AsmRefusal::LabelTwice { line: 3 },
+            44,
+        ),
+    ] {
+        let refusal = assemble(rt.alloc(), text).err();
+        assert_eq!(rt; refusal, Some(want), "at {text:?}");
+        assert_eq!(rt;
+            refusal.map(AsmRefusal::number),
+            Some(number),
+            "at {text:?}"
+        );
+    }
+    assert_eq!(rt; AsmRefusal::TooFar { line: 1 }.number(), 47);
+    assert_eq!(rt; AsmRefusal::TooMany { line: 1 }.number(), 48);
+    assert_eq!(rt; AsmRefusal::OutOfMemory.number(), 49);
+}
+
+/// A text of a line before and behind so many lines between.
+fn repeated(
+    alloc: Global,
+    first: &str,
+    between: &str,
+    count: usize,
+    last: &str,
+) -> Result<String, AllocError> {
+    let mut text = String::new(alloc);
+    text.push_str(first)?;
+    for _ in 0..count {
+        text.push_str(between)?;
+    }
+    text.push_str(last)?;
+    Ok(text)
+}
+
+#[test]
+fn jumps_over_at_most_255(rt: HostRuntime) -> Result<(), Fail> {
+    let text = repeated(rt.alloc(), "jeq #0, far\n", "ld #0\n", 256, "far: ret #0\n")?;
+    assert_eq!(rt;
+        assemble(rt.alloc(), &text).err(),
+        Some(AsmRefusal::TooFar { line: 1 })
+    );
+    let text = repeated(rt.alloc(), "jeq #0, far\n", "ld #0\n", 255, "far: ret #0\n")?;
+    let code = assemble(rt.alloc(), &text)?;
+    assert_eq!(rt; code.len(), 257);
+    assert_eq!(rt; (code[0].jt, code[0].jf), (255, 0));
+    Ok(())
+}
+
+#[test]
+fn takes_at_most_4096_instructions(rt: HostRuntime) -> Result<(), Fail> {
+    let text = repeated(rt.alloc(), "", "ret #0\n", 4097, "")?;
+    assert_eq!(rt;
+        assemble(rt.alloc(), &text).err(),
+        Some(AsmRefusal::TooMany { line: 4097 })
+    );
+    let text = repeated(rt.alloc(), "", "ret #0\n", 4096, "")?;
+    assert_eq!(rt; assemble(rt.alloc(), &text)?.len(), 4096);
+    Ok(())
+}
+
+#[test]
+fn checks_what_it_assembled(rt: HostRuntime) -> Result<(), Fail> {
+    let code = assemble(
+        rt.alloc(),
+        "jeq #0, L1, L2\nL1: st M[3]\nL2: ld M[3]\nret a\n",
+    )?;
+    let refused = Program::check(rt.alloc(), code).err();
+    assert_eq!(rt;
+        refused.map(|refused| (refused.why, refused.place)),
+        Some((Cause::UnsetWord { word: 3 }, 2))
+    );
+    let code = assemble(rt.alloc(), "ja L\nld M[3]\nL: ret #1\n")?;
+    assert_eq!(rt; Program::check(rt.alloc(), code)?.len(), 3);
+    Ok(())
+}
+
+#[test]
+fn lists_the_worked_example(rt: HostRuntime) -> Result<(), Fail> {
+    let code = read_listing(
+        rt.alloc(),
+        b"4,40 0 0 12,21 0 1 2054,6 0 0 4294967295,6 0 0 0,",
+    )?;
+    let text = disassemble(rt.alloc(), &Program::check(rt.alloc(), code)?)?;
+    assert_eq!(rt;
+        text.as_str(),
+        "l0:\tldh [12]\nl1:\tjeq #0x806, l2, l3\nl2:\tret #0xffffffff\nl3:\tret #0x0\n"
+    );
+    Ok(())
+}
+
+/// The text forms, each by the instructions of its program before and from itself on, and its text.
+const FORMS: [(&str, &str, &str); 50] = [
+    ("", "32 0 0 4", "ld [4]"),
+    ("", "40 0 0 12", "ldh [12]"),
+    ("", "48 0 0 1", "ldb [1]"),
+    ("", "32 0 0 4294963208", "ld ifidx"),
+    ("", "64 0 0 8", "ld [x + 8]"),
+    ("", "72 0 0 8", "ldh [x + 8]"),
+    ("", "80 0 0 4294963208", "ldb [x + 4294963208]"),
+    ("", "128 0 0 0", "ld len"),
+    ("", "129 0 0 0", "ldx len"),
+    ("", "0 0 0 255", "ld #0xff"),
+    ("", "1 0 0 4294967295", "ldx #0xffffffff"),
+    ("2 0 0 3,", "96 0 0 3", "ld M[3]"),
+    ("3 0 0 15,", "97 0 0 15", "ldx M[15]"),
+    ("", "2 0 0 0", "st M[0]"),
+    ("", "3 0 0 10", "stx M[10]"),
+    ("", "177 0 0 14", "ldx 4*([14]&0xf)"),
+    ("", "4 0 0 1", "add #0x1"),
+    ("", "12 0 0 0", "add x"),
+    ("", "20 0 0 10", "sub #0xa"),
+    ("", "28 0 0 0", "sub x"),
+    ("", "36 0 0 2", "mul #0x2"),
+    ("", "44 0 0 0", "mul x"),
+    ("", "52 0 0 3", "div #0x3"),
+    ("", "60 0 0 0", "div x"),
+    ("", "148 0 0 7", "mod #0x7"),
+    ("", "156 0 0 0", "mod x"),
+    ("", "68 0 0 16", "or #0x10"),
+    ("", "76 0 0 0", "or x"),
+    ("", "84 0 0 3758096384", "and #0xe0000000"),
+    ("", "92 0 0 0", "and x"),
+    ("", "164 0 0 1", "xor #0x1"),
+    ("", "172 0 0 0", "xor x"),
+    ("", "100 0 0 31", "lsh #0x1f"),
+    ("", "108 0 0 0", "lsh x"),
+    ("", "116 0 0 8", "rsh #0x8"),
+    ("", "124 0 0 0", "rsh x"),
+    ("", "132 0 0 0", "neg"),
+    ("", "5 0 0 1", "jmp l2"),
+    ("", "21 1 0 2054", "jeq #0x806, l2, l1"),
+    ("", "29 0 1 0", "jeq x, l1, l2"),
+    ("", "37 1 1 0", "jgt #0x0, l2, l2"),
+    ("", "45 0 0 0", "jgt x, l1, l1"),
+    ("", "53 0 1 240", "jge #0xf0, l1, l2"),
+    ("", "61 1 0 0", "jge x, l2, l1"),
+    ("", "69 0 1 1", "jset #0x1, l1, l2"),
+    ("", "77 0 1 0", "jset x, l1, l2"),
+    ("", "6 0 0 0", "ret #0x0"),
+    ("", "22 0 0 0", "ret a"),
+    ("", "7 0 0 0", "tax"),
+    ("", "135 0 0 0", "txa"),
+];
+
+#[test]
+fn lists_and_assembles_every_form(rt: HostRuntime) -> Result<(), Fail> {
+    for (before, fields, text) in FORMS {
+        let mut listing = String::new(rt.alloc());
+        let place = if before.is_empty() { 0 } else { 1 };
+        write!(listing, "{},{before}{fields},6 0 0 1,6 0 0 2,", place + 3)?;
+        let code = read_listing(rt.alloc(), listing.as_bytes())?;
+        let shown = disassemble(rt.alloc(), &Program::check(rt.alloc(), code)?)?;
+        let mut line = String::new(rt.alloc());
+        write!(line, "l{place}:\t{text}\n")?;
+        assert!(rt;
+            shown.as_str().contains(line.as_str()),
+            "{text} is not in {shown}"
+        );
+        let again = answer(rt.alloc(), &shown)?;
+        assert_eq!(rt;
+            again.as_deref().ok(),
+            Some(listing.as_bytes()),
+            "at {text}"
+        );
+    }
+    Ok(())
+}
+
+#[test]
+fn explains_with_the_line(rt: HostRuntime) -> Result<(), Fail> {
+    let text = "a: ret #0\r\n  a: ret #1";
+    let refusal = AsmRefusal::LabelTwice { line: 2 };
+    let mut said = String::new(rt.alloc());
+    write!(said, "{}", Explained { text, refusal })?;
+    assert_eq!(rt;
+        said.as_str(),
+        "line 2: a label that is defined on an earlier line already: a: ret #1"
+    );
+    assert_eq!(rt; refusal.line(), Some(2));
+    assert_eq!(rt; AsmRefusal::OutOfMemory.line(), None);
+    Ok(())
+}
+
+/// A text of 4096 instructions, of which 2000 are jumps to labels of their own.
+#[test]
+fn finds_many_labels(rt: HostRuntime) -> Result<(), Fail> {
+    let mut text = String::new(rt.alloc());
+    for n in 0..2000 {
+        write!(text, "jmp label_{n}\nlabel_{n}: tax\n")?;
+    }
+    for _ in 0..96 {
+        text.push_str("ret #1\n")?;
+    }
+    let code = assemble(rt.alloc(), &text)?;
+    assert_eq!(rt; code.len(), 4096);
+    assert_eq!(rt; (code[3998].code, code[3998].k), (5, 0));
+    Ok(())
+}
+
+#[test]
+fn returns_on_any_text(rt: HostRuntime) -> Result<(), Fail> {
+    let octets = fixed_sequence(rt.alloc())?;
+    let mut rest = octets.as_slice();
+    for turn in 0..2030 {
+        let (run, others) = rest.split_at(rest.len().min(turn % 64 + 1));
+        if let Ok(text) = str::from_utf8(run) {
+            let _ = assemble(rt.alloc(), text);
+        }
+        rest = others;
+    }
+    assert!(rt; rest.is_empty());
+    Ok(())
+}
+
+// the first 65536 octets of the sequence of multiplier 6364136223846793005 and increment 1442695040888963407
+fn fixed_sequence(alloc: Global) -> Result<Vec<u8>, AllocError> {
+    let mut s = 1u64;
+    let mut octets = Vec::new(alloc);
+    for _ in 0..65536 {
+        s = s
+            .wrapping_mul(6364136223846793005)
+            .wrapping_add(1442695040888963407);
+        octets.push((s >> 56) as u8)?;
+    }
+    Ok(octets)
+}
