@@ -39,7 +39,10 @@ pub enum Refusal {
     /// 96: a read failed.
     ReadFault,
     /// 40 to 49: a text that means no code, and the text.
-    Assembler { why: AsmRefusal, text: Vec<u8> },
+    Assembler {
+        why: AsmRefusal,
+        text: Vec<u8>,
+    },
     /// 50 to 55: a text that is no table.
     Table(TableRefusal),
     /// 98: an input of more than 1048576 octets.

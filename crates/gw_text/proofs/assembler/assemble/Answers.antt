@@ -57,6 +57,6 @@ pub returns-clause-few : goal.returns-clause-few
 returns-clause-few c =
     let views = map instruction_view c.deref-5.result.now in
     let long =
-        ap length c.in_ok-encode.ensures ∙ length-map (enumerate_from 0 views) (raw_at (place_in c.in_ok-places.places)) ∙ length-enumerate_from 0 views
-        ∙ length-map c.deref-5.result.now instruction_view ∙ ap length (c.deref-5.ensures.value ∙ sym c.deref-4.ensures.value) in
+    ap length c.in_ok-encode.ensures ∙ length-map (enumerate_from 0 views) (raw_at (place_in c.in_ok-places.places)) ∙ length-enumerate_from 0 views
+    ∙ length-map c.deref-5.result.now instruction_view ∙ ap length (c.deref-5.ensures.value ∙ sym c.deref-4.ensures.value) in
     omega (arith, long, c.deref-4.ensures.len, c.len.ensures, c.if-len-gt-MOST_INSTRUCTIONS.false)
