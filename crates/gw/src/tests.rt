@@ -346,6 +346,43 @@ fn tells_of_listings(rt: HostRuntime) {
     tells(&rt, rt.alloc(), &["verdict", R], &rows);
 }
 
+/// The worked examples of assembler texts and of programs' texts.
+#[test]
+fn assembles_and_lists(rt: HostRuntime) {
+    let alloc = rt.alloc();
+    let texts = [
+        (
+            "ldh [12]\njne #0x806, drop\nret #-1\ndrop: ret #0",
+            0,
+            "4,40 0 0 12,21 0 1 2054,6 0 0 4294967295,6 0 0 0,\n",
+        ),
+        (
+            "ld #ifidx\nret a\n",
+            0,
+            "2,32 0 0 4294963208,22 0 0 0,\n",
+        ),
+        ("a: ret #0\na: ret #1\n", 1, "refused 44 2\n"),
+        ("", 0, "0,\n"),
+    ];
+    answers(&rt, alloc, &["asm"], &texts);
+    let latin = outcome_of(alloc, &["asm"], &[255]);
+    assert_eq!(rt; latin.output.as_slice(), b"refused 98\n".as_slice());
+    let listings = [
+        (
+            "4,40 0 0 12,21 0 1 2054,6 0 0 4294967295,6 0 0 0,",
+            0,
+            "l0:\tldh [12]\nl1:\tjeq #0x806, l2, l3\nl2:\tret #0xffffffff\nl3:\tret #0x0\n",
+        ),
+        (
+            "2,32 0 0 4294963208,22 0 0 0,",
+            0,
+            "l0:\tld ifidx\nl1:\tret a\n",
+        ),
+        ("1,7 0 0 0,", 1, "refused 28 0\n"),
+    ];
+    answers(&rt, alloc, &["list"], &listings);
+}
+
 /// The usual mistakes in a record: copied from a bus monitor, or a part of it forgotten.
 #[test]
 fn tells_of_records(rt: HostRuntime) {
