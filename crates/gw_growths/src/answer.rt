@@ -2,6 +2,7 @@
 
 use gw_insn::ListRefusal;
 use gw_table::TableRefusal;
+use gw_text::AsmRefusal;
 use gw_verify::{Cause, Path};
 use std::fmt;
 use std::fmt::{Display, Formatter};
@@ -11,7 +12,7 @@ use std::fmt::{Display, Formatter};
 pub enum Answer {
     /// Code of so many instructions.
     Instructions(usize),
-    /// The listing that was written.
+    /// The listing or the assembler text that was written.
     Listing(Vec<u8>),
     /// An accepted program of so many instructions.
     Accepted(usize),
@@ -34,8 +35,20 @@ pub enum Answer {
         front: u32,
         passes: bool,
     },
+    /// So many frames were taken at port 0.
+    Taken(u64),
+    /// So many events were accepted.
+    Events(usize),
+    /// No gateway.
+    NoCore,
+    /// Events that were not done, and whether they came back with the gateway as it was.
+    NoAnswers {
+        is_back: bool,
+    },
     /// Why a text is no listing.
     NoListing(ListRefusal),
+    /// Why a text is refused by the assembler.
+    NoAssembly(AsmRefusal),
     /// Why a text is no table.
     NoTable(TableRefusal),
     /// Want of memory, where the call has no number of its own for it.
@@ -65,7 +78,19 @@ impl Display for Answer {
                 let verdict = if *passes { "pass" } else { "block" };
                 write!(f, "front {front}, {verdict}")
             }
+            Answer::Taken(count) => write!(f, "{count} frames taken"),
+            Answer::Events(count) => write!(f, "{count} events"),
+            Answer::NoCore => f.write_str("refused 71"),
+            Answer::NoAnswers { is_back } => f.write_str(if *is_back {
+                "refused 71, the events are back"
+            } else {
+                "refused 71, other events are back"
+            }),
             Answer::NoListing(why) => no_listing(f, *why),
+            Answer::NoAssembly(why) => {
+                let number = why.number();
+                write!(f, "refused {number}")
+            }
             Answer::NoTable(why) => {
                 let number = why.number();
                 write!(f, "refused {number}")

@@ -4,10 +4,12 @@ ghost use Rattle.std.specs.Prelude.{◌≤◌, length, IfOk};
 
 use crate::answer::Answer;
 use crate::fault::Fault;
+use crate::gateway::{make_core, make_events, make_run};
 use gw_frame::Frame;
 use gw_insn::{Raw, read_listing, write_listing};
 use gw_policy::{Batch, Policy, PolicySet};
 use gw_table::{Table, compile};
+use gw_text::{assemble, disassemble};
 use gw_verify::{Program, explain};
 use std::alloc::Global;
 use std::io::Write;
@@ -15,6 +17,9 @@ use std::sync::Arc;
 
 /// `ldh [12]`, `jne #0x806, drop`, `ret #-1`, `drop: ret #0`.
 const LISTING: &str = "4,40 0 0 12,21 0 1 2054,6 0 0 4294967295,6 0 0 0,";
+
+/// The same as assembler text.
+const ASSEMBLER_TEXT: &str = "ldh [12]\njne #0x806, drop\nret #-1\ndrop: ret #0\n";
 
 /// The same, cut within instruction 2.
 const CUT_LISTING: &str = "4,40 0 0 12,21 0 1 2054,6 0 0 42949";
@@ -37,17 +42,17 @@ pgn = 61184
 "#;
 
 /// `ret #1`, and `ret #0`.
-const PASS: &str = "1,6 0 0 1,";
+pub(crate) const PASS: &str = "1,6 0 0 1,";
 
 const BLOCK: &str = "1,6 0 0 0,";
 
 /// EEC1 of an engine.
-const ENGINE_SPEED: [u8; 16] = [
+pub(crate) const ENGINE_SPEED: [u8; 16] = [
     0x8C, 0xF0, 0x04, 0x00, 8, 0, 0, 0, 255, 255, 255, 255, 255, 255, 255, 255,
 ];
 
 /// The port whose policy is replaced.
-const PORT: u8 = 3;
+pub(crate) const PORT: u8 = 3;
 
 /// A library call that takes memory.
 #[derive(Clone, Copy, PartialEq, Eq, Debug)]
@@ -64,6 +69,10 @@ pub enum Call {
     CheckUnsetWord,
     /// `explain`.
     Explain,
+    /// `assemble`.
+    Assemble,
+    /// `disassemble`.
+    Disassemble,
     /// `Table::read`.
     ReadTable,
     /// `compile`.
@@ -72,21 +81,32 @@ pub enum Call {
     FromTable,
     /// `PolicySet::absorb`, which copies an `Arc` and so takes no memory of the allocator.
     Absorb,
+    /// `Core::new`.
+    NewCore,
+    /// `Core::run`.
+    RunEvents,
+    /// `Core::event`, once for each event, which takes no memory.
+    DoEvents,
 }
 
 impl Call {
     /// Every call.
-    pub const ALL: [Call; 10] = [
+    pub const ALL: [Call; 15] = [
         Call::ReadListing,
         Call::ReadCutListing,
         Call::WriteListing,
         Call::Check,
         Call::CheckUnsetWord,
         Call::Explain,
+        Call::Assemble,
+        Call::Disassemble,
         Call::ReadTable,
         Call::Compile,
         Call::FromTable,
         Call::Absorb,
+        Call::NewCore,
+        Call::RunEvents,
+        Call::DoEvents,
     ];
 
     /// The word that names the call.
@@ -98,10 +118,15 @@ impl Call {
             Call::Check => "check",
             Call::CheckUnsetWord => "check_unset_word",
             Call::Explain => "explain",
+            Call::Assemble => "assemble",
+            Call::Disassemble => "disassemble",
             Call::ReadTable => "read_table",
             Call::Compile => "compile",
             Call::FromTable => "from_table",
             Call::Absorb => "absorb",
+            Call::NewCore => "core_new",
+            Call::RunEvents => "core_run",
+            Call::DoEvents => "core_event",
         }
     }
 
@@ -119,10 +144,15 @@ impl Call {
             Call::Check => make_check(alloc, UNREACHABLE_LOAD, output),
             Call::CheckUnsetWord => make_check(alloc, UNSET_WORD, output),
             Call::Explain => make_explain(alloc, output),
+            Call::Assemble => make_assemble(alloc, output),
+            Call::Disassemble => make_disassemble(alloc, output),
             Call::ReadTable => make_read_table(alloc, output),
             Call::Compile => make_compile(alloc, output),
             Call::FromTable => make_from_table(alloc, output),
             Call::Absorb => make_absorb(alloc, output),
+            Call::NewCore => make_core(alloc, output),
+            Call::RunEvents => make_run(alloc, output),
+            Call::DoEvents => make_events(alloc, output),
         }
     }
 }
@@ -163,6 +193,23 @@ fn make_explain<W: Write>(alloc: Global, output: &mut W) -> Result<Answer, Fault
     say_ready(output)?;
     Ok(match explain(alloc, &code, 2, 3) {
         Ok(path) => Answer::Path(path),
+        Err(_) => Answer::OutOfMemory,
+    })
+}
+
+fn make_assemble<W: Write>(alloc: Global, output: &mut W) -> Result<Answer, Fault> {
+    say_ready(output)?;
+    Ok(match assemble(alloc, ASSEMBLER_TEXT) {
+        Ok(code) => Answer::Instructions(code.len()),
+        Err(why) => Answer::NoAssembly(why),
+    })
+}
+
+fn make_disassemble<W: Write>(alloc: Global, output: &mut W) -> Result<Answer, Fault> {
+    let program = Program::check(alloc, code_of(alloc, PASS)?).map_err(|_| Fault::Unprepared)?;
+    say_ready(output)?;
+    Ok(match disassemble(alloc, &program) {
+        Ok(text) => Answer::Listing(text.into_bytes()),
         Err(_) => Answer::OutOfMemory,
     })
 }
@@ -216,7 +263,7 @@ fn make_absorb<W: Write>(alloc: Global, output: &mut W) -> Result<Answer, Fault>
 }
 
 /// A batch of one pair: the port, and the policy of a listing.
-fn batch_of(alloc: Global, listing: &str) -> Result<Batch, Fault> {
+pub(crate) fn batch_of(alloc: Global, listing: &str) -> Result<Batch, Fault> {
     let Ok(program) = Program::check(alloc, code_of(alloc, listing)?) else {
         return Err(Fault::Unprepared);
     };
@@ -231,7 +278,7 @@ fn batch_of(alloc: Global, listing: &str) -> Result<Batch, Fault> {
 }
 
 /// Says that a call's arguments are there.
-fn say_ready<W: Write>(output: &mut W) -> Result<(), Fault> {
+pub(crate) fn say_ready<W: Write>(output: &mut W) -> Result<(), Fault> {
     writeln!(output, "ready")?;
     Ok(())
 }

@@ -1,6 +1,6 @@
 //! Why a call was not made, or its answer not told.
 
-use std::alloc::AllocError;
+use std::alloc::{AllocError, AllocFailed};
 use std::fmt::{Display, Formatter};
 use std::{fmt, io};
 
@@ -38,6 +38,12 @@ impl Display for Fault {
 
 impl From<AllocError> for Fault {
     fn from(_: AllocError) -> Fault {
+        Fault::Unprepared
+    }
+}
+
+impl<T: Drop> From<AllocFailed<T>> for Fault {
+    fn from(_: AllocFailed<T>) -> Fault {
         Fault::Unprepared
     }
 }

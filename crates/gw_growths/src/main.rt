@@ -7,6 +7,7 @@
 mod answer;
 mod call;
 mod fault;
+mod gateway;
 
 use call::Call;
 use fault::Fault;
