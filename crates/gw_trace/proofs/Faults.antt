@@ -1,0 +1,123 @@
+-- A fault of octets is of a header or of a record: neither memory nor a reader is one.
+use Rattle.std.proofs.Common.{◌≡◌, ◌≢◌, ℕ, ◌+◌, Bool, true, false, not, cond, List, [], ◌∷◌, ◌++◌, length, take, drop, Option, Some, None, Result, Ok, Err, sym, ap, ◌∙◌, subst, refl, append_assoc, append-nil, true≢false}
+use Rattle.std.specs.Prelude.{is_err, OnOk}
+use Rattle.std.specs.Io.KnownBytes.{Consumes, IsAtEnd}
+use Rattle.std.specs.Option.{option_map_or}
+use Rattle.gw_trace.specs.declared.order.Order.{Order}
+use Rattle.gw_trace.specs.declared.stage.Stage.{Stage}
+use Rattle.gw_trace.specs.declared.stage.Stage.TheVariants.{Header, Records, Failed}
+use Rattle.gw_trace.specs.declared.refusal.TraceRefusal.{TraceRefusal}
+use Rattle.gw_trace.specs.declared.refusal.TraceRefusal.TheVariants.{BadMagic, BadVersion, BadLink, BadRecord, OutOfMemory, Cut, ReadFault}
+use Rattle.gw_trace.specs.Traces.{Contents, contents, index_of, reading_from, reading_behind, reading, header_in, header_of, is_version_2_4, is_link_227, order_of, ending}
+use Rattle.gw_trace.specs.FaultKinds.{IsFault}
+use Rattle.gw_trace.specs.Progress.{IsNoTrace, IsUnread}
+use Rattle.gw_trace.proofs.Resuming.{reading_header, reading_records, by_test}
+
+header_faults : (header : List ℕ) (r : Result Order TraceRefusal) (fault : TraceRefusal) → header_of header ≡ r → r ≡ Err fault
+    → IsFault fault
+unfolding header_of
+header_faults header r fault e h = behind_magic (order_of header) (e ∙ h)
+  where
+    failed_with : (met : TraceRefusal) → IsFault met → ◌≡◌ {A = Result Order TraceRefusal} (Err met) (Err fault) → IsFault fault
+    failed_with met is same = let one : met ≡ fault = cc in subst IsFault one is
+
+    is_fine : (order : Order) → ◌≡◌ {A = Result Order TraceRefusal} (Ok order) (Err fault) → ⊥
+    is_fine order h = cc
+
+    behind_version : (order : Order) (version link : Bool)
+        → cond (not version) (Err BadVersion) (cond (not link) (Err BadLink) (Ok order)) ≡ Err fault → IsFault fault
+    behind_version order false link h = failed_with BadVersion tt h
+    behind_version order true false h = failed_with BadLink tt h
+    behind_version order true true h = absurd (is_fine order h)
+
+    behind_magic : (order : Option Order) → header_in header order ≡ Err fault → IsFault fault
+    behind_magic None h = failed_with BadMagic tt h
+    behind_magic (Some order) h = behind_version order (is_version_2_4 order header) (is_link_227 order header) h
+
+-- a fault that shows in a reading is of the octets
+pub reading_faults : (octets : List ℕ) (fault : TraceRefusal) → (reading octets).stage ≡ Failed fault → IsFault fault
+reading_faults octets fault h =
+    by_test (IsFault fault) (length octets) 24
+    (λ short. absurd (in_header (sym (ap (λ r. r.stage) (reading_header octets short)) ∙ h)))
+    (λ long. behind (header_of (take 24 octets)) refl (sym (ap (λ r. r.stage) (reading_records octets long)) ∙ h))
+  where
+    in_header : Header ≡ Failed fault → ⊥
+    in_header h = cc
+
+    among : (order : Order) → Records order ≡ Failed fault → ⊥
+    among order h = cc
+
+    failed_with : (met : TraceRefusal) → IsFault met → Failed met ≡ Failed fault → IsFault fault
+    failed_with met is same = let one : met ≡ fault = cc in subst IsFault one is
+
+    in_records : (order : Order) (c : Contents) → (reading_from order 0 c).stage ≡ Failed fault → IsFault fault
+    in_records order c h = elim c.fault as (λ f. option_map_or (λ why. Failed (BadRecord (index_of (0 + length c.frames)) why))
+        f (Records order) ≡ Failed fault → IsFault fault) [
+          | None ↦ λ e. absurd (among order e)
+          | Some why ↦ λ e. failed_with (BadRecord (index_of (0 + length c.frames)) why) tt e
+        ] h
+
+    behind : (r : Result Order TraceRefusal) → header_of (take 24 octets) ≡ r
+        → (reading_behind r (drop 24 octets)).stage ≡ Failed fault → IsFault fault
+    behind (Err met) e h = failed_with met (header_faults (take 24 octets) (Err met) met e refl) h
+    behind (Ok order) e h = in_records order (contents order (drop 24 octets)) h
+
+-- want of memory is no fault of octets
+pub no_memory_fault : (octets : List ℕ) → (reading octets).stage ≡ Failed OutOfMemory → ⊥
+no_memory_fault octets h = reading_faults octets OutOfMemory h
+
+-- what is wrong with a whole trace is no failed read
+ending_is : (stage : Stage) (rest : List ℕ) (fault : TraceRefusal) → ((met : TraceRefusal) → stage ≡ Failed met → IsFault met)
+    → Some fault ≡ ending stage rest → fault ≢ ReadFault
+ending_is Header rest fault faults h k = let same : Some ReadFault ≡ Some Cut = sym (ap Some k) ∙ h in absurd (cc)
+ending_is (Records order) [] fault faults h k = absurd (cc)
+ending_is (Records order) (octet ∷ rest) fault faults h k =
+    let same : Some ReadFault ≡ Some Cut = sym (ap Some k) ∙ h in absurd (cc)
+ending_is (Failed met) rest fault faults h k = faults ReadFault (let same : met ≡ ReadFault = cc in ap Failed same)
+
+unread : (before after : Option (List ℕ)) (failed : Bool) (reads : ℕ) (fault : TraceRefusal) → IsNoTrace before after fault
+    → fault ≢ ReadFault → IsUnread before after failed reads fault
+unread before after failed reads BadMagic none other = none
+unread before after failed reads BadVersion none other = none
+unread before after failed reads BadLink none other = none
+unread before after failed reads (BadRecord index why) none other = none
+unread before after failed reads OutOfMemory none other = tt
+unread before after failed reads Cut none other = none
+unread before after failed reads ReadFault none other = absurd (other refl)
+
+-- a trace that a reader gave to its end is refused by what the octets end with
+pub trace_is_unread : (before after : Option (List ℕ)) (failed : Bool) (reads : ℕ) (fault : TraceRefusal) (octets : List ℕ)
+    → Consumes before after octets → IsAtEnd after
+    → Some fault ≡ ending (reading octets).stage (reading octets).rest → IsUnread before after failed reads fault
+trace_is_unread before after failed reads fault octets consumed end h =
+    unread before after failed reads fault
+    (record {
+      octets = octets;
+      consumed = consumed;
+      end = end;
+      refused = ap (λ e. option_map_or Err e (Ok (reading octets).frames)) (sym h);
+    })
+    (ending_is (reading octets).stage (reading octets).rest fault (reading_faults octets) h)
+
+-- what a reader gave, with one more piece
+pub consumed_more : (a b c : Option (List ℕ)) (xs ys : List ℕ) → Consumes a b xs → Consumes b c ys → Consumes a c (xs ++ ys)
+consumed_more None b c xs ys h k = tt
+consumed_more (Some p) None c xs ys h k = absurd h
+consumed_more (Some p) (Some q) None xs ys h k = absurd k
+consumed_more (Some p) (Some q) (Some r) xs ys h k = h ∙ ap (λ zs. xs ++ zs) k ∙ sym (append_assoc xs ys r)
+
+-- no read gave nothing
+pub consumed_nothing : (a : Option (List ℕ)) → Consumes a a []
+consumed_nothing None = tt
+consumed_nothing (Some xs) = refl
+
+-- the last read gave nothing
+pub consumed_at_end : (a b c : Option (List ℕ)) (xs piece : List ℕ) (n : ℕ) → n ≡ 0 → Consumes a b xs
+    → Consumes b c (take n piece) → Consumes a c xs
+consumed_at_end a b c xs piece n e h k =
+    subst (Consumes a c) (append-nil xs) (consumed_more a b c xs [] h (subst (λ m. Consumes b c (take m piece)) e k))
+
+-- what holds of an answer that is not refused
+pub on_ok : {T E P : Type 0} (r : Result T E) → is_err r ≡ false → OnOk r P → P
+on_ok (Ok x) e h = h
+on_ok (Err x) e h = absurd (true≢false e)

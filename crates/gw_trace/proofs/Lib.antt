@@ -1,0 +1,10 @@
+pub mod Beginnings
+pub mod Contents
+pub mod Faults
+pub mod Feeding
+pub mod Holding
+pub mod Resuming
+pub mod Shared
+pub mod Verdicts
+pub mod Walked
+mod TraceExamples

@@ -1,0 +1,67 @@
+//! The records of a trace.
+
+ghost use Rattle.std.specs.Prelude.{◌≡◌, ◌≤◌, ◌+◌, length};
+ghost use Rattle.gw_trace.specs.declared.record.Beginning.TheVariants.{Whole};
+ghost use Rattle.gw_trace.specs.Traces.{captured, captured_length, beginning};
+ghost use Rattle.gw_trace.specs.Wholes.{IsWithin};
+
+use crate::order::Order;
+use gw_frame::{Frame, FrameRefusal};
+
+/// How many octets stand before a record's own.
+pub const RECORD_HEADER: usize = 16;
+
+/// What octets behind a header or a record begin with.
+#[derive(Clone, Copy, PartialEq, Eq, Debug)]
+pub enum Beginning {
+    /// Less than a record, and nothing wrong with it so far.
+    Unfinished,
+    /// A record that is no frame.
+    Bad(FrameRefusal),
+    /// A record of so many octets, behind its header.
+    Whole(usize),
+}
+
+/// The captured length, as a record's header has it.
+pub fn captured_len(order: Order, octets: &[u8]) -> usize
+    requires { RECORD_HEADER ≤ length octets.now }
+    ensures { result ≡ captured_length order octets.now }
+{
+    order.read_u32(&octets[8..12]) as usize
+}
+
+/// What the octets begin with.
+#[tactic(auto, unfolding(crate::specs::Traces::beginning))]
+pub fn begins(order: Order, octets: &[u8]) -> Beginning
+    ensures begins { result ≡ beginning order octets.now }
+    ensures within { IsWithin (length octets.now) result }
+{
+    if octets.len() < RECORD_HEADER {
+        return Beginning::Unfinished;
+    }
+    let captured = captured_len(order, octets);
+    if captured < 8 {
+        return Beginning::Bad(FrameRefusal::TooShort { len: captured });
+    }
+    if captured > 16 {
+        return Beginning::Bad(FrameRefusal::TooLong { len: captured });
+    }
+    if octets.len() < RECORD_HEADER + captured {
+        return Beginning::Unfinished;
+    }
+    match Frame::read(&octets[RECORD_HEADER..RECORD_HEADER + captured]) {
+        Ok(_) => Beginning::Whole(captured),
+        Err(why) => Beginning::Bad(why),
+    }
+}
+
+/// The frame of the whole record that the octets begin with.
+pub fn frame_in(order: Order, octets: &[u8], count: usize) -> Frame
+    requires whole { beginning order octets.now ≡ Whole count }
+    requires within { RECORD_HEADER + count ≤ length octets.now }
+    ensures { result ≡ captured count octets.now }
+{
+    let (record, _rest) = octets.split_at(RECORD_HEADER + count);
+    let frame = Frame::read(&record[RECORD_HEADER..]).unwrap();
+    frame
+}

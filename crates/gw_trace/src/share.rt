@@ -1,0 +1,95 @@
+//! Shares of checked octets among ports.
+
+ghost use Rattle.std.specs.Prelude.{◌≡◌, ◌≤◌, ◌<◌, ◌+◌, ◌∷◌, drop, length};
+ghost use Rattle.std.specs.Iterator.{YieldsFirst, item_count};
+ghost use Rattle.gw_trace.specs.Traces.{captured_length, contents};
+ghost use Rattle.gw_trace.specs.Wholes.{AreRecords};
+
+use crate::order::Order;
+use crate::record::{RECORD_HEADER, captured_len};
+use gw_frame::Frame;
+use std::marker::Model;
+
+/// One port's frames of checked octets, in order.
+#[derive(Drop)]
+pub struct Share<'a> {
+    pub(crate) order: Order,
+    /// The records from the one behind the last frame given.
+    pub(crate) records: &'a [u8],
+    /// How many of these stand before the next frame.
+    pub(crate) skip: usize,
+    /// How many records of others stand between two frames.
+    pub(crate) others: usize,
+}
+
+impl<'a> Model for Share<'a> {
+    ghost use Rattle.std.specs.Prelude.{ℕ, List};
+
+    ghost Value = { List (List ℕ) };
+
+    ghost use Rattle.gw_trace.specs.Kept.{shared_of, IsShare};
+
+    ghost view = { shared_of };
+
+    ghost invariant = { IsShare };
+}
+
+impl<'a> Iterator for Share<'a> {
+    type Item = Frame;
+
+    ghost next_gives = { YieldsFirst (λ s. s) };
+
+    ghost remaining = { item_count (λ s. s) };
+
+    fn next(&mut self) -> Option<Frame> {
+        let records = passed(self.order, self.records, self.skip);
+        if records.is_empty() {
+            self.records = records;
+            return None;
+        }
+        let (frame, rest) = first(self.order, records);
+        self.records = rest;
+        self.skip = self.others;
+        Some(frame)
+    }
+}
+
+// The length of the first record, behind its header.
+fn first_len(order: Order, records: &[u8]) -> usize
+    requires whole { AreRecords order records.now }
+    requires some { 0 < length records.now }
+    ensures len { result ≡ captured_length order records.now }
+    ensures within { RECORD_HEADER + result ≤ length records.now }
+    ensures few { result ≤ 16 }
+{
+    captured_len(order, records)
+}
+
+// The first record's frame, and the records behind it.
+fn first<'a>(order: Order, records: &'a [u8]) -> (Frame, &'a [u8])
+    requires whole { AreRecords order records.now }
+    requires some { 0 < length records.now }
+    ensures frames { (contents order records.now).frames ≡ result.0 ∷ (contents order result.1.now).frames }
+    ensures others { AreRecords order result.1.now }
+{
+    let (record, rest) = records.split_at(RECORD_HEADER + first_len(order, records));
+    let frame = Frame::read(&record[RECORD_HEADER..]).unwrap();
+    (frame, rest)
+}
+
+// The records behind so many, or none where there are no more.
+fn passed<'a>(order: Order, records: &'a [u8], count: usize) -> &'a [u8]
+    requires { AreRecords order records.now }
+    ensures frames { (contents order result.now).frames ≡ drop count (contents order records.now).frames }
+    ensures whole { AreRecords order result.now }
+{
+    let mut rest = records;
+    'passed: for _i in 0..count {
+        if rest.is_empty() {
+            break;
+        }
+        let (_record, others) = rest.split_at(RECORD_HEADER + first_len(order, rest));
+        rest = others;
+    }
+    rest
+}

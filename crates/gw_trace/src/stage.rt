@@ -1,0 +1,15 @@
+//! How far a trace was read.
+
+use crate::order::Order;
+use crate::refusal::TraceRefusal;
+
+/// Where the octets read so far end.
+#[derive(Clone, Copy, PartialEq, Eq, Debug)]
+pub enum Stage {
+    /// Within the header.
+    Header,
+    /// Behind the header, among records in this byte order.
+    Records(Order),
+    /// At a fault, or behind it.
+    Failed(TraceRefusal),
+}

@@ -1,0 +1,167 @@
+//! A trace that comes in pieces.
+
+ghost use Rattle.std.specs.Prelude.{◌≡◌, ◌≢◌, ◌<◌, ℕ, List, [], ◌++◌, length, Err, IfOk, IfErr, OnOk};
+ghost use Rattle.std.specs.Result.{result_err};
+ghost use Rattle.gw_trace.specs.declared.refusal.TraceRefusal.TheVariants.{OutOfMemory};
+ghost use Rattle.gw_trace.specs.Traces.{beginning, ending, reading};
+ghost use Rattle.gw_trace.specs.declared.record.Beginning.TheVariants.{Unfinished};
+ghost use Rattle.gw_trace.specs.Progress.{HasRead, Gives, IsRefused, fault_in, in_header, in_records, at_fault, read_on};
+ghost use Rattle.gw_trace.specs.Additions.{IsAdded};
+
+use crate::added;
+use crate::added::Added;
+use crate::held::Held;
+use crate::order::Order;
+use crate::refusal::TraceRefusal;
+use crate::stage::Stage;
+use gw_frame::Frame;
+use std::alloc::{AllocError, Global};
+use std::marker::Model;
+
+/// A trace that is read in pieces, as they come. It keeps at most the front of one header or record.
+#[derive(Drop)]
+pub struct Trace {
+    pub(crate) stage: Stage,
+    pub(crate) held: Held,
+    /// How many frames were given, up to 18446744073709551615.
+    pub(crate) given: usize,
+}
+
+impl Model for Trace {
+    ghost use Rattle.gw_trace.specs.Progress.{Progress, IsKept};
+
+    ghost Value = { Progress };
+
+    ghost view = { λ t. record { stage = t.stage; rest = t.held; given = t.given } };
+
+    ghost invariant = { λ t. IsKept t.stage t.held t.given };
+}
+
+impl Trace {
+    /// A trace of which nothing was read.
+    pub fn new() -> Self
+        ensures { HasRead result [] }
+    {
+        Trace::beginning(Held::new())
+    }
+
+    /// Reads the next piece, and gives the frames that become whole with it. A fault, 90 to 93, is the answer at once where
+    /// no frame stands before it in the piece, else of the next call, and then for good. After 94, want of memory, nothing
+    /// has changed.
+    pub fn feed(&mut self, alloc: Global, piece: &[u8]) -> Result<Vec<Frame>, TraceRefusal>
+        ensures frames { (octets : List ℕ) → HasRead self.old octets →
+            IfOk result (λ frames. Gives octets piece.now frames.items) }
+        ensures refused { (octets : List ℕ) → HasRead self.old octets →
+            IfErr result (λ e. e ≢ OutOfMemory → IsRefused octets piece.now e) }
+        ensures read { (octets : List ℕ) → HasRead self.old octets →
+            result ≢ Err OutOfMemory → HasRead self.new (octets ++ piece.now) }
+        ensures unchanged { (octets : List ℕ) → HasRead self.old octets →
+            result ≡ Err OutOfMemory → self.new ≡ self.old }
+    {
+        let added = self.read_on(piece);
+        match added.refusal() {
+            Some(fault) => {
+                *self = added.next;
+                Err(fault)
+            }
+            None => {
+                let Ok(mut frames) = Vec::with_capacity(alloc, added.len()) else {
+                    return Err(TraceRefusal::OutOfMemory);
+                };
+                *self = added.give(&mut frames);
+                Ok(frames)
+            }
+        }
+    }
+
+    /// What is wrong with a trace that ends here: the fault met, or 95 where it ends inside its header or inside a record.
+    pub fn end(&self) -> Result<(), TraceRefusal>
+        ensures { (octets : List ℕ) → HasRead self.now octets →
+            result_err result ≡ ending (reading octets).stage (reading octets).rest }
+    {
+        match self.stage {
+            Stage::Header => Err(TraceRefusal::Cut),
+            Stage::Failed(fault) => Err(fault),
+            Stage::Records(_) => {
+                if self.held.octets().is_empty() {
+                    Ok(())
+                } else {
+                    Err(TraceRefusal::Cut)
+                }
+            }
+        }
+    }
+
+    // The same as `feed`, with the frames behind others, but that a fault waits for the end.
+    pub(crate) fn feed_to(
+        &mut self,
+        frames: &mut Vec<Frame>,
+        piece: &[u8],
+    ) -> Result<(), AllocError>
+        ensures frames { (octets : List ℕ) → HasRead self.old octets → frames.old.items ≡ (reading octets).frames →
+            OnOk result (frames.new.items ≡ (reading (octets ++ piece.now)).frames) }
+        ensures read { (octets : List ℕ) → HasRead self.old octets →
+            OnOk result (HasRead self.new (octets ++ piece.now)) }
+    {
+        let added = self.read_on(piece);
+        frames.reserve(added.len())?;
+        *self = added.give(frames);
+        Ok(())
+    }
+
+    // What a piece adds.
+    fn read_on<'a>(&self, piece: &'a [u8]) -> Added<'a>
+        ensures { IsAdded result self.now.given (read_on self.now piece.now) }
+    {
+        match self.stage {
+            Stage::Header => added::to_header(&self.held, piece),
+            Stage::Records(order) => added::to_records(order, self.given, &self.held, piece),
+            Stage::Failed(fault) => Added::nothing(Trace::failed(fault, self.given)),
+        }
+    }
+
+    // The fault met.
+    pub(crate) fn fault(&self) -> Option<TraceRefusal>
+        ensures { result ≡ fault_in self.now.stage }
+    {
+        match self.stage {
+            Stage::Failed(fault) => Some(fault),
+            Stage::Header | Stage::Records(_) => None,
+        }
+    }
+
+    // A trace within its header.
+    pub(crate) fn beginning(held: Held) -> Trace
+        requires { length held < 24 }
+        ensures { result ≡ in_header held }
+    {
+        Trace {
+            stage: Stage::Header,
+            held,
+            given: 0,
+        }
+    }
+
+    // A trace behind its header, with the front of a record.
+    pub(crate) fn among(order: Order, held: Held, given: usize) -> Trace
+        requires { beginning order held ≡ Unfinished }
+        ensures { result ≡ in_records order held given }
+    {
+        Trace {
+            stage: Stage::Records(order),
+            held,
+            given,
+        }
+    }
+
+    // A trace that met a fault.
+    pub(crate) fn failed(fault: TraceRefusal, given: usize) -> Trace
+        ensures { result ≡ at_fault fault given }
+    {
+        Trace {
+            stage: Stage::Failed(fault),
+            held: Held::new(),
+            given,
+        }
+    }
+}
