@@ -1,6 +1,7 @@
 /*
  * Times the gateway's machine beside libpcap's bpf_filter, and a table's rules beside its program: the same records, one
- * process, in turn; then the event machine. Prints three tables in markdown. Fails where two answers to the same question differ.
+ * process, in turn; then the event machine, the assembler, and traces beside libpcap's reader. Prints tables in markdown. Fails
+ * where two answers to the same question differ. With one word more, `texts` or `traces`, it times that alone.
  */
 #include "bench.h"
 
@@ -176,16 +177,21 @@ static bool time_rules(const char *name, const uint8_t (*records)[16])
     printf("|---|---|---|---|---|---|---|---|\n");
     printf("| %zu | %.1f | %d of %d | %.1f | %.1f | %.1f | %.2f | %.2f |\n", length, (double)steps / RECORDS, passed, RECORDS,
            rules_best / frames, our_best / frames, their_best / frames, our_best / rules_best, our_best / their_best);
-    return time_events(text, text_length, records);
+    return time_tables(text, text_length, records) && time_events(text, text_length, records);
 }
 
 int main(int argc, char **argv)
 {
     static uint8_t records[RECORDS][16];
-    if (argc != 2) {
-        fprintf(stderr, "usage: bench TABLE.toml\n");
+    if (argc != 2 && argc != 3) {
+        fprintf(stderr, "usage: bench TABLE.toml [texts|traces]\n");
         return 2;
     }
+    const char *alone = argc == 3 ? argv[2] : "";
     write_records(records);
-    return time_programs(records) && time_rules(argv[1], records) ? 0 : 1;
+    if (strcmp(alone, "texts") == 0)
+        return time_texts() ? 0 : 1;
+    if (strcmp(alone, "traces") == 0)
+        return time_traces(records) ? 0 : 1;
+    return time_programs(records) && time_rules(argv[1], records) && time_texts() && time_traces(records) ? 0 : 1;
 }

@@ -15,11 +15,27 @@ bool gw_bench_run(const struct bpf_insn *code, size_t length, const uint8_t (*re
                   uint32_t rounds, uint32_t *answers, size_t room);
 bool gw_bench_judge(const char *text, size_t length, const uint8_t (*records)[16], size_t count, uint32_t rounds,
                     bool *verdicts, size_t room);
+bool gw_bench_index(const char *text, size_t length, const uint8_t (*records)[16], size_t count, uint32_t rounds,
+                    bool *verdicts, size_t room);
+uint64_t gw_bench_cold(const char *text, size_t length, const uint8_t (*records)[16], size_t count, const uint64_t *walk,
+                       size_t words, uint32_t rounds, uint32_t way);
 size_t gw_bench_compile(const char *text, size_t length, struct bpf_insn *code, size_t room);
+
+/* How many instructions an assembler text has, or 0. */
+size_t gw_bench_assemble(const char *text, size_t length);
 
 size_t gw_bench_events(const char *text, size_t length, const uint8_t (*records)[16], size_t count, bool run);
 uint64_t gw_bench_steps(const struct bpf_insn *code, size_t length, const uint8_t (*records)[16], size_t count,
                         uint32_t rounds, bool core);
+
+/* Frames of a trace: how many, and the exclusive or of their identifier words. */
+struct tally {
+    uint64_t frames;
+    uint32_t word;
+};
+
+bool gw_bench_shares(const uint8_t *octets, size_t length, size_t ports, struct tally *tally);
+bool gw_bench_feed(const uint8_t *octets, size_t length, size_t piece, struct tally *tally);
 
 struct program {
     const char *name;
@@ -35,6 +51,15 @@ void write_long_table(struct program *p);
 
 /* Times the event machine, with the table of a text for sixteen ports. */
 bool time_events(const char *text, size_t length, const uint8_t (*records)[16]);
+
+/* Times the assembler. */
+bool time_texts(void);
+
+/* Times the reading of traces of these records. */
+bool time_traces(const uint8_t (*records)[16]);
+
+/* Times tables of 1, 8 and 256 rules and the table of a text, of 40, by their index and in other ways. */
+bool time_tables(const char *text, size_t length, const uint8_t (*records)[16]);
 
 /* The first records of a vehicle's bus. */
 void write_records(uint8_t (*records)[16]);

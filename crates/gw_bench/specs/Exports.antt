@@ -1,5 +1,5 @@
 -- What the exports leave in the driver's memory.
-use Rattle.std.specs.Prelude.{◌≡◌, ℕ, ◌==◌, Bool, if◌then◌else◌, List, length, take, map, Some, All}
+use Rattle.std.specs.Prelude.{◌≡◌, ℕ, ◌==◌, Bool, if◌then◌else◌, List, length, take, map, Some, Ok, All}
 use Rattle.gw_frame.specs.Record.{IsRecord}
 use Rattle.gw_insn.specs.declared.insn.Insn.{Insn}
 use Rattle.gw_insn.specs.declared.insn.Raw.{Raw}
@@ -10,6 +10,8 @@ use Rattle.gw_machine.specs.Answers.{answer_of}
 use Rattle.gw_table.specs.Table.{Meaning, table_passes}
 use Rattle.gw_table.specs.TableText.{IsTableText}
 use Rattle.gw_table.specs.Emission.{emission}
+use Rattle.gw_text.specs.Assembly.{Assembles}
+use Rattle.gw_trace.specs.Traces.{whole_trace}
 use Rattle.gw_bench.specs.declared.interchange.BpfInsn.{BpfInsn}
 use Rattle.gw_bench.specs.declared.interchange.Record.{Record}
 
@@ -50,3 +52,14 @@ pub record IsCompiled (text : List ℕ) (count : ℕ) (code : List BpfInsn) : Ty
   pub said : IsTableText text table
   pub counted : count ≡ length (emission table)
   pub emitted : map fields_of (take count code) ≡ map raw_of (emission table)
+
+-- the text means code of so many instructions
+pub record IsAssembled (text : List ℕ) (count : ℕ) : Type 0 where
+  pub code : List Raw
+  pub assembled : Assembles text code
+  pub counted : count ≡ length code
+
+-- the octets are a whole trace
+pub record IsWhole (octets : List ℕ) : Type 0 where
+  pub frames : List (List ℕ)
+  pub read : whole_trace octets ≡ Ok frames

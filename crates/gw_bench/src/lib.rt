@@ -1,21 +1,30 @@
-//! The machine, and tables with their compiler, as a static library for the benchmark that times them beside libpcap's.
+//! The machine, tables with their compiler, the assembler and traces, as a static library for the benchmark that times them
+//! beside libpcap's.
 #![tactic(auto)]
 
 ghost use Rattle.std.specs.Prelude.{◌≡◌, ◌≢◌, drop, length};
 ghost use Rattle.std.specs.Bool.{OnFalse, OnTrue};
 ghost use Rattle.gw_bench.specs.Exports.{IsCompiled, IsJudged, IsRun};
 
+mod cold;
 mod events;
+mod indexed;
 mod interchange;
 mod loading;
 mod rounds;
+mod texts;
+mod traces;
 
+pub use cold::gw_bench_cold;
 pub use events::{gw_bench_events, gw_bench_steps};
 use gw_table::compile;
+use indexed::index_rounds;
 pub use interchange::{BpfInsn, Record};
-use loading::{load_frames, load_program, load_table, store_code};
+use loading::{load_frames, load_index, load_program, load_table, store_code};
 use rounds::{judge_rounds, run_rounds};
 use std::alloc::Global;
+pub use texts::gw_bench_assemble;
+pub use traces::{Tally, gw_bench_feed, gw_bench_shares};
 
 /// Runs code on each record, taken at port 0, in so many rounds. True: the answers are those of the code's program, or
 /// with no round what they were. False: the code is refused (`Program::check`), the octets of a record are no
@@ -64,6 +73,29 @@ pub extern "C" fn gw_bench_judge(
         return false;
     };
     judge_rounds(&table, &frames, rounds, verdicts);
+    true
+}
+
+/// As `gw_bench_judge`, by the table's index.
+#[unsafe(no_mangle)]
+pub extern "C" fn gw_bench_index(
+    alloc: Global,
+    text: &[u8],
+    records: &[Record],
+    rounds: u32,
+    verdicts: &mut [bool],
+) -> bool
+    requires { length verdicts.old ≡ length records.now }
+    ensures judged { OnTrue result (IsJudged text.now records.now rounds verdicts.old verdicts.new) }
+    ensures refused { OnFalse result (verdicts.new ≡ verdicts.old) }
+{
+    let Some(table) = load_index(alloc, text) else {
+        return false;
+    };
+    let Some(frames) = load_frames(alloc, records) else {
+        return false;
+    };
+    index_rounds(&table, &frames, rounds, verdicts);
     true
 }
 

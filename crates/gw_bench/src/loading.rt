@@ -9,7 +9,7 @@ ghost use Rattle.gw_bench.specs.Exports.{fields_of, octets_of, Spells};
 use crate::interchange::{BpfInsn, Record};
 use gw_frame::Frame;
 use gw_insn::{Insn, Raw, encode};
-use gw_table::Table;
+use gw_table::{IndexedTable, Table};
 use gw_verify::Program;
 use std::alloc::{AllocError, Global};
 
@@ -50,6 +50,13 @@ pub fn load_table(alloc: Global, text: &[u8]) -> Option<Table>
     ensures { IfSome result (IsTableText text.now) }
 {
     Table::read(alloc, str::from_utf8(text).ok()?).ok()
+}
+
+/// The table of a TOML text with its index, or `None` where the text is no table or memory is wanting.
+pub fn load_index(alloc: Global, text: &[u8]) -> Option<IndexedTable>
+    ensures { IfSome result (IsTableText text.now) }
+{
+    IndexedTable::new(alloc, load_table(alloc, text)?).ok()
 }
 
 /// Writes instructions to the front of the driver's code, and leaves what stands behind them.

@@ -11,7 +11,7 @@ use gw_table::Table;
 use gw_verify::Program;
 
 /// The port at which every frame counts as taken.
-const PORT: u8 = 0;
+pub(crate) const PORT: u8 = 0;
 
 /// Runs a program on every frame in each round. What stays are the answers of the last.
 pub fn run_rounds(program: &Program, frames: &[Frame], rounds: u32, answers: &mut [u32])

@@ -13,7 +13,8 @@ unless_zero passes answer iff = grind (arith, nat_tests)
 
 -- a table's program passes what it answers other than 0 on, as a program does
 pub passes_by_answer : (code : List Insn) (table : Option Meaning) (octets : List ℕ) (port : ℕ) → IsRecord octets → port < 256
-    → MatchOption table (Unit {0}) (Means code) → filter_passes (record { code = code; table = table }) octets port ≡ not (answer_of code octets port == 0)
+    → MatchOption table (Unit {0}) (Means code) → filter_passes (record { code = code; table = table }) octets port
+    ≡ not (answer_of code octets port == 0)
 passes_by_answer code None octets port is_record fits means = refl
 passes_by_answer code (Some table) octets port is_record fits means =
     unless_zero (table_passes table octets port) (answer_of code octets port) (means octets port is_record fits)

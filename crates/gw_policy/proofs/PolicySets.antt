@@ -1,5 +1,6 @@
 -- One pair or one batch more in a set of policies.
-use Rattle.std.proofs.Common.{◌≡◌, ℕ, zero, suc, ◌<◌, ◌≤◌, ◌==◌, nat_lt, Bool, true, false, cond, if◌then◌else◌, List, [], ◌∷◌, ◌++◌, length, map, set, get_or, Option, Some, None, refl, ap, sym, ◌∙◌, arith, ◌⊎◌, inl, inr}
+use Rattle.std.proofs.Common.{◌≡◌, ℕ, zero, suc, ◌<◌, ◌≤◌, ◌==◌, nat_lt, Bool, true, false, cond, if◌then◌else◌, List, [], ◌∷◌}
+use Rattle.std.proofs.Common.{◌++◌, length, map, set, get_or, Option, Some, None, refl, ap, sym, ◌∙◌, arith, ◌⊎◌, inl, inr}
 use Rattle.std.specs.Prelude.{reverse, slice_get, option_map}
 use Rattle.std.specs.List.{find}
 use Rattle.std.specs.Option.{option_flatten, option_map_or}
@@ -15,13 +16,15 @@ use Rattle.gw_policy.proofs.PairLists.{Held, pairs_push}
 use Rattle.gw_policy.specs.Batches.{Pair, Places, pairs_of, names, policy_after, policy_at, in_force, StandsAfter, Absorbs}
 
 found : (here : Bool) (pair : Pair) (later : Option Pair) (before : Option Filter)
-    → option_map_or (λ p. Some p.policy) (cond here (Some pair) later) before ≡ (if here then Some pair.policy else option_map_or (λ p. Some p.policy) later before)
+    → option_map_or (λ p. Some p.policy) (cond here (Some pair) later) before
+    ≡ (if here then Some pair.policy else option_map_or (λ p. Some p.policy) later before)
 found true pair later before = refl
 found false pair later before = refl
 
 -- the last pair decides where it names the port
 pub policy_after-more : (port : ℕ) (pairs : List Pair) (pair : Pair) (before : Option Filter)
-    → policy_after port (pairs ++ pair ∷ []) before ≡ (if pair.port == port then Some pair.policy else policy_after port pairs before)
+    → policy_after port (pairs ++ pair ∷ []) before
+    ≡ (if pair.port == port then Some pair.policy else policy_after port pairs before)
 policy_after-more port pairs pair before =
     rw reverse-append (found (pair.port == port) pair (find (names port) (reverse pairs)) before)
 
@@ -47,14 +50,16 @@ slice_get-set (x ∷ places) (suc i) place (suc j) within =
     rw same (slice_get-set places i place j within')
 
 chosen : (here : Bool) (place : Place) (before : Option Place)
-    → option_flatten (option_map policy_of (if here then Some place else before)) ≡ (if here then policy_of place else option_flatten (option_map policy_of before))
+    → option_flatten (option_map policy_of (if here then Some place else before))
+    ≡ (if here then policy_of place else option_flatten (option_map policy_of before))
 chosen true place before = refl
 chosen false place before = refl
 
 pub policy_in-set : (places : List Place) (i : ℕ) (place : Place) (port : ℕ) → i < length places
     → policy_in (set places i place) port ≡ (if i == port then policy_of place else policy_in places port)
 policy_in-set places i place port within =
-    ap option_flatten (slice_get-map policy_of (set places i place) port ∙ ap (option_map policy_of) (slice_get-set places i place port within))
+    ap option_flatten (slice_get-map policy_of (set places i place) port
+    ∙ ap (option_map policy_of) (slice_get-set places i place port within))
     ∙ chosen (i == port) place (slice_get places port)
     ∙ ap (λ before. if i == port then policy_of place else option_flatten before) (sym (slice_get-map policy_of places port))
 
@@ -75,14 +80,16 @@ pub put_within : (places : List Place) (port : ℕ) (policy : Place) → length 
 put_within places port policy long within other =
     elim (order other 16) [
       | inl below ↦ (let e = lt-ltb other 16 below in rw e (policy_in-set places port policy other (omega arith)))
-      | inr past ↦ (let e = le-ltb other 16 past in rw e (policy_in-past (set places port policy) other (omega (arith, length-set places port policy))))
+      | inr past ↦ (let e = le-ltb other 16 past in
+          rw e (policy_in-past (set places port policy) other (omega (arith, length-set places port policy))))
     ]
 
 pub put_beyond : (places : List Place) (port : ℕ) (policy : Place) → length places ≡ 16 → 16 ≤ port → (other : ℕ)
     → policy_in places other ≡ sixteen_after port (policy_of policy) other (policy_in places other)
 put_beyond places port policy long beyond other =
     elim (order other 16) [
-      | inl below ↦ (let e = lt-ltb other 16 below in let apart : (port == other) ≡ false = grind (arith, nat_tests) in rw (e, apart) refl)
+      | inl below ↦ (let e = lt-ltb other 16 below in let apart : (port == other) ≡ false = grind (arith, nat_tests) in
+          rw (e, apart) refl)
       | inr past ↦ (let e = le-ltb other 16 past in rw e (policy_in-past places other (omega arith)))
     ]
 
@@ -98,7 +105,8 @@ none_in_force port =
     let nothing : Option Filter = None in
     elim (nat_lt port 16) as (λ b. nothing ≡ (if b then nothing else nothing)) [ true ↦ refl | false ↦ refl ]
 
-in_force-more : (port : ℕ) (batch : List Pair) (batches : List (List Pair)) (before : Option Filter) → before ≡ in_force port batches
+in_force-more : (port : ℕ) (batch : List Pair) (batches : List (List Pair)) (before : Option Filter)
+    → before ≡ in_force port batches
     → (if nat_lt port 16 then policy_after port batch before else None) ≡ in_force port (batch ∷ batches)
 in_force-more port batch batches before same =
     elim (order port 16) [
@@ -107,7 +115,8 @@ in_force-more port batch batches before same =
     ]
 
 -- a set that stands after some batches stands, with one absorbed more, after that one too
-pub stands_after-more : (old new : Places) (batch : List Pair) (batches : List (List Pair)) → Absorbs old batch new → StandsAfter old batches
+pub stands_after-more : (old new : Places) (batch : List Pair) (batches : List (List Pair)) → Absorbs old batch new
+    → StandsAfter old batches
     → StandsAfter new (batch ∷ batches)
 stands_after-more old new batch batches absorbed stands =
     record {
@@ -116,7 +125,8 @@ stands_after-more old new batch batches absorbed stands =
     }
 
 -- one pair more was put
-pub policy_after-put : (port : ℕ) (done : List Held) (next : ℕ) (policy : Arc Filter Global) (first before after : Option Filter) → port < 16
+pub policy_after-put : (port : ℕ) (done : List Held) (next : ℕ) (policy : Arc Filter Global) (first before after : Option Filter)
+    → port < 16
     → after ≡ sixteen_after next (Some policy.value) port before → before ≡ policy_after port (pairs_of done) first
     → after ≡ policy_after port (pairs_of (done ++ Some (next, policy) ∷ [])) first
 policy_after-put port done next policy first before after below put same =

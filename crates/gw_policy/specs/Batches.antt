@@ -1,5 +1,6 @@
 -- Batches of policies for ports, and the policy in force. A list of batches has the newest first.
-use Rattle.std.specs.Prelude.{◌≡◌, ℕ, ◌+◌, min, Bool, false, ◌==◌, nat_lt, if◌then◌else◌, List, [], ◌∷◌, length, reverse, Option, Some, None, option_map, slice_get}
+use Rattle.std.specs.Prelude.{◌≡◌, ℕ, ◌+◌, min, Bool, false, ◌==◌, nat_lt, if◌then◌else◌, List, [], ◌∷◌, length, reverse, Option}
+use Rattle.std.specs.Prelude.{Some, None, option_map, slice_get}
 use Rattle.std.specs.List.{find, filter_map, list_any}
 use Rattle.std.specs.Option.{option_flatten, option_map_or}
 use Rattle.std.specs.declared.sync.Arc.{Arc}

@@ -26,7 +26,8 @@ filter_steps filter octets port = steps_of filter.code octets port
 -- the code answers 0 on exactly the frames that the table blocks
 abbrev pub Means : List Insn → Meaning → Type 0
 Means code table =
-    (octets : List ℕ) (port : ℕ) → IsRecord octets → port < 256 → (answer_of code octets port ≡ 0) ↔ (table_passes table octets port ≡ false)
+    (octets : List ℕ) (port : ℕ) → IsRecord octets → port < 256
+    → (answer_of code octets port ≡ 0) ↔ (table_passes table octets port ≡ false)
 
 -- the program is accepted, and a table is what it was compiled from and means the same
 pub record IsFilter (filter : Filter) : Type 0 where

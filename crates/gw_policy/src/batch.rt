@@ -1,6 +1,23 @@
 //! Policies that are to come into force together.
 
-ghost use Rattle.std.specs.Prelude.{◌≡◌, ◌<◌, ◌≤◌, [], ◌∷◌, ◌++◌, length, true, false, IsOk, IfOk, IfErr, OnOk, OnErr, slice_get, option_map};
+ghost use Rattle.std.specs.Prelude.{
+  ◌≡◌,
+  ◌<◌,
+  ◌≤◌,
+  [],
+  ◌∷◌,
+  ◌++◌,
+  length,
+  true,
+  false,
+  IsOk,
+  IfOk,
+  IfErr,
+  OnOk,
+  OnErr,
+  slice_get,
+  option_map,
+};
 
 use crate::policy::Policy;
 use arrayvec::ArrayVec;

@@ -1,6 +1,21 @@
 //! The policies in force.
 
-ghost use Rattle.std.specs.Prelude.{◌≡◌, ℕ, ◌<◌, ◌==◌, nat_lt, if◌then◌else◌, List, [], ◌∷◌, Some, None, OnOk, OnErr, option_copied};
+ghost use Rattle.std.specs.Prelude.{
+  ◌≡◌,
+  ℕ,
+  ◌<◌,
+  ◌==◌,
+  nat_lt,
+  if◌then◌else◌,
+  List,
+  [],
+  ◌∷◌,
+  Some,
+  None,
+  OnOk,
+  OnErr,
+  option_copied,
+};
 
 use crate::batch::{Batch, MOST};
 use crate::policy::Policy;

@@ -10,6 +10,3 @@ pub use batch::{Batch, BatchRefusal};
 pub use in_force::PolicySet;
 pub use law::policies_return;
 pub use policy::Policy;
-
-#[cfg(test)]
-mod tests;

@@ -5,7 +5,7 @@ ghost use Rattle.gw_table.specs.Emission.{emission};
 
 use gw_frame::Frame;
 use gw_machine::run;
-use gw_table::{Table, compile};
+use gw_table::{IndexedTable, Table, compile};
 use gw_verify::Program;
 use std::alloc::Global;
 use std::marker::Model;
@@ -15,7 +15,7 @@ use std::marker::Model;
 #[derive(Drop)]
 pub struct Policy {
     program: Program,
-    table: Option<Table>,
+    table: Option<IndexedTable>,
 }
 
 impl Model for Policy {
@@ -41,7 +41,7 @@ impl Policy {
         }
     }
 
-    /// The policy of a table, which is compiled. The table comes back where memory for its program is wanting.
+    /// The policy of a table, which is compiled and indexed. The table comes back where memory for that is wanting.
     pub fn from_table(alloc: Global, table: Table) -> Result<Policy, Table>
         ensures policy { IfOk result (λ policy. policy ≡ record { code = emission table; table = Some table }) }
         ensures handed_back { IfErr result (λ back. back ≡ table) }
@@ -49,7 +49,7 @@ impl Policy {
         match compile(alloc, &table) {
             Ok(program) => Ok(Policy {
                 program,
-                table: Some(table),
+                table: Some(IndexedTable::new(alloc, table)?),
             }),
             Err(_) => Err(table),
         }
@@ -63,7 +63,7 @@ impl Policy {
         &self.program
     }
 
-    /// Whether a frame that was taken at the port `from` passes. A table is judged by its rules, which is faster than to run
+    /// Whether a frame that was taken at the port `from` passes. A table is judged by its index, which is faster than to run
     /// its program.
     pub fn verdict(&self, frame: &Frame, from: u8) -> bool
         ensures { result ≡ filter_passes self.now frame.now from }

@@ -33,12 +33,16 @@ listing meaning = map raw_of (emission meaning)
 empty_table : listing (table Block Block []) ≡
     fields 32 0 0 0 ∷ fields 84 0 0 3758096384 ∷ fields 21 1 0 2147483648 ∷ fields 6 0 0 0
     ∷ fields 48 0 0 3 ∷ fields 2 0 0 1 ∷ fields 48 0 0 1 ∷ fields 53 7 0 240
-    ∷ fields 48 0 0 2 ∷ fields 2 0 0 2 ∷ fields 32 0 0 0 ∷ fields 116 0 0 8 ∷ fields 84 0 0 261888 ∷ fields 2 0 0 0 ∷ fields 5 0 0 6
-    ∷ fields 0 0 0 255 ∷ fields 2 0 0 2 ∷ fields 32 0 0 0 ∷ fields 116 0 0 8 ∷ fields 84 0 0 262143 ∷ fields 2 0 0 0 ∷ fields 6 0 0 0 ∷ []
+    ∷ fields 48 0 0 2 ∷ fields 2 0 0 2 ∷ fields 32 0 0 0 ∷ fields 116 0 0 8 ∷ fields 84 0 0 261888 ∷ fields 2 0 0 0
+    ∷ fields 5 0 0 6
+    ∷ fields 0 0 0 255 ∷ fields 2 0 0 2 ∷ fields 32 0 0 0 ∷ fields 116 0 0 8 ∷ fields 84 0 0 262143 ∷ fields 2 0 0 0
+    ∷ fields 6 0 0 0 ∷ []
 empty_table = refl
 
 -- two rules of one parameter group: the head leads behind both, the first rule's tests to the second rule
-shared_head : drop 21 (listing (table Pass Block (rule Pass (span 61184 61184) (span 1 1) all all ∷ rule Block (span 61184 61184) all all all ∷ []))) ≡
+shared_head : drop 21
+    (listing (table Pass Block (rule Pass (span 61184 61184) (span 1 1) all all ∷ rule Block (span 61184 61184) all all all
+    ∷ []))) ≡
     fields 96 0 0 0 ∷ fields 53 0 1 61184 ∷ fields 37 0 1 61184 ∷ fields 5 0 0 5
     ∷ fields 96 0 0 1 ∷ fields 53 0 2 1 ∷ fields 37 1 0 1 ∷ fields 6 0 0 1 ∷ fields 6 0 0 0 ∷ fields 6 0 0 1 ∷ []
 shared_head = refl
@@ -48,7 +52,8 @@ from_one : drop 21 (listing (table Block Block (rule Pass every all all (span 1 
     fields 32 0 0 4294963208 ∷ fields 53 0 2 1 ∷ fields 37 1 0 1 ∷ fields 6 0 0 1 ∷ fields 6 0 0 0 ∷ []
 from_one = refl
 
-many_rules : length (emission (table Block Pass (replicate 255 (rule Block every (span 1 1) all all) ++ rule Pass (span 61184 61458) all all all ∷ []))) ≡ 1046
+many_rules : length (emission (table Block Pass (replicate 255 (rule Block every (span 1 1) all all)
+    ++ rule Pass (span 61184 61458) all all all ∷ []))) ≡ 1046
 many_rules = refl
 
 one_head : length (emission (table Pass Block (replicate 256 (rule Pass (span 5 9) all all all)))) ≡ 282

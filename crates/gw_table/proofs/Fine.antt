@@ -1,13 +1,17 @@
 -- Code whose instructions are right by themselves.
-use Rattle.std.proofs.Common.{◌≡◌, ℕ, zero, suc, ◌+◌, ◌<◌, ◌≤◌, ◌⊎◌, List, [], ◌∷◌, length, Option, Some, None, inl, inr, sym, ap, subst, ◌∙◌, arith}
+use Rattle.std.proofs.Common.{◌≡◌, ℕ, zero, suc, ◌+◌, ◌<◌, ◌≤◌, ◌⊎◌, List, [], ◌∷◌, length, Option, Some, None, inl, inr, sym, ap}
+use Rattle.std.proofs.Common.{subst, ◌∙◌, arith}
 use Rattle.std.specs.Prelude.{slice_get}
 use Rattle.std.proofs.lemmas.List.{length-map}
 use Rattle.gw_insn.specs.declared.insn.Insn.{Insn}
-use Rattle.gw_insn.specs.Form.{Form, Load, LoadConstant, LoadScratch, Store, Alu, Jump, Branch, ReturnConstant, Word, Half, Byte, Constant, And, Rsh, form}
+use Rattle.gw_insn.specs.Form.{Form, Load, LoadConstant, LoadScratch, Store, Alu, Jump, Branch, ReturnConstant, Word, Half, Byte}
+use Rattle.gw_insn.specs.Form.{Constant, And, Rsh, form}
 use Rattle.gw_verify.specs.declared.cause.Cause.{Cause}
-use Rattle.gw_verify.specs.declared.cause.Cause.TheVariants.{Empty, TooLong, UnknownCode, DivideByZero, ShiftTooFar, NoSuchWord, JumpOut, Ancillary, NoReturnAtEnd, UnsetWord, OutOfMemory}
+use Rattle.gw_verify.specs.declared.cause.Cause.TheVariants.{Empty, TooLong, UnknownCode, DivideByZero, ShiftTooFar, NoSuchWord}
+use Rattle.gw_verify.specs.declared.cause.Cause.TheVariants.{JumpOut, Ancillary, NoReturnAtEnd, UnsetWord, OutOfMemory}
 use Rattle.gw_verify.specs.Flow.{Loads, IsBare, program_forms}
-use Rattle.gw_verify.specs.Accepted.{DividesByZero, ShiftsTooFar, NamesNoWord, JumpsOut, IsAncillary, IsNoReturn, At, IsFault, IsAccepted}
+use Rattle.gw_verify.specs.Accepted.{DividesByZero, ShiftsTooFar, NamesNoWord, JumpsOut, IsAncillary, IsNoReturn, At, IsFault}
+use Rattle.gw_verify.specs.Accepted.{IsAccepted}
 
 -- an instruction, of the kinds that tables need, before so many others: it goes on to one of them, or returns
 abbrev pub IsFine : ℕ → Form → Type 0
@@ -91,7 +95,14 @@ record FineAt (len i : ℕ) (found : Option Form) : Type 0 where
 fine_at : (code : List Insn) (i : ℕ) (found : Option Form) → AllFine code → slice_get (program_forms code) i ≡ Some found
     → FineAt (length code) i found
 fine_at [] i found all here = absurd (cc)
-fine_at (insn ∷ rest) zero found all here = record { insn = form insn; is = cc; after = length rest; total = omega arith; fine = all.0 }
+fine_at (insn ∷ rest) zero found all here = record {
+  insn = form insn;
+  is = cc;
+  after = length rest;
+  total = omega arith;
+  fine =
+      all.0;
+}
 fine_at (insn ∷ rest) (suc i) found all here =
     let later = fine_at rest i found all.1 here in
     let total = later.total in
@@ -108,7 +119,8 @@ module _ (code : List Insn) (all : AllFine code) where
 
   -- fine code in which no bare place loads one of the first three words is accepted
   pub accepted : 0 < length code → length code ≤ 4096
-      → ((word i : ℕ) → word < 3 → At (program_forms code) i (λ insn. Loads insn word) → IsBare (program_forms code) i word → ⊥) → IsAccepted (program_forms code)
+      → ((word i : ℕ) → word < 3 → At (program_forms code) i (λ insn. Loads insn word) → IsBare (program_forms code) i word → ⊥)
+      → IsAccepted (program_forms code)
   accepted some short bare cause i fault = by cause fault
     where
       len : length (program_forms code) ≡ length code

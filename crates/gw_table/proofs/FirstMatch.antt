@@ -1,5 +1,6 @@
 -- An emission answers by the first rule that holds.
-use Rattle.std.proofs.Common.{◌≡◌, ℕ, ◌<◌, ◌↔◌, Bool, true, false, ◌&&◌, List, [], ◌∷◌, ◌++◌, Some, refl, sym, ap, subst, ◌∙◌, arith}
+use Rattle.std.proofs.Common.{◌≡◌, ℕ, ◌<◌, ◌↔◌, Bool, true, false, ◌&&◌, List, [], ◌∷◌, ◌++◌, Some, refl, sym, ap, subst, ◌∙◌}
+use Rattle.std.proofs.Common.{arith}
 use Rattle.std.specs.Prelude.{if◌then◌else◌, option_map, unwrap_or}
 use Rattle.std.specs.List.{find, flat_map}
 use Rattle.gw_ident.specs.Identifier.{is_extended_data}
@@ -44,7 +45,9 @@ module _ (octets : List ℕ) (port : ℕ) where
       rw all_hold-matches (by (matches octets port rule) (answer_in-find rules otherwise))
     where
       by : (here : Bool) → answer_in rules otherwise ≡ answer_for (action_in rules otherwise)
-          → (if here then answer_for rule.action else answer_in rules otherwise) ≡ answer_for (unwrap_or (option_map (λ rule. rule.action) (if here then Some rule else find (matches octets port) rules)) otherwise)
+          → (if here then answer_for rule.action else answer_in rules otherwise)
+          ≡ answer_for (unwrap_or
+          (option_map (λ rule. rule.action) (if here then Some rule else find (matches octets port) rules)) otherwise)
       by true later = refl
       by false later = later
 
@@ -54,26 +57,32 @@ module _ (octets : List ℕ) (port : ℕ) where
       let otherwise = answer_for table.otherwise in
       let last = return_of table.otherwise ∷ [] in
       let rest = flat_map group_code (groups_of table.rules) ++ last in
-      let decides = groups_decide octets port fields (groups_of table.rules) last otherwise (omega arith) (groups_alike table.rules) (λ m keeps. returned otherwise) in
-      let answer = ap (λ rules. answer_in rules table.otherwise) (all_of-groups_of table.rules) ∙ answer_in-find table.rules table.otherwise in
-      let yields = prologue_yields octets port is_record table.other rest _ (subst (Decides octets port fields rest) answer decides) in
+      let decides = groups_decide octets port fields (groups_of table.rules) last otherwise (omega arith)
+      (groups_alike table.rules) (λ m keeps. returned otherwise) in
+      let answer = ap (λ rules. answer_in rules table.otherwise) (all_of-groups_of table.rules)
+      ∙ answer_in-find table.rules table.otherwise in
+      let yields = prologue_yields octets port is_record table.other rest _
+      (subst (Decides octets port fields rest) answer decides) in
       subst (Yields octets port (emission table) start) (chosen (is_extended_data (word_of octets))) yields
     where
       chosen : (extended : Bool)
-          → (if extended then answer_for (action_in table.rules table.otherwise) else answer_for table.other) ≡ answer_for (if extended then action_in table.rules table.otherwise else table.other)
+          → (if extended then answer_for (action_in table.rules table.otherwise) else answer_for table.other)
+          ≡ answer_for (if extended then action_in table.rules table.otherwise else table.other)
       chosen true = refl
       chosen false = refl
 
   -- the emission returns what `answer_of` says of it, and nothing else
   abbrev pub HasOneAnswer : Meaning → Type 0
   HasOneAnswer table =
-      (answer n : ℕ) → Returns (emission table) octets port answer n ↔ ((answer ≡ answer_of (emission table) octets port) × (n ≡ steps_of (emission table) octets port))
+      (answer n : ℕ) → Returns (emission table) octets port answer n ↔ ((answer ≡ answer_of (emission table) octets port)
+      × (n ≡ steps_of (emission table) octets port))
 
   answer_of-emission : (table : Meaning) → HasOneAnswer table → IsRecord octets → port < 256
       → answer_of (emission table) octets port ≡ answer_for (action_for table octets port)
   answer_of-emission table one_answer is_record fits =
       let answer = answer_for (action_for table octets port) in
-      let returns = returns_from (emission table) octets port 0 start answer (emission table) refl at_start (emission_yields table is_record fits) in
+      let returns = returns_from (emission table) octets port 0 start answer (emission table) refl at_start
+      (emission_yields table is_record fits) in
       sym ((one_answer answer returns.0).0 returns.1).0
 
   -- the answer 0 of an action is that of block

@@ -1,5 +1,6 @@
 -- The groups of rules: together they are the rules, and each has one parameter group span.
-use Rattle.std.proofs.Common.{◌≡◌, ℕ, suc, ◌-◌, get_or, Bool, true, false, ◌+◌, List, [], ◌∷◌, ◌++◌, length, sum_by, refl, sym, ap, subst, ◌∙◌, ◌<◌, arith, eqb-true}
+use Rattle.std.proofs.Common.{◌≡◌, ℕ, suc, ◌-◌, get_or, Bool, true, false, ◌+◌, List, [], ◌∷◌, ◌++◌, length, sum_by, refl, sym}
+use Rattle.std.proofs.Common.{ap, subst, ◌∙◌, ◌<◌, arith, eqb-true}
 use Rattle.std.specs.Prelude.{if◌then◌else◌, ◌==◌}
 use Rattle.std.specs.List.{flat_map, AllByRecursion, IsChunkByPrefix}
 use Rattle.std.proofs.lemmas.Bool.{and_parts}
@@ -33,7 +34,8 @@ joins-all rule ([] ∷ groups) = refl
 joins-all rule ((next ∷ group) ∷ groups) = by (same_span rule.pgn next.pgn)
   where
     by : (same : Bool)
-        → all_of (if same then (rule ∷ next ∷ group) ∷ groups else (rule ∷ []) ∷ (next ∷ group) ∷ groups) ≡ rule ∷ all_of ((next ∷ group) ∷ groups)
+        → all_of (if same then (rule ∷ next ∷ group) ∷ groups else (rule ∷ []) ∷ (next ∷ group) ∷ groups) ≡ rule
+        ∷ all_of ((next ∷ group) ∷ groups)
     by true = refl
     by false = refl
 
@@ -67,7 +69,9 @@ groups_alike (rule ∷ rules) = joins_groups rule (groups_of rules) (groups_alik
 -- a group's body is as long as its rules together
 pub length-body : (rules : List Rule) → length (body rules) ≡ sum_by (λ rule. length (rule_code rule)) rules
 length-body [] = refl
-length-body (rule ∷ rules) = rw (length-append (rule_code rule) (body rules), length-body rules) (sym (sum_by-cons (λ next. length (rule_code next)) rule rules))
+length-body (rule ∷ rules) =
+    rw (length-append (rule_code rule) (body rules), length-body rules)
+    (sym (sum_by-cons (λ next. length (rule_code next)) rule rules))
 
 -- the groups of rules begin with the first of them
 begins_with : (rule : Rule) (rules : List Rule)
@@ -81,7 +85,9 @@ begins_with rule rules = by (groups_of rules)
     by ((next ∷ group) ∷ groups) = choose (same_span rule.pgn next.pgn)
       where
         choose : (same : Bool)
-            → (first : List Rule) × (later : List (List Rule)) × ((if same then (rule ∷ next ∷ group) ∷ groups else (rule ∷ []) ∷ (next ∷ group) ∷ groups) ≡ (rule ∷ first) ∷ later)
+            → (first : List Rule) × (later : List (List Rule))
+            × ((if same then (rule ∷ next ∷ group) ∷ groups else (rule ∷ []) ∷ (next ∷ group) ∷ groups) ≡ (rule ∷ first)
+            ∷ later)
         choose true = (next ∷ group, groups, refl)
         choose false = ([], (next ∷ group) ∷ groups, refl)
 
@@ -115,13 +121,16 @@ groups_of-run rule (next ∷ group) later run =
         → is_same_group (get_or (next ∷ group ++ later) k d) (get_or (next ∷ group ++ later) (k + 1) d) ≡ true
     along k d l =
         let on : suc k + 1 ≡ suc (k + 1) = omega arith in
-        subst (λ n. is_same_group (get_or (next ∷ group ++ later) k d) (get_or (rule ∷ next ∷ group ++ later) n d) ≡ true) on (run.0 (suc k) d (omega arith))
+        subst (λ n. is_same_group (get_or (next ∷ group ++ later) k d) (get_or (rule ∷ next ∷ group ++ later) n d) ≡ true) on
+        (run.0 (suc k) d (omega arith))
 
     ends : length (next ∷ group) < length (next ∷ group ++ later) → (d : Rule)
-        → is_same_group (get_or (next ∷ group ++ later) (length (next ∷ group) - 1) d) (get_or (next ∷ group ++ later) (length (next ∷ group)) d) ≡ false
+        → is_same_group (get_or (next ∷ group ++ later) (length (next ∷ group) - 1) d)
+        (get_or (next ∷ group ++ later) (length (next ∷ group)) d) ≡ false
     ends l d =
         let on : length (rule ∷ next ∷ group) - 1 ≡ suc (length (next ∷ group) - 1) = omega arith in
-        subst (λ n. is_same_group (get_or (rule ∷ next ∷ group ++ later) n d) (get_or (group ++ later) (length group) d) ≡ false) on (run.1 (omega arith) d)
+        subst (λ n. is_same_group (get_or (rule ∷ next ∷ group ++ later) n d) (get_or (group ++ later) (length group) d) ≡ false)
+        on (run.1 (omega arith) d)
 
 pub groups_of-chunk : (rules group later : List Rule) → rules ≡ group ++ later → 0 < length group
     → IsChunkByPrefix is_same_group rules (length group) → groups_of rules ≡ group ∷ groups_of later

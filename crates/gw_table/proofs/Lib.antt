@@ -13,3 +13,8 @@ pub mod Trees
 pub mod TreesFit
 mod TreesExamples
 pub mod NeverDecides
+pub mod RuleBits
+pub mod Holding
+pub mod Columns
+pub mod Pages
+pub mod Indexed

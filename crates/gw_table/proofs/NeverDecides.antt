@@ -1,16 +1,19 @@
 -- Which identifiers there are of a parameter group, and why a rule that is covered or has no frame never decides.
-use Rattle.std.proofs.Common.{◌≡◌, ℕ, ◌+◌, ◌*◌, ◌/◌, ◌%◌, ◌^◌, ◌<◌, ◌≤◌, ◌⊎◌, Bool, cond, get_or, true, false, ◌&&◌, List, Some, None, refl, sym, ap, subst, ◌∙◌, inl, inr, arith}
+use Rattle.std.proofs.Common.{◌≡◌, ℕ, ◌+◌, ◌*◌, ◌/◌, ◌%◌, ◌^◌, ◌<◌, ◌≤◌, ◌⊎◌, Bool, cond, get_or, true, false, ◌&&◌, List, Some}
+use Rattle.std.proofs.Common.{None, refl, sym, ap, subst, ◌∙◌, inl, inr, arith}
 use Rattle.std.proofs.lemmas.Bool.{and_parts, and_from, false≢true}
 use Rattle.std.proofs.lemmas.Bool.Decides.{nat_tests}
 use Rattle.std.proofs.lemmas.List.{length-take, get_or-take}
 use Rattle.std.proofs.lemmas.List.Quantifiers.{position-Some}
 use Rattle.std.proofs.lemmas.List.Sums.{fails_before_first}
-use Rattle.std.proofs.lemmas.Option.{get_or_from_slice_get, slice_get_past, slice_get_within, slice_get_cases, slice_get-get_or, same_Some}
+use Rattle.std.proofs.lemmas.Option.{get_or_from_slice_get, slice_get_past, slice_get_within, slice_get_cases, slice_get-get_or}
+use Rattle.std.proofs.lemmas.Option.{same_Some}
 use Rattle.std.proofs.lemmas.List.Folds.{find_at}
 use Rattle.std.specs.Prelude.{nat_lt, nat_le, MatchBool, length, take, option_map, unwrap_or, slice_get, Option, IfSome, OnSome}
 use Rattle.std.specs.List.{find, position, position_or_len}
 use Rattle.gw_frame.specs.Record.{word_of}
-use Rattle.gw_ident.specs.Identifier.{page, pdu_format, pdu_specific, is_pdu1, parameter_group, source_address, destination_address}
+use Rattle.gw_ident.specs.Identifier.{page, pdu_format, pdu_specific, is_pdu1, parameter_group, source_address}
+use Rattle.gw_ident.specs.Identifier.{destination_address}
 use Rattle.gw_table.specs.declared.table.Span.{Span}
 use Rattle.gw_table.specs.declared.table.Rule.{Rule}
 use Rattle.gw_table.specs.declared.table.Part.{Part}
@@ -65,14 +68,16 @@ format_of : (format specific : ℕ) → format < 1024 → specific < 256 → pdu
 format_of format specific a b = omega arith
 
 pub pdu1_identifier : (format specific : ℕ) → format < 1024 → specific < 256 → format % 256 < 240
-    → (parameter_group (identifier_of format specific) ≡ 256 * format) × (destination_address (identifier_of format specific) ≡ specific)
+    → (parameter_group (identifier_of format specific) ≡ 256 * format)
+    × (destination_address (identifier_of format specific) ≡ specific)
 pdu1_identifier format specific a b below =
     let same = format_of format specific a b in
     let pdu1 : is_pdu1 (identifier_of format specific) ≡ true = grind (arith, nat_tests) in
     (rw pdu1 (omega (arith, same)), rw pdu1 (omega arith))
 
 pub pdu2_identifier : (format specific : ℕ) → format < 1024 → specific < 256 → 240 ≤ format % 256
-    → (parameter_group (identifier_of format specific) ≡ 256 * format + specific) × (destination_address (identifier_of format specific) ≡ 255)
+    → (parameter_group (identifier_of format specific) ≡ 256 * format + specific)
+    × (destination_address (identifier_of format specific) ≡ 255)
 pdu2_identifier format specific a b above =
     let same = format_of format specific a b in
     let pdu2 : is_pdu1 (identifier_of format specific) ≡ false = grind (arith, nat_tests) in
@@ -172,7 +177,8 @@ dead_never table number NoDestination at octets port fits decides =
 dead_never table number (Covered by) dead octets port fits decides =
     let earlier = dead.1 in
     let later = dead.1.holds in
-    let holds = covered_holds octets port earlier.rule later.rule later.holds (decider_holds octets port number table later.rule decides later.here) in
+    let holds = covered_holds octets port earlier.rule later.rule later.holds
+    (decider_holds octets port number table later.rule decides later.here) in
     false≢true (sym (earlier_fails octets port number by table earlier.rule decides dead.0 earlier.here) ∙ holds)
 
 -- causes of the rule of a number, and of no rule
@@ -215,15 +221,18 @@ is_alive rules number judged here alive none why = by why
     by : (why : WhyDead) → ¬ IsDead rules number why
     by NoGroup = λ dead. alive NoGroup (subst (λ r. IsDeadAlone r NoGroup) (same dead.rule dead.here) dead.holds)
     by NoPort = λ dead. alive NoPort (subst (λ r. IsDeadAlone r NoPort) (same dead.rule dead.here) dead.holds)
-    by NoDestination = λ dead. alive NoDestination (subst (λ r. IsDeadAlone r NoDestination) (same dead.rule dead.here) dead.holds)
+    by NoDestination = λ dead. alive NoDestination (subst (λ r. IsDeadAlone r NoDestination) (same dead.rule dead.here)
+        dead.holds)
     by (Covered before) = λ dead.
         let earlier = dead.1 in
         let later = dead.1.holds in
         let past = position_none (λ rule. covers rule judged) (take number rules) none in
         let inside = slice_get_within rules before earlier.rule earlier.here in
         let within_all = slice_get_within rules number judged here in
-        let fails = fails_before_first (λ rule. covers rule judged) (take number rules) before earlier.rule (omega (arith, past, inside, within_all, dead.0, length-take number rules)) in
-        let found = get_or-take number rules before earlier.rule dead.0 ∙ get_or_from_slice_get rules before earlier.rule earlier.rule earlier.here in
+        let fails = fails_before_first (λ rule. covers rule judged) (take number rules) before earlier.rule
+        (omega (arith, past, inside, within_all, dead.0, length-take number rules)) in
+        let found = get_or-take number rules before earlier.rule dead.0
+        ∙ get_or_from_slice_get rules before earlier.rule earlier.rule earlier.here in
         let covers_it = ap (covers earlier.rule) (sym (same later.rule later.here)) ∙ later.holds in
         false≢true (sym fails ∙ ap (λ rule. covers rule judged) found ∙ covers_it)
 
@@ -284,7 +293,8 @@ pub pdu1_destination : (rule : Rule) → IsRule rule → (format : ℕ) → form
 pdu1_destination rule is format below found =
     let low = rule.destination.low in
     let (above, under) = bounds (256 * format) rule.pgn found in
-    let same = pdu1_identifier format low (omega (arith, under, is.pgn.1)) (omega (arith, is.destination.0, is.destination.1)) below in
+    let same = pdu1_identifier format low (omega (arith, under, is.pgn.1)) (omega (arith, is.destination.0, is.destination.1))
+    below in
     (identifier_of format low, rw same.0 found, rw same.1 (inside low rule.destination (omega arith) is.destination.0))
 
 -- a PDU2 group goes to 255 alone
@@ -301,8 +311,12 @@ some_destination rule is all word found = by (nat_lt (group.format % 256) 240) r
         let same : parameter_group word ≡ 256 * group.format = omega (arith, group.group, group.pdu1 below) in
         pdu1_destination rule is group.format below (ap (λ n. lies_in n rule.pgn) (sym same) ∙ found)
     by false test =
-        let above : 240 ≤ group.format % 256 = grind (arith, nat_tests) in
-        (word, found, rw (group.pdu2 above) (inside 255 rule.destination (omega (arith, is.destination.0, all)) (omega (arith, all))))
+        let above : 240 ≤ group.format % 256 = grind (arith, nat_tests) in (
+          word,
+          found,
+          rw (group.pdu2 above) (inside 255 rule.destination (omega (arith, is.destination.0, all))
+              (omega (arith, all))),
+        )
 
 pub no_destination : (rule : Rule) → IsRule rule → rule.destination.high < 255
     → ((format : ℕ) → format % 256 < 240 → lies_in (256 * format) rule.pgn ≡ false) → HasNoDestination rule

@@ -1,5 +1,6 @@
 -- What the parts of an emission answer, where the scratch words have a frame's fields.
-use Rattle.std.proofs.Common.{◌≡◌, ℕ, ◌+◌, ◌≤◌, Bool, true, false, ◌&&◌, List, [], ◌∷◌, ◌++◌, length, drop, Some, refl, ap, subst, arith, add-one, leb-true, leb-false, le-ltb, lt-ltb, le-leb, eqb-true}
+use Rattle.std.proofs.Common.{◌≡◌, ℕ, ◌+◌, ◌≤◌, Bool, true, false, ◌&&◌, List, [], ◌∷◌, ◌++◌, length, drop, Some, refl, ap, subst}
+use Rattle.std.proofs.Common.{arith, add-one, leb-true, leb-false, le-ltb, lt-ltb, le-leb, eqb-true}
 use Rattle.std.specs.Prelude.{if◌then◌else◌, nat_le, ◌==◌}
 use Rattle.std.specs.List.{flat_map, AllByRecursion}
 use Rattle.std.specs.Ordering.{nat_cmp}
@@ -13,7 +14,8 @@ use Rattle.gw_machine.specs.Machine.{Machine, Does, with_a}
 use Rattle.gw_table.specs.declared.table.Span.{Span}
 use Rattle.gw_table.specs.declared.table.Rule.{Rule}
 use Rattle.gw_table.specs.Table.{lies_in}
-use Rattle.gw_table.specs.Emission.{answer_for, return_of, is_whole, tests, tests_unless_whole, from_part, destination_part, rule_code, body, head, group_code}
+use Rattle.gw_table.specs.Emission.{answer_for, return_of, is_whole, tests, tests_unless_whole, from_part, destination_part}
+use Rattle.gw_table.specs.Emission.{rule_code, body, head, group_code}
 use Rattle.gw_table.proofs.Groups.{IsGroup, all_of}
 use Rattle.gw_table.proofs.Yields.{Yields, put_a, returned, jumped, if_at_least, if_greater}
 
@@ -67,14 +69,18 @@ module _ (octets : List ℕ) (port : ℕ) (fields : Fields) where
       drop_more = rw add-one drop_skipped
 
       by_high : (m : Machine) → Keeps fields m.scratch → m.a ≡ n → (high : Bool) → nat_le n span.high ≡ high
-          → Yields octets port (JumpGreaterConstant (length skipped) 0 span.high ∷ (skipped ++ rest)) m (if high then inside else outside)
+          → Yields octets port (JumpGreaterConstant (length skipped) 0 span.high ∷ (skipped ++ rest)) m
+          (if high then inside else outside)
       by_high m keeps a true e =
           if_greater (length skipped) 0 span.high false (rw a (le-ltb span.high n (leb-true n span.high e))) (within _ keeps)
       by_high m keeps a false e =
-          if_greater (length skipped) 0 span.high true (rw a (lt-ltb span.high n (leb-false n span.high e))) (rw drop_skipped (without _ keeps))
+          if_greater (length skipped) 0 span.high true (rw a (lt-ltb span.high n (leb-false n span.high e)))
+          (rw drop_skipped (without _ keeps))
 
       by_low : (low : Bool) → nat_le span.low n ≡ low
-          → Yields octets port (JumpAtLeastConstant 0 (length skipped + 1) span.low ∷ JumpGreaterConstant (length skipped) 0 span.high ∷ (skipped ++ rest)) (record m { place = m.place + 1; a = n }) (if low && nat_le n span.high then inside else outside)
+          → Yields octets port (JumpAtLeastConstant 0 (length skipped + 1) span.low
+          ∷ JumpGreaterConstant (length skipped) 0 span.high ∷ (skipped ++ rest)) (record m { place = m.place + 1; a = n })
+          (if low && nat_le n span.high then inside else outside)
       by_low true e = if_at_least 0 (length skipped + 1) span.low true e (by_high _ keeps refl (nat_le n span.high) refl)
       by_low false e = if_at_least 0 (length skipped + 1) span.low false e (rw drop_more (without _ keeps))
 
@@ -95,7 +101,8 @@ module _ (octets : List ℕ) (port : ℕ) (fields : Fields) where
   part_decides load span skipped rest n inside outside fits puts within without = by (is_whole 255 span) refl
     where
       by : (whole : Bool) → is_whole 255 span ≡ whole
-          → Decides (((if whole then [] else tests load span (length skipped)) ++ skipped) ++ rest) (if lies_in n span then inside else outside)
+          → Decides (((if whole then [] else tests load span (length skipped)) ++ skipped) ++ rest)
+          (if lies_in n span then inside else outside)
       by true e = rw (lies_in-whole 255 n span fits e) within
       by false e = tests_decide load span skipped rest n inside outside puts within without
 
@@ -107,13 +114,18 @@ module _ (octets : List ℕ) (port : ℕ) (fields : Fields) where
   pub rule_decides : (rule : Rule) (rest : List Insn) (other : ℕ) → port ≤ 255 → Decides rest other
       → Decides (rule_code rule ++ rest) (if rest_holds rule then answer_for rule.action else other)
   rule_decides rule rest other fits goes_on =
-      let from = part_decides (LoadWord 0xfffff008) rule.from (return_of rule.action ∷ []) rest port (answer_for rule.action) other fits (λ m keeps. refl) (λ m keeps. returned (answer_for rule.action)) goes_on in
-      let destination = part_decides (LoadScratchA 2) rule.destination (from_part rule) rest fields.destination _ other fields.destination_fits (λ m keeps. (fields.destination, keeps.destination, refl)) from goes_on in
-      let source = part_decides (LoadScratchA 1) rule.source (destination_part rule) rest fields.source _ other fields.source_fits (λ m keeps. (fields.source, keeps.source, refl)) destination goes_on in
-      subst (λ answer. Decides (rule_code rule ++ rest) answer) (nested (lies_in fields.source rule.source) (lies_in fields.destination rule.destination) (lies_in port rule.from)) source
+      let from = part_decides (LoadWord 0xfffff008) rule.from (return_of rule.action ∷ []) rest port (answer_for rule.action)
+      other fits (λ m keeps. refl) (λ m keeps. returned (answer_for rule.action)) goes_on in
+      let destination = part_decides (LoadScratchA 2) rule.destination (from_part rule) rest fields.destination _ other
+      fields.destination_fits (λ m keeps. (fields.destination, keeps.destination, refl)) from goes_on in
+      let source = part_decides (LoadScratchA 1) rule.source (destination_part rule) rest fields.source _ other fields.source_fits
+      (λ m keeps. (fields.source, keeps.source, refl)) destination goes_on in
+      subst (λ answer. Decides (rule_code rule ++ rest) answer)
+      (nested (lies_in fields.source rule.source) (lies_in fields.destination rule.destination) (lies_in port rule.from)) source
     where
       nested : (a b c : Bool)
-          → (if a then (if b then (if c then answer_for rule.action else other) else other) else other) ≡ (if a && (b && c) then answer_for rule.action else other)
+          → (if a then (if b then (if c then answer_for rule.action else other) else other) else other)
+          ≡ (if a && (b && c) then answer_for rule.action else other)
       nested true true c = refl
       nested true false c = refl
       nested false b c = refl
@@ -122,12 +134,15 @@ module _ (octets : List ℕ) (port : ℕ) (fields : Fields) where
       → Decides (body rules ++ rest) (first_answer rest_holds rules other)
   body_decides [] rest other fits goes_on = goes_on
   body_decides (rule ∷ rules) rest other fits goes_on =
-      rw (append_assoc (rule_code rule) (body rules) rest) (rule_decides rule (body rules ++ rest) (first_answer rest_holds rules other) fits (body_decides rules rest other fits goes_on))
+      rw (append_assoc (rule_code rule) (body rules) rest)
+      (rule_decides rule (body rules ++ rest) (first_answer rest_holds rules other) fits
+      (body_decides rules rest other fits goes_on))
 
   -- a head of four: outside the span it jumps over the body
   shared_head_decides : (span : Span) (skipped rest : List Insn) (inside outside : ℕ) → Decides (skipped ++ rest) inside
       → Decides rest outside
-      → Decides (LoadScratchA 0 ∷ JumpAtLeastConstant 0 1 span.low ∷ JumpGreaterConstant 0 1 span.high ∷ Jump (length skipped) ∷ (skipped ++ rest)) (if lies_in fields.group span then inside else outside)
+      → Decides (LoadScratchA 0 ∷ JumpAtLeastConstant 0 1 span.low ∷ JumpGreaterConstant 0 1 span.high ∷ Jump (length skipped)
+      ∷ (skipped ++ rest)) (if lies_in fields.group span then inside else outside)
   shared_head_decides span skipped rest inside outside within without m keeps =
       put_a fields.group (fields.group, keeps.group, refl) (by_low (nat_le span.low fields.group) refl)
     where
@@ -136,14 +151,19 @@ module _ (octets : List ℕ) (port : ℕ) (fields : Fields) where
 
       by_high : (m : Machine) → Keeps fields m.scratch → m.a ≡ fields.group → (high : Bool)
           → nat_le fields.group span.high ≡ high
-          → Yields octets port (JumpGreaterConstant 0 1 span.high ∷ Jump (length skipped) ∷ (skipped ++ rest)) m (if high then inside else outside)
+          → Yields octets port (JumpGreaterConstant 0 1 span.high ∷ Jump (length skipped) ∷ (skipped ++ rest)) m
+          (if high then inside else outside)
       by_high m keeps a true e =
-          if_greater 0 1 span.high false (rw a (le-ltb span.high fields.group (leb-true fields.group span.high e))) (within _ keeps)
+          if_greater 0 1 span.high false (rw a (le-ltb span.high fields.group (leb-true fields.group span.high e)))
+          (within _ keeps)
       by_high m keeps a false e =
-          if_greater 0 1 span.high true (rw a (lt-ltb span.high fields.group (leb-false fields.group span.high e))) (leave _ keeps)
+          if_greater 0 1 span.high true (rw a (lt-ltb span.high fields.group (leb-false fields.group span.high e)))
+          (leave _ keeps)
 
       by_low : (low : Bool) → nat_le span.low fields.group ≡ low
-          → Yields octets port (JumpAtLeastConstant 0 1 span.low ∷ JumpGreaterConstant 0 1 span.high ∷ Jump (length skipped) ∷ (skipped ++ rest)) (record m { place = m.place + 1; a = fields.group }) (if low && nat_le fields.group span.high then inside else outside)
+          → Yields octets port (JumpAtLeastConstant 0 1 span.low ∷ JumpGreaterConstant 0 1 span.high ∷ Jump (length skipped)
+          ∷ (skipped ++ rest)) (record m { place = m.place + 1; a = fields.group }) (if low
+          && nat_le fields.group span.high then inside else outside)
       by_low true e = if_at_least 0 1 span.low true e (by_high _ keeps refl (nat_le fields.group span.high) refl)
       by_low false e = if_at_least 0 1 span.low false e (leave _ keeps)
 
@@ -156,7 +176,8 @@ module _ (octets : List ℕ) (port : ℕ) (fields : Fields) where
       → Decides (body (rule ∷ rules) ++ rest) inside → Decides rest outside
       → Decides ((head (rule ∷ rules) ++ body (rule ∷ rules)) ++ rest) (if lies_in fields.group rule.pgn then inside else outside)
   head_decides rule [] rest inside outside within without =
-      tests_decide (LoadScratchA 0) rule.pgn (body (rule ∷ [])) rest fields.group inside outside (λ m keeps. (fields.group, keeps.group, refl)) within without
+      tests_decide (LoadScratchA 0) rule.pgn (body (rule ∷ [])) rest fields.group inside outside
+      (λ m keeps. (fields.group, keeps.group, refl)) within without
   head_decides rule (next ∷ rules) rest inside outside within without =
       shared_head_decides rule.pgn (body (rule ∷ next ∷ rules)) rest inside outside within without
 
@@ -182,13 +203,17 @@ module _ (octets : List ℕ) (port : ℕ) (fields : Fields) where
       → Decides (group_code rules ++ rest) (first_answer all_hold rules other)
   group_decides [] rest other fits alike goes_on = goes_on
   group_decides (rule ∷ rules) rest other fits alike goes_on =
-      subst (λ answer. Decides (group_code (rule ∷ rules) ++ rest) answer) (group_answer rule.pgn (rule ∷ rules) other (refl, alike)) (by (is_whole 262143 rule.pgn) refl)
+      subst (λ answer. Decides (group_code (rule ∷ rules) ++ rest) answer) (group_answer rule.pgn (rule ∷ rules) other (
+        refl,
+        alike,
+      )) (by (is_whole 262143 rule.pgn) refl)
     where
       within : Decides (body (rule ∷ rules) ++ rest) (first_answer rest_holds (rule ∷ rules) other)
       within = body_decides (rule ∷ rules) rest other fits goes_on
 
       by : (whole : Bool) → is_whole 262143 rule.pgn ≡ whole
-          → Decides (((if whole then [] else head (rule ∷ rules)) ++ body (rule ∷ rules)) ++ rest) (if lies_in fields.group rule.pgn then first_answer rest_holds (rule ∷ rules) other else other)
+          → Decides (((if whole then [] else head (rule ∷ rules)) ++ body (rule ∷ rules)) ++ rest)
+          (if lies_in fields.group rule.pgn then first_answer rest_holds (rule ∷ rules) other else other)
       by true e = rw (lies_in-whole 262143 fields.group rule.pgn fields.group_fits e) within
       by false e = head_decides rule rules rest (first_answer rest_holds (rule ∷ rules) other) other within goes_on
 
@@ -197,5 +222,9 @@ module _ (octets : List ℕ) (port : ℕ) (fields : Fields) where
   groups_decide [] rest other fits alike goes_on = goes_on
   groups_decide (group ∷ groups) rest other fits alike goes_on =
       let later = first_answer all_hold (all_of groups) other in
-      let decided = group_decides group (flat_map group_code groups ++ rest) later fits alike.0 (groups_decide groups rest other fits alike.1 goes_on) in
-      rw (append_assoc (group_code group) (flat_map group_code groups) rest, first_answer-append all_hold group (all_of groups) other) decided
+      let decided = group_decides group (flat_map group_code groups ++ rest) later fits alike.0
+      (groups_decide groups rest other fits alike.1 goes_on) in
+      rw (
+        append_assoc (group_code group) (flat_map group_code groups) rest,
+        first_answer-append all_hold group (all_of groups) other,
+      ) decided

@@ -1,11 +1,13 @@
 -- The prologue of an emission: it stores the fields of an extended data frame, and answers for every other frame.
-use Rattle.std.proofs.Common.{◌≡◌, ℕ, ◌+◌, ◌*◌, ◌/◌, ◌^◌, ◌≤◌, Bool, true, false, not, List, ◌∷◌, ◌++◌, length, drop, Some, refl, sym, ap, ◌∙◌, arith, le-leb, ltb-true, ltb-false}
+use Rattle.std.proofs.Common.{◌≡◌, ℕ, ◌+◌, ◌*◌, ◌/◌, ◌^◌, ◌≤◌, Bool, true, false, not, List, ◌∷◌, ◌++◌, length, drop, Some, refl}
+use Rattle.std.proofs.Common.{sym, ap, ◌∙◌, arith, le-leb, ltb-true, ltb-false}
 use Rattle.std.specs.Prelude.{if◌then◌else◌, nat_le, slice_index, bit_and}
 use Rattle.std.specs.Ordering.{nat_cmp}
 use Rattle.std.specs.FinMap.{FinMap, insert, get-insert}
 use Rattle.std.specs.Cmp.{nat_cmp_total}
 use Rattle.std.proofs.lemmas.Bool.{lt-leb}
-use Rattle.gw_ident.specs.Identifier.{is_extended_data, is_pdu1, pdu_format, pdu_specific, page, parameter_group, destination_address, source_address}
+use Rattle.gw_ident.specs.Identifier.{is_extended_data, is_pdu1, pdu_format, pdu_specific, page, parameter_group}
+use Rattle.gw_ident.specs.Identifier.{destination_address, source_address}
 use Rattle.gw_frame.specs.Record.{IsRecord, word_of}
 use Rattle.gw_insn.specs.Form.{Byte, Word}
 use Rattle.gw_insn.specs.declared.insn.Insn.{Insn}
@@ -26,7 +28,8 @@ keeps_words fields words g s d is_g is_s is_d =
     let two = insert one 2 d in
     record {
       group = get-insert nat_cmp_total two 0 g 0 ∙ ap Some is_g;
-      source = get-insert nat_cmp_total two 0 g 1 ∙ get-insert nat_cmp_total one 2 d 1 ∙ get-insert nat_cmp_total words 1 s 1 ∙ ap Some is_s;
+      source = get-insert nat_cmp_total two 0 g 1 ∙ get-insert nat_cmp_total one 2 d 1 ∙ get-insert nat_cmp_total words 1 s 1
+          ∙ ap Some is_s;
       destination = get-insert nat_cmp_total two 0 g 2 ∙ get-insert nat_cmp_total one 2 d 2 ∙ ap Some is_d;
     }
 
@@ -102,7 +105,18 @@ module _ (octets : List ℕ) (port : ℕ) (is_record : IsRecord octets) where
         → Yields octets port (drop 8 (prologue other) ++ rest) (record m { scratch = insert m.scratch 1 (octet 3) }) inside
     unfolding fields_of
     pdu1_yields pdu1 m =
-        put_octet 2 (omega arith) (stored 2 (put_word (put_a (word / 2 ^ 8) (word / 2 ^ 8, refl, refl) (put_a (bit_and (word / 2 ^ 8) 0x3ff00) (bit_and (word / 2 ^ 8) 0x3ff00, refl, refl) (stored 0 (jumped 6 (decides _ (keeps_words (fields_of word) m.scratch _ (octet 3) (octet 2) (pdu1_group_is word _ _ _ _ is_word pdu1) (sym (source_is word _ _ _ _ is_word)) specific))))))))
+        put_octet 2 (omega arith)
+        (stored 2 (put_word (put_a (word / 2 ^ 8) (
+          word / 2 ^ 8,
+          refl,
+          refl,
+        ) (put_a (bit_and (word / 2 ^ 8) 0x3ff00) (
+          bit_and (word / 2 ^ 8) 0x3ff00,
+          refl,
+          refl,
+        ) (stored 0 (jumped 6
+        (decides _ (keeps_words (fields_of word) m.scratch _ (octet 3) (octet 2) (pdu1_group_is word _ _ _ _ is_word pdu1)
+        (sym (source_is word _ _ _ _ is_word)) specific))))))))
       where
         specific : octet 2 ≡ destination_address word
         specific = rw pdu1 (sym (specific_is word _ _ _ _ is_word))
@@ -111,7 +125,18 @@ module _ (octets : List ℕ) (port : ℕ) (is_record : IsRecord octets) where
         → Yields octets port (drop 15 (prologue other) ++ rest) (record m { scratch = insert m.scratch 1 (octet 3) }) inside
     unfolding fields_of
     pdu2_yields pdu2 m =
-        put_a 0xff refl (stored 2 (put_word (put_a (word / 2 ^ 8) (word / 2 ^ 8, refl, refl) (put_a (bit_and (word / 2 ^ 8) 0x3ffff) (bit_and (word / 2 ^ 8) 0x3ffff, refl, refl) (stored 0 (decides _ (keeps_words (fields_of word) m.scratch _ (octet 3) 0xff (pdu2_group_is word _ _ _ _ is_word pdu2) (sym (source_is word _ _ _ _ is_word)) global)))))))
+        put_a 0xff refl (stored 2
+        (put_word (put_a (word / 2 ^ 8) (
+          word / 2 ^ 8,
+          refl,
+          refl,
+        ) (put_a (bit_and (word / 2 ^ 8) 0x3ffff) (
+          bit_and (word / 2 ^ 8) 0x3ffff,
+          refl,
+          refl,
+        ) (stored 0 (decides _
+        (keeps_words (fields_of word) m.scratch _ (octet 3) 0xff (pdu2_group_is word _ _ _ _ is_word pdu2)
+        (sym (source_is word _ _ _ _ is_word)) global)))))))
       where
         global : 0xff ≡ destination_address word
         global = rw pdu2
@@ -121,21 +146,33 @@ module _ (octets : List ℕ) (port : ℕ) (is_record : IsRecord octets) where
     format_test = by (is_pdu1 word) refl
       where
         by : (pdu1 : Bool) → is_pdu1 word ≡ pdu1 → nat_le 0xf0 (octet 1) ≡ not pdu1
-        by true e = let low = ltb-true (pdu_format word) 240 e in let format = format_is word _ _ _ _ is_word in lt-leb 0xf0 (octet 1) (omega arith)
-        by false e = let high = ltb-false (pdu_format word) 240 e in let format = format_is word _ _ _ _ is_word in le-leb 0xf0 (octet 1) (omega arith)
+        by true e = let low = ltb-true (pdu_format word) 240 e in let format = format_is word _ _ _ _ is_word in
+            lt-leb 0xf0 (octet 1) (omega arith)
+        by false e = let high = ltb-false (pdu_format word) 240 e in let format = format_is word _ _ _ _ is_word in
+            le-leb 0xf0 (octet 1) (omega arith)
 
     -- from its start on, the prologue leads to `rest` with the fields stored, or answers for `other`
-    pub prologue_yields : Yields octets port (prologue other ++ rest) start (if is_extended_data word then inside else answer_for other)
+    pub prologue_yields : Yields octets port (prologue other ++ rest) start
+        (if is_extended_data word then inside else answer_for other)
     prologue_yields =
-        put_word (put_a (bit_and word 0xe0000000) (bit_and word 0xe0000000, refl, refl) (if_equal 1 0 0x80000000 (is_extended_data word) (extended_is word _ _ _ _ is_word) (by_kind (is_extended_data word) _)))
+        put_word (put_a (bit_and word 0xe0000000) (
+          bit_and word 0xe0000000,
+          refl,
+          refl,
+        ) (if_equal 1 0 0x80000000 (is_extended_data word) (extended_is word _ _ _ _ is_word)
+        (by_kind (is_extended_data word) _)))
       where
         by_format : (pdu1 : Bool) → is_pdu1 word ≡ pdu1 → (m : Machine)
-            → Yields octets port (drop (if not pdu1 then 7 else 0) (drop 8 (prologue other) ++ rest)) (record m { scratch = insert m.scratch 1 (octet 3) }) inside
+            → Yields octets port (drop (if not pdu1 then 7 else 0) (drop 8 (prologue other) ++ rest))
+            (record m { scratch = insert m.scratch 1 (octet 3) }) inside
         by_format true e m = pdu1_yields e m
         by_format false e m = pdu2_yields e m
 
         by_kind : (extended : Bool) (m : Machine)
-            → Yields octets port (drop (if extended then 1 else 0) (drop 3 (prologue other) ++ rest)) m (if extended then inside else answer_for other)
+            → Yields octets port (drop (if extended then 1 else 0) (drop 3 (prologue other) ++ rest)) m
+            (if extended then inside else answer_for other)
         by_kind true m =
-            put_octet 3 (omega arith) (stored 1 (put_octet 1 (omega arith) (if_at_least 7 0 0xf0 (not (is_pdu1 word)) format_test (by_format (is_pdu1 word) refl _))))
+            put_octet 3 (omega arith)
+            (stored 1 (put_octet 1 (omega arith)
+            (if_at_least 7 0 0xf0 (not (is_pdu1 word)) format_test (by_format (is_pdu1 word) refl _))))
         by_kind false m = returned (answer_for other)

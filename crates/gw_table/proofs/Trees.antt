@@ -1,5 +1,6 @@
 -- What the tree of a document has, beside the values of the program that it stands for.
-use Rattle.std.proofs.Common.{◌≡◌, ◌≢◌, ℕ, Bool, true, false, not, List, [], ◌∷◌, length, map, Option, Some, None, Err, option_map, string_bytes, refl, ap, ◌∙◌}
+use Rattle.std.proofs.Common.{◌≡◌, ◌≢◌, ℕ, Bool, true, false, not, List, [], ◌∷◌, length, map, Option, Some, None, Err}
+use Rattle.std.proofs.Common.{option_map, string_bytes, refl, ap, ◌∙◌}
 use Rattle.std.proofs.lemmas.List.{length-map}
 use Rattle.std.proofs.lemmas.Option.{slice_get-map}
 use Rattle.std.specs.Prelude.{if◌then◌else◌, option_and_then, is_some, slice_get}
@@ -82,7 +83,8 @@ and_then-map g f (Some x) = refl
 -- the first of which something is wrong, where it was looked for by its number: none, or what is wrong with the value there
 
 seen_at : {A : Type 0} (wrong : Data → Option A) (values : List Value) (number : ℕ)
-    → option_and_then wrong (slice_get (map view values) number) ≡ option_and_then (λ value. wrong (view value)) (slice_get values number)
+    → option_and_then wrong (slice_get (map view values) number) ≡ option_and_then (λ value. wrong (view value))
+    (slice_get values number)
 seen_at wrong values number =
     ap (option_and_then wrong) (slice_get-map view values number) ∙ and_then-map wrong view (slice_get values number)
 

@@ -1,5 +1,6 @@
 -- Worked examples of tables, as texts, as trees and as what they pass.
-use Rattle.std.proofs.Common.{◌≡◌, ℕ, ◌≤◌, List, [], ◌∷◌, ◌++◌, length, codes, String, Global, string_bytes, Some, None, Ok, Err, true, false, refl, sym, ap, arith, replicate, pos, negsuc}
+use Rattle.std.proofs.Common.{◌≡◌, ℕ, ◌≤◌, List, [], ◌∷◌, ◌++◌, length, codes, String, Global, string_bytes, Some, None, Ok, Err}
+use Rattle.std.proofs.Common.{true, false, refl, sym, ap, arith, replicate, pos, negsuc}
 use Rattle.toml.specs.declared.de.error.Error.{Error}
 use Rattle.toml.proofs.OnLiterals.{toml_on_literals}
 use Rattle.toml.specs.Data.{Data, string, integer, boolean, array, table, Items, item, no_items, member, no_members, Members}
@@ -12,9 +13,11 @@ use Rattle.gw_table.specs.declared.refusal.Place.TheVariants as place
 use Rattle.gw_table.specs.declared.refusal.ActionFault.TheVariants.{Absent, NoAction}
 use Rattle.gw_table.specs.declared.refusal.Field.TheVariants.{Pgn, Source}
 use Rattle.gw_table.specs.declared.refusal.RangeFault.TheVariants.{NoRange, OutOfField, Descending}
-use Rattle.gw_table.specs.declared.refusal.TableRefusal.TheVariants.{BadToml, NoRuleTables, UnknownKey, BadAction, BadRange, TooManyRules}
+use Rattle.gw_table.specs.declared.refusal.TableRefusal.TheVariants.{BadToml, NoRuleTables, UnknownKey, BadAction, BadRange}
+use Rattle.gw_table.specs.declared.refusal.TableRefusal.TheVariants.{TooManyRules}
 use Rattle.gw_table.specs.Table.{Meaning, table_passes}
-use Rattle.gw_table.specs.TableText.{written_rules, unknown_key, bad_action, bad_range, meaning_in, span_in, number_in, IsFaultless, IsDocument, IsDocumentRefusal, IsTableText, IsTableRefusal}
+use Rattle.gw_table.specs.TableText.{written_rules, unknown_key, bad_action, bad_range, meaning_in, span_in, number_in}
+use Rattle.gw_table.specs.TableText.{IsFaultless, IsDocument, IsDocumentRefusal, IsTableText, IsTableRefusal}
 
 abbrev whole : ℕ → Span
 whole most = record { low = 0; high = most }
@@ -38,7 +41,11 @@ empty_text = (no_members, refl, ([], refl, no_fault refl refl refl (omega arith)
 
 passing_text : IsTableText (codes "default = \"pass\"") (record { otherwise = Pass; other = Block; rules = [] })
 unfolding toml_on_literals
-passing_text = (member (codes "default") (string (codes "pass")) no_members, refl, ([], refl, no_fault refl refl refl (omega arith), refl))
+passing_text = (
+  member (codes "default") (string (codes "pass")) no_members,
+  refl,
+  ([], refl, no_fault refl refl refl (omega arith), refl),
+)
 
 abbrev one_rule : Members → Members
 one_rule rule = member (codes "rule") (array (item (table rule) no_items)) no_members
@@ -174,7 +181,12 @@ from_rows = (refl, refl)
 
 abbrev shared_group : Meaning
 shared_group =
-    record { otherwise = Pass; other = Block; rules = record (any_frame Pass) { pgn = only 61184; source = only 1 } ∷ record (any_frame Block) { pgn = only 61184 } ∷ [] }
+    record {
+      otherwise = Pass;
+      other = Block;
+      rules = record (any_frame Pass) { pgn = only 61184; source = only 1 }
+          ∷ record (any_frame Block) { pgn = only 61184 } ∷ [];
+    }
 
 group_rows : (table_passes shared_group (record_of 0x98 0xEF 0x12 0x01) 0 ≡ true)
     × (table_passes shared_group (record_of 0x98 0xEF 0x12 0x02) 0 ≡ false)

@@ -1,5 +1,6 @@
 -- The rules that are read have ranges within their fields, and are no more than were written.
-use Rattle.std.proofs.Common.{◌≡◌, ℕ, ◌+◌, ◌≤◌, Bool, true, false, List, [], ◌∷◌, length, Option, Some, None, Result, Ok, Err, pos, option_map, refl, ap, ◌∙◌, subst, arith}
+use Rattle.std.proofs.Common.{◌≡◌, ℕ, ◌+◌, ◌≤◌, Bool, true, false, List, [], ◌∷◌, length, Option, Some, None, Result, Ok, Err}
+use Rattle.std.proofs.Common.{pos, option_map, refl, ap, ◌∙◌, subst, arith}
 use Rattle.std.proofs.lemmas.List.Elements.{All-nil, All-cons}
 use Rattle.std.proofs.lemmas.Option.{none-some, same_Some, option_and_then_some}
 use Rattle.std.proofs.lemmas.Bool.Decides.{nat_tests}
@@ -17,7 +18,8 @@ use Rattle.gw_table.specs.declared.refusal.Field.{Field}
 use Rattle.gw_table.specs.declared.refusal.Field.TheVariants.{Pgn, Source, Destination, From}
 use Rattle.gw_table.specs.declared.refusal.RangeFault.{RangeFault}
 use Rattle.gw_table.specs.declared.refusal.RangeFault.TheVariants.{OutOfField, Descending}
-use Rattle.gw_table.specs.TableText.{◌>>=◌, greatest, key_of, number_in, span_between, span_in, span_at, named_span, ranges_in, rule_action, rule_of, rule_in}
+use Rattle.gw_table.specs.TableText.{◌>>=◌, greatest, key_of, number_in, span_between, span_in, span_at, named_span, ranges_in}
+use Rattle.gw_table.specs.TableText.{rule_action, rule_of, rule_in}
 
 -- what a chain of answers that is one came through
 then_ok : {A B E P : Type 0} (f : A → Result B E) (found : Result A E) (y : B) → (found >>= f) ≡ Ok y

@@ -1,5 +1,6 @@
 -- The places that a path can reach without a store of a word, where the code begins with a known list.
-use Rattle.std.proofs.Common.{All, ◌≡◌, ℕ, zero, suc, ◌+◌, ◌<◌, Bool, true, false, not, ◌&&◌, ◌||◌, List, [], ◌∷◌, ◌++◌, length, Option, Some, None, inl, inr, sym, ap, subst, ◌∙◌, arith, eqb-true}
+use Rattle.std.proofs.Common.{All, ◌≡◌, ℕ, zero, suc, ◌+◌, ◌<◌, Bool, true, false, not, ◌&&◌, ◌||◌, List, [], ◌∷◌, ◌++◌, length}
+use Rattle.std.proofs.Common.{Option, Some, None, inl, inr, sym, ap, subst, ◌∙◌, arith, eqb-true}
 use Rattle.std.specs.Prelude.{slice_get, nat_eq}
 use Rattle.std.proofs.lemmas.List.Elements.{All-head, All-tail}
 use Rattle.std.proofs.lemmas.Bool.{and_parts, or_cases, false≢true}
@@ -32,7 +33,11 @@ module _ (test : ℕ → Bool) (word : ℕ) where
 
       by : (insn : Form) → passes_on i (Some insn) ≡ true → (Stores insn word → ⊥) → LeadsTo insn i j → test j ≡ true
       by (LoadScratch r k) e s l = absurd (false≢true e)
-      by (Store r k) e s l = elim (or_cases (nat_eq k word) (test (i + 1)) e) [ inl same ↦ absurd (s (eqb-true k word same)) | inr on ↦ at (i + 1) on l ]
+      by (Store r k) e s l = elim (or_cases (nat_eq k word) (test (i + 1)) e) [
+        | inl same ↦
+            absurd (s (eqb-true k word same))
+        | inr on ↦ at (i + 1) on l
+      ]
       by (ReturnConstant k) e s l = absurd l
       by ReturnA e s l = absurd l
       by (Jump k) e s l = at (i + 1 + k) e l
@@ -56,9 +61,11 @@ module _ (test : ℕ → Bool) (word : ℕ) where
   passes_at (form ∷ front) rest place (suc i) insn all l here passes =
       let at : place + suc i ≡ place + 1 + i = omega arith in
       let parts = and_parts (not (test place) || passes_on place form) (all_pass_on (place + 1) front) all in
-      subst (λ n. passes_on n (Some insn) ≡ true) (sym at) (passes_at front rest (place + 1) i insn parts.1 (omega arith) here (subst (λ n. test n ≡ true) at passes))
+      subst (λ n. passes_on n (Some insn) ≡ true) (sym at) (passes_at front rest (place + 1) i insn parts.1 (omega arith) here
+      (subst (λ n. test n ≡ true) at passes))
 
-  module _ (front rest : Forms) (first : test 0 ≡ true) (all : all_pass_on 0 front ≡ true) (within : (i : ℕ) → test i ≡ true → i < length front) where
+  module _ (front rest : Forms) (first : test 0 ≡ true) (all : all_pass_on 0 front ≡ true) (within : (i : ℕ) → test i ≡ true
+      → i < length front) where
     here_passes : (i : ℕ) (insn : Form) → HasAt (front ++ rest) i insn → test i ≡ true → passes_on i (Some insn) ≡ true
     here_passes i insn here passes =
         let at : 0 + i ≡ i = omega arith in
@@ -68,14 +75,17 @@ module _ (test : ℕ → Bool) (word : ℕ) where
     -- the test passes along each path that leaves the word unset
     next_passes : (i j : ℕ) → test i ≡ true → (StoresAt (front ++ rest) i word → ⊥) → IsNext (front ++ rest) i j → test j ≡ true
     next_passes i j passes unset next =
-        leads_on next.insn i j (here_passes i next.insn next.here passes) (λ stores. unset (record { insn = next.insn; here = next.here; stores = stores })) next.leads
+        leads_on next.insn i j (here_passes i next.insn next.here passes)
+        (λ stores. unset (record { insn = next.insn; here = next.here; stores = stores })) next.leads
 
     along : (i : ℕ) (js : List ℕ) (j : ℕ) → test i ≡ true → Walks (front ++ rest) i (js ++ j ∷ [])
         → All (λ k. StoresAt (front ++ rest) k word → ⊥) (i ∷ js) → test j ≡ true
-    along i [] j passes walks unset = next_passes i j passes (All-head (λ k. StoresAt (front ++ rest) k word → ⊥) i [] unset) walks.0
+    along i [] j passes walks unset = next_passes i j passes (All-head (λ k. StoresAt (front ++ rest) k word → ⊥) i [] unset)
+        walks.0
     along i (k ∷ js) j passes walks unset =
         let first = All-head (λ n. StoresAt (front ++ rest) n word → ⊥) i (k ∷ js) unset in
-        along k js j (next_passes i k passes first walks.0) walks.1 (All-tail (λ n. StoresAt (front ++ rest) n word → ⊥) i (k ∷ js) unset)
+        along k js j (next_passes i k passes first walks.0) walks.1 (All-tail (λ n. StoresAt (front ++ rest) n word
+        → ⊥) i (k ∷ js) unset)
 
     -- so it passes at each place that such a path comes to
     bare_passes : (i : ℕ) → IsBare (front ++ rest) i word → test i ≡ true

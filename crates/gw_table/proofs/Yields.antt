@@ -4,7 +4,8 @@ use Rattle.std.specs.Prelude.{slice_get, if◌then◌else◌, nat_eq, nat_lt, na
 use Rattle.std.specs.FinMap.{insert}
 use Rattle.std.proofs.lemmas.List.{drop-drop}
 use Rattle.gw_insn.specs.declared.insn.Insn.{Insn}
-use Rattle.gw_insn.specs.declared.insn.Insn.TheVariants.{StoreA, Jump, JumpEqualConstant, JumpGreaterConstant, JumpAtLeastConstant, ReturnConstant}
+use Rattle.gw_insn.specs.declared.insn.Insn.TheVariants.{StoreA, Jump, JumpEqualConstant, JumpGreaterConstant}
+use Rattle.gw_insn.specs.declared.insn.Insn.TheVariants.{JumpAtLeastConstant, ReturnConstant}
 use Rattle.gw_insn.specs.Form.{form}
 use Rattle.gw_machine.specs.Machine.{Machine, Goes, Ends, Does, with_a}
 use Rattle.gw_machine.specs.Runs.{Reaches, after, Returns}
@@ -37,7 +38,8 @@ returns_from code octets port n _ _ _ e r (ends {insn} {rest} {m} {answer} d) =
     (suc n, (n, m, r, record { insn = insn; here = here_in code m.place insn rest e; does = d }, refl))
 returns_from code octets port n _ _ _ e r (goes {insn} {rest} {m} {m'} {answer} k d p y) =
     let there = subst (λ place. drop place code ≡ drop k rest) (sym p) (tail_in code m.place k insn rest e) in
-    returns_from code octets port (suc n) m' answer (drop k rest) there (after r (record { insn = insn; here = here_in code m.place insn rest e; does = d })) y
+    returns_from code octets port (suc n) m' answer (drop k rest) there
+    (after r (record { insn = insn; here = here_in code m.place insn rest e; does = d })) y
 
 module _ {octets : List ℕ} {port : ℕ} where
   -- on to the next instruction, with a number in A
@@ -62,16 +64,19 @@ module _ {octets : List ℕ} {port : ℕ} where
 
   -- a conditional jump whose test comes out so
   pub if_equal : {rest : List Insn} {m : Machine} {answer : ℕ} (jt jf k : ℕ) (test : Bool) → nat_eq m.a k ≡ test
-      → Yields octets port (drop (if test then jt else jf) rest) (record m { place = m.place + 1 + (if test then jt else jf) }) answer → Yields octets port (JumpEqualConstant jt jf k ∷ rest) m answer
+      → Yields octets port (drop (if test then jt else jf) rest) (record m { place = m.place + 1 + (if test then jt else jf) })
+      answer → Yields octets port (JumpEqualConstant jt jf k ∷ rest) m answer
   if_equal {m = m} jt jf k test e y =
       goes (if test then jt else jf) (ap (λ t. Goes (record m { place = m.place + 1 + (if t then jt else jf) })) (sym e)) refl y
 
   pub if_at_least : {rest : List Insn} {m : Machine} {answer : ℕ} (jt jf k : ℕ) (test : Bool) → nat_le k m.a ≡ test
-      → Yields octets port (drop (if test then jt else jf) rest) (record m { place = m.place + 1 + (if test then jt else jf) }) answer → Yields octets port (JumpAtLeastConstant jt jf k ∷ rest) m answer
+      → Yields octets port (drop (if test then jt else jf) rest) (record m { place = m.place + 1 + (if test then jt else jf) })
+      answer → Yields octets port (JumpAtLeastConstant jt jf k ∷ rest) m answer
   if_at_least {m = m} jt jf k test e y =
       goes (if test then jt else jf) (ap (λ t. Goes (record m { place = m.place + 1 + (if t then jt else jf) })) (sym e)) refl y
 
   pub if_greater : {rest : List Insn} {m : Machine} {answer : ℕ} (jt jf k : ℕ) (test : Bool) → nat_lt k m.a ≡ test
-      → Yields octets port (drop (if test then jt else jf) rest) (record m { place = m.place + 1 + (if test then jt else jf) }) answer → Yields octets port (JumpGreaterConstant jt jf k ∷ rest) m answer
+      → Yields octets port (drop (if test then jt else jf) rest) (record m { place = m.place + 1 + (if test then jt else jf) })
+      answer → Yields octets port (JumpGreaterConstant jt jf k ∷ rest) m answer
   if_greater {m = m} jt jf k test e y =
       goes (if test then jt else jf) (ap (λ t. Goes (record m { place = m.place + 1 + (if t then jt else jf) })) (sym e)) refl y

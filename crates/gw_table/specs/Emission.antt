@@ -3,7 +3,9 @@
 use Rattle.std.specs.Prelude.{ℕ, ◌+◌, Bool, ◌==◌, ◌&&◌, if◌then◌else◌, List, [], ◌∷◌, ◌++◌, length}
 use Rattle.std.specs.List.{flat_map}
 use Rattle.gw_insn.specs.declared.insn.Insn.{Insn}
-use Rattle.gw_insn.specs.declared.insn.Insn.TheVariants.{LoadWord, LoadByte, LoadConstantA, LoadScratchA, StoreA, AndConstant, RshConstant, Jump, JumpEqualConstant, JumpGreaterConstant, JumpAtLeastConstant, ReturnConstant}
+use Rattle.gw_insn.specs.declared.insn.Insn.TheVariants.{LoadWord, LoadByte, LoadConstantA, LoadScratchA, StoreA, AndConstant}
+use Rattle.gw_insn.specs.declared.insn.Insn.TheVariants.{RshConstant, Jump, JumpEqualConstant, JumpGreaterConstant}
+use Rattle.gw_insn.specs.declared.insn.Insn.TheVariants.{JumpAtLeastConstant, ReturnConstant}
 use Rattle.gw_table.specs.declared.table.Action.{Action}
 use Rattle.gw_table.specs.declared.table.Action.TheVariants.{Pass, Block}
 use Rattle.gw_table.specs.declared.table.Span.{Span}

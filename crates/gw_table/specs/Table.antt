@@ -1,5 +1,6 @@
 -- What a table passes: the first rule whose four ranges hold of an extended data frame decides.
-use Rattle.std.specs.Prelude.{◌≡◌, ℕ, ◌≤◌, Bool, true, false, ◌&&◌, nat_le, if◌then◌else◌, List, length, slice_get, Option, Some, None, option_map, unwrap_or, All}
+use Rattle.std.specs.Prelude.{◌≡◌, ℕ, ◌≤◌, Bool, true, false, ◌&&◌, nat_le, if◌then◌else◌, List, length, slice_get, Option, Some}
+use Rattle.std.specs.Prelude.{None, option_map, unwrap_or, All}
 use Rattle.std.specs.List.{find, position}
 use Rattle.gw_ident.specs.Identifier.{is_extended_data, parameter_group, destination_address, source_address}
 use Rattle.gw_frame.specs.Record.{word_of}

@@ -1,9 +1,12 @@
 -- What a TOML document says as a table, and what is wrong with a document that says none.
-use Rattle.std.specs.Prelude.{◌≡◌, ℕ, ◌≤◌, ◌<◌, pos, codes, Bool, not, nat_le, if◌then◌else◌, List, [], ◌∷◌, length, slice_get, Option, Some, None, is_some, option_map, option_and_then, unwrap_or, Result, Ok, Err, bytes_eq, position, string_bytes}
+use Rattle.std.specs.Prelude.{◌≡◌, ℕ, ◌≤◌, ◌<◌, pos, codes, Bool, not, nat_le, if◌then◌else◌, List, [], ◌∷◌, length, slice_get}
+use Rattle.std.specs.Prelude.{Option, Some, None, is_some, option_map, option_and_then, unwrap_or, Result, Ok, Err, bytes_eq}
+use Rattle.std.specs.Prelude.{position, string_bytes}
 use Rattle.std.specs.List.{list_all, list_any, filter_map, find}
 use Rattle.std.specs.Option.{option_map_or, option_or}
 use Rattle.std.specs.Result.{result_map_both, result_ok, result_err}
-use Rattle.toml.specs.Data.{Data, string, integer, array, table, Items, no_items, item, Members, no_members, member, get, get_member, as_table}
+use Rattle.toml.specs.Data.{Data, string, integer, array, table, Items, no_items, item, Members, no_members, member, get}
+use Rattle.toml.specs.Data.{get_member, as_table}
 use Rattle.toml.specs.Parse.{parse_document}
 use Rattle.gw_table.specs.Table.{Meaning, greatest_group, greatest_octet}
 use Rattle.gw_table.specs.declared.table.Action.{Action}
@@ -22,7 +25,8 @@ use Rattle.gw_table.specs.declared.refusal.Field.TheVariants.{Pgn, Source, Desti
 use Rattle.gw_table.specs.declared.refusal.RangeFault.{RangeFault}
 use Rattle.gw_table.specs.declared.refusal.RangeFault.TheVariants.{NoRange, OutOfField, Descending}
 use Rattle.gw_table.specs.declared.refusal.TableRefusal.{TableRefusal}
-use Rattle.gw_table.specs.declared.refusal.TableRefusal.TheVariants.{BadToml, NoRuleTables, UnknownKey, BadAction, BadRange, TooManyRules, OutOfMemory}
+use Rattle.gw_table.specs.declared.refusal.TableRefusal.TheVariants.{BadToml, NoRuleTables, UnknownKey, BadAction, BadRange}
+use Rattle.gw_table.specs.declared.refusal.TableRefusal.TheVariants.{TooManyRules, OutOfMemory}
 
 -- the number by which a refusal is told
 abbrev pub refusal_number : TableRefusal → ℕ
@@ -229,7 +233,8 @@ meaning_in document rules =
 -- the document says this table
 abbrev pub IsDocument : Members → Meaning → Type 0
 IsDocument document meaning =
-    (rules : List Data) × (written_rules document ≡ Some rules) × IsFaultless document rules × (meaning ≡ meaning_in document rules)
+    (rules : List Data) × (written_rules document ≡ Some rules) × IsFaultless document rules
+    × (meaning ≡ meaning_in document rules)
 
 abbrev pub IsTableText : List ℕ → Meaning → Type 0
 IsTableText text meaning = (document : Members) × (parse_document text ≡ Some document) × IsDocument document meaning

@@ -8,10 +8,23 @@ ghost use Rattle.gw_verify.specs.Flow.{program_forms};
 ghost use Rattle.gw_verify.specs.Accepted.{IsAccepted};
 ghost use Rattle.gw_machine.specs.Answers.{answer_of};
 ghost use Rattle.gw_table.specs.Table.{table_passes};
-ghost use Rattle.gw_table.specs.Emission.{return_of, prologue, is_whole, tests, tests_unless_whole, from_part, destination_part, rule_code, body, head, group_code, emission};
+ghost use Rattle.gw_table.specs.Emission.{
+  return_of,
+  prologue,
+  is_whole,
+  tests,
+  tests_unless_whole,
+  from_part,
+  destination_part,
+  rule_code,
+  body,
+  head,
+  group_code,
+  emission,
+};
 
 use crate::table::{Action, GREATEST_GROUP, GREATEST_OCTET, Rule, Span, Table};
-use gw_insn::{Insn, Raw, encode};
+use gw_insn::{INTERFACE, Insn, Raw, encode};
 use gw_machine::one_answer;
 use gw_verify::{Cause, Program};
 use std::alloc::{AllocError, Global};
@@ -24,9 +37,6 @@ const SOURCE: u32 = 1;
 
 /// The scratch word of its destination address.
 const DESTINATION: u32 = 2;
-
-/// The offset at which a load gives the number of the port at which the frame was taken.
-const INTERFACE: u32 = 0xffff_f008;
 
 /// Compiles a table to a program that passes what the table passes, at every taking port: it answers 1 for a
 /// frame that passes and 0 for one that is blocked. It is refused for want of memory alone.

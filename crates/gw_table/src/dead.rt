@@ -1,11 +1,30 @@
 //! Rules that can never decide.
 
-ghost use Rattle.std.specs.Prelude.{◌≡◌, ℕ, ◌+◌, ◌*◌, ◌/◌, ◌%◌, ◌<◌, ◌≤◌, true, false, List, All, IfSome, IfNone, OnSome, MatchBool, MatchOption, position};
+ghost use Rattle.std.specs.Prelude.{
+  ◌≡◌,
+  ℕ,
+  ◌+◌,
+  ◌*◌,
+  ◌/◌,
+  ◌%◌,
+  ◌<◌,
+  ◌≤◌,
+  true,
+  false,
+  List,
+  All,
+  IfSome,
+  IfNone,
+  OnSome,
+  MatchBool,
+  MatchOption,
+  position,
+};
 ghost use Rattle.gw_ident.specs.Identifier.{parameter_group, destination_address};
 ghost use Rattle.gw_table.specs.Table.{lies_in, greatest_group, Decides, Fits, IsRule};
 ghost use Rattle.gw_table.specs.Dead.{HasNoDestination, is_within, covers, IsDeadAlone, IsDead};
 
-use crate::table::{GREATEST_OCTET, Part, Rule, Span, Table};
+use crate::table::{GREATEST_OCTET, PDU2, Part, Rule, Span, Table};
 use std::fmt;
 use std::fmt::{Display, Formatter};
 
@@ -21,9 +40,6 @@ pub enum WhyDead {
     /// Each range lies within that of an earlier rule, the first such.
     Covered { by: usize },
 }
-
-/// The least PDU format of a PDU2 group (SAE J1939-21).
-const PDU2: u32 = 240;
 
 /// A gateway's ports are below it.
 const PORTS: u32 = 16;
@@ -157,7 +173,8 @@ impl Display for WhyDead {
     fn fmt<W: fmt::Write>(&self, f: &mut Formatter<W>) -> fmt::Result {
         match self {
             WhyDead::NoGroup => f.write_str(
-                "`pgn` has no parameter group: below PDU format 240 the last octet of a PGN is 0, and the destination is no part of it",
+                "`pgn` has no parameter group: below PDU format 240 the last octet of a PGN is 0, and the destination is no part \
+                of it",
             ),
             WhyDead::NoPort => f.write_str("`from` has no port: ports are 0 to 15"),
             WhyDead::NoDestination => f.write_str(

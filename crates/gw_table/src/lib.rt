@@ -1,21 +1,21 @@
 //! Tables of pass and block rules, and the programs that they are compiled to.
 #![tactic(auto)]
 
+mod column;
 mod compiler;
 mod dead;
 mod explanation;
+mod group_sets;
+mod index;
 mod nearest;
 mod reading;
 mod refusal;
+mod rule_set;
 mod table;
 mod verdict;
 
 pub use compiler::compile;
 pub use dead::WhyDead;
+pub use index::IndexedTable;
 pub use refusal::{ActionFault, Field, Place, RangeFault, TableRefusal};
 pub use table::{Action, Part, Rule, Span, Table};
-
-#[cfg(test)]
-mod compile_tests;
-#[cfg(test)]
-mod tests;

@@ -4,7 +4,38 @@ ghost use Rattle.std.specs.Prelude.{◌≡◌, map, option_map, IfOk, IfErr, byt
 ghost use Rattle.std.specs.List.{list_all, list_any, filter_map};
 ghost use Rattle.toml.specs.Data.{get_member};
 ghost use Rattle.toml.specs.View.{view, table_view};
-ghost use Rattle.gw_table.specs.TableText.{first_of, first_but, document_keys, rule_keys, unknown_in_rule, is_table, tables_in, written_rules, action_in, action_or_block, rule_action, value_fault, action_fault, written_fault, number_in, span_between, span_in, span_at, named_span, ranges_in, range_fault, rule_in, unknown_key, bad_action, bad_range, IsDocument, IsDocumentRefusal, IsTableText, IsTableRefusal, IsKeyRefusal};
+ghost use Rattle.gw_table.specs.TableText.{
+  first_of,
+  first_but,
+  document_keys,
+  rule_keys,
+  unknown_in_rule,
+  is_table,
+  tables_in,
+  written_rules,
+  action_in,
+  action_or_block,
+  rule_action,
+  value_fault,
+  action_fault,
+  written_fault,
+  number_in,
+  span_between,
+  span_in,
+  span_at,
+  named_span,
+  ranges_in,
+  range_fault,
+  rule_in,
+  unknown_key,
+  bad_action,
+  bad_range,
+  IsDocument,
+  IsDocumentRefusal,
+  IsTableText,
+  IsTableRefusal,
+  IsKeyRefusal,
+};
 
 use crate::refusal::{ActionFault, Field, Place, RangeFault, TableRefusal};
 use crate::table::{Action, Part, Rule, Span, Table};

@@ -11,6 +11,9 @@ pub(crate) const GREATEST_GROUP: u32 = 262143;
 /// The greatest address. A range of ports is one of octets too.
 pub(crate) const GREATEST_OCTET: u32 = 255;
 
+/// The least PDU format of a PDU2 group (SAE J1939-21).
+pub(crate) const PDU2: u32 = 240;
+
 /// What becomes of a frame.
 #[derive(Clone, Copy, PartialEq, Eq, Debug)]
 pub enum Action {

@@ -84,7 +84,7 @@ impl Rule {
 }
 
 impl Span {
-    fn contains(self, number: u32) -> bool
+    pub(crate) fn contains(self, number: u32) -> bool
         ensures { result ≡ lies_in number self }
     {
         self.low <= number && number <= self.high

@@ -11,5 +11,6 @@ loop-record-preserved c =
     let valid = subst IsRecord (sym c.in-Ok.ensures.read.1) c.in-Ok.ensures.read.0 in
     record {
       frames = grind (arith, common_steps);
-      valid = All-same IsRecord c.push.new.self.items (before ++ c.in-Ok.frame ∷ []) pushed (All-push IsRecord before c.in-Ok.frame c.loop-record.invariant.valid valid);
+      valid = All-same IsRecord c.push.new.self.items (before ++ c.in-Ok.frame ∷ []) pushed
+          (All-push IsRecord before c.in-Ok.frame c.loop-record.invariant.valid valid);
     }

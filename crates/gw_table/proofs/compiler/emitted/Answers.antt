@@ -17,12 +17,15 @@ loop-group-preserved c =
     let later = c.next.new.self.rest.now in
     let first = groups_of-chunk c.loop-group.group-iterator.rest.now group later steps.0 steps.1 run in
     let last = return_of c.args.table.now.otherwise ∷ [] in
-    let goes_on = subst (λ groups. c.loop-group.code.items ++ map raw_of (flat_map group_code groups ++ last) ≡ map raw_of (emission c.args.table.now)) first c.loop-group.invariant.rest in
+    let goes_on = subst (λ groups. c.loop-group.code.items ++ map raw_of (flat_map group_code groups ++ last)
+    ≡ map raw_of (emission c.args.table.now)) first c.loop-group.invariant.rest in
     record {
-      rest = group_pushed c.loop-group.code.items c.push_group.new.code.items (map raw_of (emission c.args.table.now)) group (groups_of later) last c.in_ok-push_group.ensures goes_on;
+      rest = group_pushed c.loop-group.code.items c.push_group.new.code.items (map raw_of (emission c.args.table.now)) group
+          (groups_of later) last c.in_ok-push_group.ensures goes_on;
       few = omega (arith, ap length steps.0, length-append group later, c.loop-group.invariant.few);
     }
 
 pub returns-clause-accepted : goal.returns-clause-accepted
 returns-clause-accepted c =
-    emission_accepted c.args.table.now (subst (λ (table : Meaning). length table.rules ≤ 256) c.table.view_is c.table.invariant.few)
+    emission_accepted c.args.table.now (subst (λ (table : Meaning). length table.rules ≤ 256) c.table.view_is
+    c.table.invariant.few)

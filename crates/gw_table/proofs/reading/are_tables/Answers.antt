@@ -8,4 +8,5 @@ use Rattle.gw_table.proofs.reading.are_tables.Goals as goal
 
 pub returns : goal.returns
 returns c =
-    rw list_all-map (all_from_yields_List (λ value. is_table (view value)) _ _ _ c.all.ensures.ran (YieldsList-from_slice c.args.values.now cc) (λ x b q k. search (rules, tests)))
+    rw list_all-map (all_from_yields_List (λ value. is_table (view value)) _ _ _ c.all.ensures.ran
+    (YieldsList-from_slice c.args.values.now cc) (λ x b q k. search (rules, tests)))

@@ -9,5 +9,7 @@ use Rattle.gw_table.proofs.reading.read_rules.Goals as goal
 
 pub returns : goal.returns
 returns c =
-    let extended = items_from_extend c.extend.result c.extend.ensures.ran (YieldsList-from_filter_map _ (λ rule. rule_in (view rule)) (YieldsList-from_slice c.args.rules.now cc) c.filter_map.ensures.closure (λ x r q k. search (rules, tests))) in
+    let extended = items_from_extend c.extend.result c.extend.ensures.ran
+    (YieldsList-from_filter_map _ (λ rule. rule_in (view rule)) (YieldsList-from_slice c.args.rules.now cc)
+    c.filter_map.ensures.closure (λ x r q k. search (rules, tests))) in
     rw filter_map-map (search rules)

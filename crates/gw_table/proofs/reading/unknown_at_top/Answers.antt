@@ -11,5 +11,7 @@ pub returns : goal.returns
 returns c =
     let document = c.args.document.now in
     option_map-map _ string_bytes c.find.result
-    ∙ ap (option_map string_bytes) (find_from_yields_List (λ key. not (list_any (bytes_eq (string_bytes key)) document_keys)) _ _ c.find.result c.find.ensures.ran (YieldsList-from_rest (keys document) c.keys.ensures.rest) (λ x b q k. search (rules, tests)))
+    ∙ ap (option_map string_bytes) (find_from_yields_List (λ key. not (list_any (bytes_eq (string_bytes key)) document_keys)) _ _
+    c.find.result c.find.ensures.ran (YieldsList-from_rest (keys document) c.keys.ensures.rest)
+    (λ x b q k. search (rules, tests)))
     ∙ sym (first_but-view document_keys document.entries)

@@ -13,6 +13,8 @@ returns-in-Table c =
     let members = c.in-Table.members in
     rw (c.in-Table.is, view-Table members) (
     option_map-map _ string_bytes c.find.result
-    ∙ ap (option_map string_bytes) (find_from_yields_List (λ key. not (list_any (bytes_eq (string_bytes key)) rule_keys)) _ _ c.find.result c.find.ensures.ran (YieldsList-from_rest (keys members) c.keys.ensures.rest) (λ x b q k. search (rules, tests)))
+    ∙ ap (option_map string_bytes) (find_from_yields_List (λ key. not (list_any (bytes_eq (string_bytes key)) rule_keys)) _ _
+    c.find.result c.find.ensures.ran (YieldsList-from_rest (keys members) c.keys.ensures.rest)
+    (λ x b q k. search (rules, tests)))
     ∙ sym (first_but-view rule_keys members.entries)
     )

@@ -7,28 +7,39 @@ use Rattle.gw_policy.proofs.in_force.PolicySet.absorb.Goals as goal
 pub loop-pair-preserved-in-Some-pair : goal.loop-pair-preserved-in-Some-pair
 loop-pair-preserved-in-Some-pair c = record {
   front = c.put.ensures.front ∙ c.loop-pair.invariant.front;
-  pairs = handed_on c.loop-pair.yielded c.loop-pair.pair-iterator c.next.new.self c.in-Some.pair c.args.batch.now c.in-Some.ensures.steps c.loop-pair.invariant.pairs;
+  pairs = handed_on c.loop-pair.yielded c.loop-pair.pair-iterator c.next.new.self c.in-Some.pair c.args.batch.now
+      c.in-Some.ensures.steps c.loop-pair.invariant.pairs;
   policies = λ port below.
-      policy_after-put port c.loop-pair.yielded c.in-Some-pair.port c.in-Some-pair.policy (policy_at port c.args.self.now) (policy_at port c.loop-pair.self) (policy_at port c.put.new.self) below
+      policy_after-put port c.loop-pair.yielded c.in-Some-pair.port c.in-Some-pair.policy (policy_at port c.args.self.now)
+      (policy_at port c.loop-pair.self) (policy_at port c.put.new.self) below
       (c.put.ensures.policies port) (c.loop-pair.invariant.policies port below)
-      ∙ ap (λ pair. policy_after port (pairs_of (c.loop-pair.yielded ++ pair ∷ [])) (policy_at port c.args.self.now)) (sym c.in-Some-pair.is);
+      ∙ ap (λ pair. policy_after port (pairs_of (c.loop-pair.yielded ++ pair ∷ [])) (policy_at port c.args.self.now))
+      (sym c.in-Some-pair.is);
 }
 
 pub loop-pair-preserved : goal.loop-pair-preserved
 loop-pair-preserved c = record {
   front = c.loop-pair.invariant.front;
-  pairs = handed_on c.loop-pair.yielded c.loop-pair.pair-iterator c.next.new.self c.in-Some.pair c.args.batch.now c.in-Some.ensures.steps c.loop-pair.invariant.pairs;
+  pairs = handed_on c.loop-pair.yielded c.loop-pair.pair-iterator c.next.new.self c.in-Some.pair c.args.batch.now
+      c.in-Some.ensures.steps c.loop-pair.invariant.pairs;
   policies = λ port below.
       c.loop-pair.invariant.policies port below
-      ∙ ap (λ pairs. policy_after port pairs (policy_at port c.args.self.now)) (nothing_more c.loop-pair.yielded c.in-Some.pair c.in_default.is);
+      ∙ ap (λ pairs. policy_after port pairs (policy_at port c.args.self.now))
+      (nothing_more c.loop-pair.yielded c.in-Some.pair c.in_default.is);
 }
 
 pub returns-clause-absorbed : goal.returns-clause-absorbed
 returns-clause-absorbed c =
-    let whole = all_handed_on c.loop-pair.yielded c.loop-pair.pair-iterator c.args.batch.now c.in-None.ensures.steps.0 c.loop-pair.invariant.pairs in
+    let whole = all_handed_on c.loop-pair.yielded c.loop-pair.pair-iterator c.args.batch.now c.in-None.ensures.steps.0
+    c.loop-pair.invariant.pairs in
     let old = c.args.self.now in
     record {
-      front = omega (arith, c.saturating_add-self-inside.ensures, ap (λ (set : Places). set.front) c.self.view_is, c.loop-pair.invariant.front);
+      front = omega (
+        arith,
+        c.saturating_add-self-inside.ensures,
+        ap (λ (set : Places). set.front) c.self.view_is,
+        c.loop-pair.invariant.front,
+      );
       policies =
           sixteen_places c.self.inside.places (λ port. policy_after port c.args.batch.now (policy_at port old)) c.self.invariant
           (λ port below.

@@ -6,5 +6,6 @@ abbrev pub invariant-loop-pair : goal.invariant-loop-pair
 invariant-loop-pair l = record {
   front : l.self.front ≡ l.initial.self.front;
   pairs : pairs_of (l.yielded ++ l.pair-iterator) ≡ l.batch;
-  policies : (port : ℕ) → port < 16 → policy_at port l.self ≡ policy_after port (pairs_of l.yielded) (policy_at port l.initial.self);
+  policies : (port : ℕ) → port < 16
+      → policy_at port l.self ≡ policy_after port (pairs_of l.yielded) (policy_at port l.initial.self);
 }

@@ -6,4 +6,8 @@ pub returns-clause-blocks : goal.returns-clause-blocks
 returns-clause-blocks c = empty_places c.default.result (λ i d within. search rules)
 
 pub returns-clause-start : goal.returns-clause-start
-returns-clause-start c = record { front = refl; policies = λ port. empty_places c.default.result (λ i d within. search rules) port ∙ none_in_force port }
+returns-clause-start c = record {
+  front = refl;
+  policies = λ port. empty_places c.default.result (λ i d within. search rules) port
+      ∙ none_in_force port;
+}

@@ -1,0 +1,228 @@
+/*
+ * Times tables judged by their index, rule by rule, by their program, and by libpcap on the program: on the records of the
+ * vehicle's bus, on records that no rule decides, and with the caches emptied. Prints three tables in markdown. Fails where two ways do
+ * not agree.
+ */
+#include "bench.h"
+
+#include <stdio.h>
+#include <stdlib.h>
+#include <string.h>
+#include <time.h>
+
+enum { WAYS = 4, TABLE_REPEATS = 15, TABLE_ROUNDS = 200, COPIES = 512, COLD_ROUNDS = 1000, COLD_REPEATS = 5, WALK = 1048576 };
+
+/* In this order: by the index, rule by rule, by the program, by libpcap. */
+static const char *const ways[WAYS] = {"index", "rule by rule", "program", "libpcap"};
+
+/* The processor time of this thread, which other work on the machine does not lengthen. */
+static double now(void)
+{
+    struct timespec t;
+    clock_gettime(CLOCK_THREAD_CPUTIME_ID, &t);
+    return (double)t.tv_sec * 1e9 + (double)t.tv_nsec;
+}
+
+static double least(double a, double b)
+{
+    return a < b ? a : b;
+}
+
+/*
+ * Rules with ranges that overlap: no two that follow one another have the same range of groups, so the compiler shares no test between
+ * them. The even ones hold for nearly all groups of most sources; the odd ones for six sources and a range of groups.
+ */
+size_t write_table(char *text, size_t room, int rules)
+{
+    int length = snprintf(text, room, "default = \"block\"\n");
+    for (int rule = 0; rule < rules; rule++) {
+        int at = rule % 2 ? snprintf(text + length, room - (size_t)length,
+                                     "[[rule]]\naction = \"%s\"\npgn = [%d, %d]\nsource = [%d, %d]\n", rule % 3 ? "pass" : "block",
+                                     61184 + rule, 65500 - rule, rule % 64, rule % 64 + 5)
+                          : snprintf(text + length, room - (size_t)length,
+                                     "[[rule]]\naction = \"pass\"\npgn = [%d, %d]\nsource = [0, %d]\ndestination = [0, %d]\n", rule,
+                                     262143 - rule, 150 + rule % 50, 100 + rule % 100);
+        length += at;
+    }
+    return (size_t)length;
+}
+
+/* PGN 61184 of sources 100 to 149 to destinations 220 to 227: no rule above decides them, nor one of rules.toml. */
+static void write_undecided(uint8_t (*records)[16])
+{
+    for (int i = 0; i < RECORDS; i++) {
+        const uint8_t record[16] = {0x98, 0xef, (uint8_t)(220 + i % 8), (uint8_t)(100 + i % 50), 8};
+        memcpy(records[i], record, sizeof record);
+    }
+}
+
+struct table {
+    const char *text;
+    size_t text_length;
+    struct bpf_insn code[LONGEST];
+    size_t length;
+};
+
+/* So many rounds in one way; their verdicts. */
+static bool judge(const struct table *t, int way, const uint8_t (*records)[16], uint32_t rounds, bool *verdicts)
+{
+    static uint32_t answers[RECORDS];
+    if (way == 0)
+        return gw_bench_index(t->text, t->text_length, records, RECORDS, rounds, verdicts, RECORDS);
+    if (way == 1)
+        return gw_bench_judge(t->text, t->text_length, records, RECORDS, rounds, verdicts, RECORDS);
+    if (way == 2 && !gw_bench_run(t->code, t->length, records, RECORDS, rounds, answers, RECORDS))
+        return false;
+    for (uint32_t round = 0; way == 3 && round < rounds; round++)
+        for (int i = 0; i < RECORDS; i++)
+            answers[i] = bpf_filter(t->code, records[i], 16, 16);
+    for (int i = 0; i < RECORDS; i++)
+        verdicts[i] = answers[i] != 0;
+    return true;
+}
+
+/* The time of one verdict in each way: that of the rounds, without that of a call with no round. */
+static bool time_ways(const struct table *t, const uint8_t (*records)[16], double *times)
+{
+    static bool verdicts[WAYS][RECORDS];
+    for (int way = 0; way < WAYS; way++) {
+        double with = 1e30, without = 1e30;
+        for (int repeat = 0; repeat < TABLE_REPEATS; repeat++) {
+            double start = now();
+            if (!judge(t, way, records, 0, verdicts[way]))
+                return false;
+            double between = now();
+            if (!judge(t, way, records, TABLE_ROUNDS, verdicts[way]))
+                return false;
+            without = least(without, between - start);
+            with = least(with, now() - between);
+        }
+        if (memcmp(verdicts[way], verdicts[0], sizeof verdicts[0]) != 0)
+            return false;
+        times[way] = (with - without) / ((double)TABLE_ROUNDS * RECORDS);
+    }
+    return true;
+}
+
+static uint64_t walked(const uint64_t *walk)
+{
+    uint64_t sum = 0;
+    for (int i = 0; i < WALK; i++)
+        sum += walk[i];
+    return sum;
+}
+
+/* Before each round 8 MB are walked, and each record is judged by a copy of the code that is its own. */
+static uint64_t run_cold(const struct bpf_insn **copies, const uint8_t (*records)[16], const uint64_t *walk, bool run)
+{
+    uint64_t passed = 0;
+    for (int round = 0; round < COLD_ROUNDS; round++) {
+        passed += walked(walk);
+        for (int i = 0; run && i < COPIES; i++)
+            passed += bpf_filter(copies[i], records[i], 16, 16) != 0;
+    }
+    return passed;
+}
+
+/* The time of a call of gw_bench_cold by a way. Sets how many frames passed. */
+static double cold_time(const struct table *t, const uint8_t (*records)[16], const uint64_t *walk, uint32_t rounds, uint32_t way,
+                        uint64_t *passed)
+{
+    double start = now();
+    *passed = gw_bench_cold(t->text, t->text_length, records, COPIES, walk, WALK, rounds, way);
+    return now() - start;
+}
+
+static double cold_libpcap_time(const struct bpf_insn **copies, const uint8_t (*records)[16], const uint64_t *walk, bool run,
+                                uint64_t *passed)
+{
+    double start = now();
+    *passed = run_cold(copies, records, walk, run);
+    return now() - start;
+}
+
+static int compare(const void *a, const void *b)
+{
+    double x = *(const double *)a, y = *(const double *)b;
+    return (x > y) - (x < y);
+}
+
+/*
+ * The time of one verdict in each way with what it reads in no near cache: that of walks and verdicts, without those of the walks
+ * and of making what is judged by, which are taken beside it. The median of the repeats.
+ */
+static bool time_cold(const struct table *t, const uint8_t (*records)[16], double *times)
+{
+    static uint64_t walk[WALK];
+    static const struct bpf_insn *copies[COPIES];
+    /* The numbers that gw_bench_cold has for the first three ways. */
+    static const uint32_t numbers[] = {2, 1, 3};
+    double found[WAYS][COLD_REPEATS];
+    uint64_t passed[WAYS], none;
+    /* Pages that were never written would all be one. */
+    memset(walk, 1, sizeof walk);
+    for (int i = 0; i < COPIES; i++) {
+        struct bpf_insn *copy = malloc(t->length * sizeof *copy);
+        copies[i] = memcpy(copy, t->code, t->length * sizeof *copy);
+    }
+    for (int repeat = 0; repeat < COLD_REPEATS; repeat++) {
+        for (int way = 0; way < 3; way++) {
+            double making = cold_time(t, records, walk, 0, numbers[way], &none);
+            double walking = cold_time(t, records, walk, COLD_ROUNDS, 0, &none);
+            found[way][repeat] = cold_time(t, records, walk, COLD_ROUNDS, numbers[way], &passed[way]) - making - walking;
+        }
+        double walking = cold_libpcap_time(copies, records, walk, false, &none);
+        found[3][repeat] = cold_libpcap_time(copies, records, walk, true, &passed[3]) - walking;
+    }
+    for (int i = 0; i < COPIES; i++)
+        free((void *)copies[i]);
+    for (int way = 0; way < WAYS; way++) {
+        qsort(found[way], COLD_REPEATS, sizeof found[way][0], compare);
+        times[way] = found[way][COLD_REPEATS / 2] / ((double)COLD_ROUNDS * COPIES);
+    }
+    return passed[0] == passed[1] && passed[0] == passed[2] && passed[0] == passed[3];
+}
+
+static void print_line(int rules, const struct table *t, const double *times)
+{
+    printf("| %d | %zu |", rules, t->length);
+    for (int way = 0; way < WAYS; way++)
+        printf(" %.1f |", times[way]);
+    printf(" %.2f | %.3f | %.2f |\n", times[0] / times[2], times[0] / times[3], times[0] / times[1]);
+}
+
+static bool time_kind(const char *kind, struct table *tables, const int *rules, int count, const uint8_t (*records)[16], bool cold)
+{
+    printf("\n%s\n\n| rules | instructions |", kind);
+    for (int way = 0; way < WAYS; way++)
+        printf(" %s, ns a frame |", ways[way]);
+    printf(" index / program | index / libpcap | index / rule by rule |\n|---|---|---|---|---|---|---|---|---|\n");
+    for (int i = 0; i < count; i++) {
+        double times[WAYS];
+        if (!(cold ? time_cold : time_ways)(&tables[i], records, times)) {
+            fprintf(stderr, "a table of %d rules is refused, or two ways differ\n", rules[i]);
+            return false;
+        }
+        print_line(rules[i], &tables[i], times);
+    }
+    return true;
+}
+
+bool time_tables(const char *text, size_t length, const uint8_t (*records)[16])
+{
+    enum { TABLES = 4, ROOM = 65536 };
+    static const int rules[TABLES] = {1, 8, 40, 256};
+    static struct table tables[TABLES];
+    static char texts[TABLES][ROOM];
+    static uint8_t undecided[RECORDS][16];
+    for (int i = 0; i < TABLES; i++) {
+        struct table *t = &tables[i];
+        t->text = rules[i] == 40 ? text : texts[i];
+        t->text_length = rules[i] == 40 ? length : write_table(texts[i], ROOM, rules[i]);
+        t->length = gw_bench_compile(t->text, t->text_length, t->code, LONGEST);
+    }
+    write_undecided(undecided);
+    return time_kind("The vehicle's records:", tables, rules, TABLES, records, false)
+        && time_kind("Records that no rule decides:", tables, rules, TABLES, (const uint8_t (*)[16])undecided, false)
+        && time_kind("The vehicle's records, with the caches emptied:", tables, rules, TABLES, records, true);
+}
