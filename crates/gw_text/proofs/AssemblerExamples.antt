@@ -1,9 +1,10 @@
-use Rattle.std.proofs.Common.{◌≡◌, ℕ, List, [], ◌∷◌, ◌++◌, codes, map, Some, None, Ok, Err, true, false, refl, replicate, length}
+use Rattle.std.proofs.Common.{◌≡◌, ℕ, List, [], ◌∷◌, ◌++◌, codes, Some, None, refl, replicate, length}
 use Rattle.std.specs.List.{flat_map}
 use Rattle.gw_insn.specs.declared.insn.Raw.{Raw}
-use Rattle.gw_text.specs.declared.refusal.AsmRefusal.TheVariants.{BadToken, UnknownWord, BadOperand, BadNumber, LabelTwice, NoSuchLabel, Backward, TooFar, TooMany}
+use Rattle.gw_text.specs.declared.refusal.AsmRefusal.TheVariants.{BadToken, UnknownWord, BadOperand, BadNumber, LabelTwice}
+use Rattle.gw_text.specs.declared.refusal.AsmRefusal.TheVariants.{NoSuchLabel, Backward, TooFar}
 use Rattle.gw_text.specs.AssemblerForms.{words}
-use Rattle.gw_text.specs.Assembly.{first_refusal, code_of, numbered, Assembles}
+use Rattle.gw_text.specs.Assembly.{first_refusal, Assembles}
 
 abbrev lines : List (List ℕ) → List ℕ
 lines ls = flat_map (λ l. l ++ 10 ∷ []) ls

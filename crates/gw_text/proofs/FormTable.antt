@@ -1,5 +1,6 @@
 -- Operands of another number than the pieces fit none.
-use Rattle.std.proofs.Common.{◌≡◌, ◌≢◌, ◌≤◌, ℕ, Bool, true, false, ◌&&◌, List, [], ◌∷◌, length, take, drop, get_or, map, ◌-◌, refl, sym, ap, ◌∙◌, arith}
+use Rattle.std.proofs.Common.{◌≡◌, ◌≢◌, ◌≤◌, ℕ, Bool, true, false, ◌&&◌, List, [], ◌∷◌, length, take, drop, get_or, map, ◌-◌}
+use Rattle.std.proofs.Common.{refl, sym, ap, ◌∙◌, arith}
 use Rattle.std.specs.Borrow.{Bor}
 use Rattle.std.proofs.lemmas.List.{length-map}
 use Rattle.gw_text.specs.AssemblerForms.{Piece, fits, fits_piece}
@@ -16,7 +17,9 @@ unlike_fits [] (t ∷ ts) ne = refl
 unlike_fits (p ∷ ps) [] ne = refl
 unlike_fits (p ∷ ps) (t ∷ ts) ne = either_way (fits_piece p t) (fits ps ts) (unlike_fits ps ts (λ e. ne (omega arith)))
 
-pub unlike_tokens : (ps : List StaticPiece) (ts : List (Bor (List ℕ))) → length ps ≢ length ts → false ≡ fits (map piece_view ps) (map (λ t. t.now) ts)
+-- the same of operands as the code has them
+pub unlike_tokens : (ps : List StaticPiece) (ts : List (Bor (List ℕ))) → length ps ≢ length ts
+    → false ≡ fits (map piece_view ps) (map (λ t. t.now) ts)
 unlike_tokens ps ts ne =
     sym (unlike_fits (map piece_view ps) (map (λ t. t.now) ts)
     (λ e. ne (sym (length-map ps piece_view) ∙ e ∙ length-map ts (λ (t : Bor (List ℕ)). t.now))))

@@ -1,5 +1,5 @@
 -- The table is one of words that are spelled apart, and no operands fit two forms of a word: the first form is the only one.
-use Rattle.std.proofs.Common.{◌≡◌, ℕ, Bool, true, false, not, ◌&&◌, ◌||◌, List, [], ◌∷◌, refl}
+use Rattle.std.proofs.Common.{◌≡◌, Bool, true, false, not, ◌&&◌, List, [], ◌∷◌, refl}
 use Rattle.std.specs.List.{list_all}
 use Rattle.gw_text.specs.AssemblerTokens.{is_word, is_number}
 use Rattle.gw_text.specs.AssemblerForms.{Piece, spelled, number, negated, only, label, Form, Word, words, same_text}

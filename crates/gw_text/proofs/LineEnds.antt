@@ -1,6 +1,7 @@
 -- The lines of a text, one after another.
-use Rattle.std.proofs.Common.{◌≡◌, ℕ, suc, ◌+◌, ◌-◌, ◌<◌, ◌≤◌, Bool, true, false, not, ◌==◌, List, [], ◌∷◌, ◌++◌, length, take, drop, refl, sym, ap, ◌∙◌, arith, length-drop, append_assoc}
-use Rattle.std.specs.List.{position_or_len, prefix_len, slice_split, onto_first}
+use Rattle.std.proofs.Common.{◌≡◌, ℕ, ◌+◌, ◌-◌, ◌<◌, ◌≤◌, Bool, true, false, ◌==◌, List, [], ◌∷◌, ◌++◌, length, take}
+use Rattle.std.proofs.Common.{drop, refl, sym, ap, ◌∙◌, arith, length-drop, append_assoc}
+use Rattle.std.specs.List.{position_or_len, slice_split, onto_first}
 use Rattle.std.proofs.lemmas.List.{drop-drop}
 use Rattle.std.proofs.lemmas.List.Splits.{slice_split_first}
 use Rattle.gw_text.proofs.FormTable.{all_taken}
@@ -9,9 +10,11 @@ abbrev is_end : ℕ → Bool
 is_end c = c == 10
 
 -- the line that ends at the next line end
-pub next_line : (text : List ℕ) (found : List (List ℕ)) (from end : ℕ) (piece : List ℕ) (whole : List (List ℕ)) → from ≤ length text
+pub next_line : (text : List ℕ) (found : List (List ℕ)) (from end : ℕ) (piece : List ℕ) (whole : List (List ℕ))
+    → from ≤ length text
     → end ≡ from + position_or_len is_end (drop from text) → end < length text → piece ≡ take (end - from) (drop from text)
-    → found ++ slice_split is_end (drop from text) ≡ whole → (found ++ piece ∷ []) ++ slice_split is_end (drop (end + 1) text) ≡ whole
+    → found ++ slice_split is_end (drop from text) ≡ whole → (found ++ piece ∷ []) ++ slice_split is_end (drop (end + 1) text)
+    ≡ whole
 next_line text found from end piece whole begins ends within part so =
     let n = position_or_len is_end (drop from text) in
     let long : length (drop from text) ≡ length text - from = length-drop from text in
@@ -24,7 +27,8 @@ next_line text found from end piece whole begins ends within part so =
     append_assoc found (piece ∷ []) (slice_split is_end (drop (end + 1) text))
     ∙ ap (λ ls. found ++ ls) (rw (here, behind) (sym cut)) ∙ so
 
-one_part_more : (x : ℕ) (xs : List ℕ) (b : Bool) → is_end x ≡ b → (position_or_len is_end xs ≡ length xs → slice_split is_end xs ≡ xs ∷ [])
+one_part_more : (x : ℕ) (xs : List ℕ) (b : Bool) → is_end x ≡ b
+    → (position_or_len is_end xs ≡ length xs → slice_split is_end xs ≡ xs ∷ [])
     → position_or_len is_end (x ∷ xs) ≡ length (x ∷ xs) → slice_split is_end (x ∷ xs) ≡ (x ∷ xs) ∷ []
 one_part_more x xs true e more h =
     let here : position_or_len is_end (x ∷ xs) ≡ 0 = rw e in absurd (let none : 0 ≡ length (x ∷ xs) = sym here ∙ h in omega arith)
@@ -39,8 +43,10 @@ one_part [] h = refl
 one_part (x ∷ xs) h = one_part_more x xs (is_end x) refl (one_part xs) h
 
 -- the line behind the last line end
-pub last_line : (text : List ℕ) (found : List (List ℕ)) (from end : ℕ) (piece : List ℕ) (whole : List (List ℕ)) → from ≤ length text
-    → end ≡ from + position_or_len is_end (drop from text) → end ≤ length text → length text ≤ end → piece ≡ take (length text - from) (drop from text)
+pub last_line : (text : List ℕ) (found : List (List ℕ)) (from end : ℕ) (piece : List ℕ) (whole : List (List ℕ))
+    → from ≤ length text
+    → end ≡ from + position_or_len is_end (drop from text) → end ≤ length text → length text ≤ end
+    → piece ≡ take (length text - from) (drop from text)
     → found ++ slice_split is_end (drop from text) ≡ whole → found ++ piece ∷ [] ≡ whole
 last_line text found from end piece whole begins ends within past part so =
     let long : length (drop from text) ≡ length text - from = length-drop from text in

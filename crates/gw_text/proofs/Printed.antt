@@ -1,5 +1,7 @@
 -- Printed numbers and labels are tokens, and read back.
-use Rattle.std.proofs.Common.{◌≡◌, ℕ, suc, zero, ◌+◌, ◌-◌, ◌*◌, ◌/◌, ◌^◌, ◌<◌, ◌≤◌, Bool, true, false, ◌&&◌, ◌||◌, not, cond, List, [], ◌∷◌, ◌++◌, length, get_or, ◌==◌, codes, Option, Some, None, refl, sym, ap, ◌∙◌, arith, rules, subst, ◌⊎◌, inl, inr, lt-ltb, ⊎_elim}
+use Rattle.std.proofs.Common.{◌≡◌, ℕ, ◌+◌, ◌*◌, ◌^◌, ◌<◌, ◌≤◌, Bool, true, false, ◌&&◌, not}
+use Rattle.std.proofs.Common.{List, [], ◌∷◌, ◌++◌, length, get_or, ◌==◌, Some, refl, ap, ◌∙◌, arith}
+use Rattle.std.proofs.Common.{lt-ltb, ⊎_elim}
 use Rattle.std.specs.Char.{digit_value}
 use Rattle.std.specs.List.{list_all}
 use Rattle.std.specs.Fmt.{digits, decimal}
@@ -7,8 +9,9 @@ use Rattle.std.specs.Str.Parse.{AllDigits, IsNumeral, digits_value, digits_value
 use Rattle.std.proofs.lemmas.Fmt.{digits_is_IsNumeral, first_decimal, decimal_digit}
 use Rattle.std.proofs.lemmas.Bool.Decides.{nat_tests}
 use Rattle.std.proofs.lemmas.Bool.{cases_lt}
-use Rattle.gw_text.specs.AssemblerTokens.{is_name_character, is_separator, is_digit, is_number, is_token_character, starts_as, tokens_of, add_character, extends_name, digits_from, digits_in, number_value}
-use Rattle.gw_text.proofs.TokenLemmas.{name_no_separator, extends_none, tokens-mark}
+use Rattle.gw_text.specs.AssemblerTokens.{is_name_character, is_digit, starts_as}
+use Rattle.gw_text.specs.AssemblerTokens.{tokens_of, add_character, extends_name, digits_from, digits_in, number_value}
+use Rattle.gw_text.proofs.TokenLemmas.{name_no_separator}
 
 -- a name before what does not go on with it is one token
 names_end : (c : ℕ) (rest : List ℕ) → starts_as is_name_character rest ≡ false → extends_name c rest ≡ false
@@ -19,7 +22,9 @@ names_end c (d ∷ ds) h = go (is_name_character c)
     go true = h
     go false = refl
 
-pub name_token : (c : ℕ) (cs rest : List ℕ) → list_all is_name_character (c ∷ cs) ≡ true → starts_as is_name_character rest ≡ false
+-- a name that has a first character
+pub name_token : (c : ℕ) (cs rest : List ℕ) → list_all is_name_character (c ∷ cs) ≡ true → starts_as is_name_character rest
+    ≡ false
     → tokens_of ((c ∷ cs) ++ rest) ≡ (c ∷ cs) ∷ tokens_of rest
 name_token c [] rest all ends =
     let name : is_name_character c ≡ true = grind (arith, nat_tests) in
@@ -41,7 +46,8 @@ all_names : (ds : List ℕ) (base : ℕ) → base ≤ 16 → AllDigits base ds �
 all_names [] base le h = refl
 all_names (d ∷ ds) base le h = rw (digit_is_name d (omega arith), all_names ds base le h.1)
 
-read_from : (base value : ℕ) (ds : List ℕ) → AllDigits base ds → digits_from base value ds ≡ Some (digits_value_after base value ds)
+read_from : (base value : ℕ) (ds : List ℕ) → AllDigits base ds → digits_from base value ds
+    ≡ Some (digits_value_after base value ds)
 read_from base value [] h = refl
 read_from base value (d ∷ ds) h = rw (lt-ltb (digit_value d) base h.0) (read_from base (value * base + digit_value d) ds h.1)
 
@@ -62,12 +68,16 @@ plain_value : (c : ℕ) (cs : List ℕ) → (0 < length cs → not (c == 48) ≡
 plain_value c [] h = refl
 plain_value c (d ∷ ds) h = rw (h (omega arith))
 
+-- a hexadecimal number has name characters alone
 pub hex_names : (n : ℕ) → n < 2 ^ 32 → list_all is_name_character (48 ∷ 120 ∷ digits 16 false n) ≡ true
-hex_names n small = all_names (digits 16 false n) 16 (omega arith) (digits_is_IsNumeral 16 false (omega arith) (omega arith) n (omega arith)).0.1
+hex_names n small = all_names (digits 16 false n) 16 (omega arith) (digits_is_IsNumeral 16 false (omega arith) (omega arith) n
+    (omega arith)).0.1
 
+-- a hexadecimal number is a number token of its value
 pub printed_hex : (n : ℕ) → n < 2 ^ 32 → IsPrinted n (48 ∷ 120 ∷ digits 16 false n)
 printed_hex n small =
-    let is : IsNumeral 16 (digits 16 false n) × (digits_value 16 (digits 16 false n) ≡ n) = digits_is_IsNumeral 16 false (omega arith) (omega arith) n (omega arith) in
+    let is : IsNumeral 16 (digits 16 false n) × (digits_value 16 (digits 16 false n) ≡ n) =
+    digits_is_IsNumeral 16 false (omega arith) (omega arith) n (omega arith) in
     record {
       first = 48;
       more = 120 ∷ digits 16 false n;
@@ -77,7 +87,8 @@ printed_hex n small =
       value = read_in 16 (digits 16 false n) is.0 ∙ ap Some is.1;
     }
 
-spelled_decimal : (n : ℕ) (ds : List ℕ) → decimal n ≡ ds → IsNumeral 10 ds → digits_value 10 ds ≡ n → (10 ≤ n → 48 < get_or ds 0 0) → (n < 10 → ds ≡ (48 + n) ∷ []) → IsPrinted n ds
+spelled_decimal : (n : ℕ) (ds : List ℕ) → decimal n ≡ ds → IsNumeral 10 ds → digits_value 10 ds ≡ n
+    → (10 ≤ n → 48 < get_or ds 0 0) → (n < 10 → ds ≡ (48 + n) ∷ []) → IsPrinted n ds
 spelled_decimal n [] e is value great small = absurd (omega arith)
 spelled_decimal n (d ∷ ds) e is value great small = record {
   first = d;
@@ -94,7 +105,9 @@ spelled_decimal n (d ∷ ds) e is value great small = record {
       ∙ read_in 10 (d ∷ ds) is ∙ ap Some value;
 }
 
+-- and so is a decimal one
 pub printed_decimal : (n : ℕ) → n < 2 ^ 64 → IsPrinted n (decimal n)
 printed_decimal n small =
-    let is : IsNumeral 10 (decimal n) × (digits_value 10 (decimal n) ≡ n) = digits_is_IsNumeral 10 false (omega arith) (omega arith) n (omega arith) in
+    let is : IsNumeral 10 (decimal n) × (digits_value 10 (decimal n) ≡ n) =
+    digits_is_IsNumeral 10 false (omega arith) (omega arith) n (omega arith) in
     spelled_decimal n (decimal n) refl is.0 is.1 (λ ge. first_decimal n (omega arith) small) (λ lt. decimal_digit n lt)

@@ -1,8 +1,8 @@
 -- The labels of a disassembly: each is defined once, at its place.
-use Rattle.std.proofs.Common.{◌≡◌, ◌≢◌, ℕ, suc, zero, ◌+◌, ◌-◌, ◌*◌, ◌^◌, ◌<◌, ◌≤◌, Bool, true, false, ◌||◌, List, [], ◌∷◌, ◌++◌, Option, Some, None, refl, sym, ap, ◌∙◌, arith, rules, subst, ⊎_elim}
-use Rattle.std.specs.List.{list_any, find}
+use Rattle.std.proofs.Common.{◌≡◌, ◌≢◌, ℕ, suc, zero, ◌+◌, ◌^◌, ◌<◌, ◌≤◌, true, false, List, [], ◌∷◌}
+use Rattle.std.proofs.Common.{Some, None, refl, arith, rules, ⊎_elim}
+use Rattle.std.specs.List.{list_any}
 use Rattle.std.specs.Fmt.{decimal}
-use Rattle.std.specs.Str.{bytes_eq}
 use Rattle.std.proofs.lemmas.Bool.{cases_lt, false_from_ne_true}
 use Rattle.std.proofs.lemmas.Fmt.{decimal_injective}
 use Rattle.std.proofs.lemmas.Slice.Eq.{bytes_eq-Decides}
@@ -23,12 +23,15 @@ tail_same a b c e = cc
 
 other_name : (i j : ℕ) → i < 2 ^ 64 → j < 2 ^ 64 → i ≢ j → same_text (label i) (label j) ≡ false
 other_name i j low high ne = false_from_ne_true (same_text (label i) (label j)) (λ yes.
-    ne (decimal_injective i j low high (tail_same (decimal i) (decimal j) 108 (search (rules, bytes_eq-Decides (label i) (label j))))))
+    ne (decimal_injective i j low high
+    (tail_same (decimal i) (decimal j) 108 (search (rules, bytes_eq-Decides (label i) (label j))))))
 
+-- each of the labels names its own place
 pub place_found : (n s t : ℕ) → s ≤ t → t < s + n → s + n < 2 ^ 64 → place_of (labels_from s n) (label t) ≡ Some t
 place_found zero s t low high fits = absurd (omega arith)
 place_found (suc n) s t low high fits = ⊎_elim
-    (λ lt. rw (other_name s t (omega arith) (omega arith) (λ e. absurd (omega arith))) (place_found n (s + 1) t (omega arith) (omega arith) (omega arith)))
+    (λ lt. rw (other_name s t (omega arith) (omega arith) (λ e. absurd (omega arith)))
+    (place_found n (s + 1) t (omega arith) (omega arith) (omega arith)))
     (λ ge. let same : t ≡ s = omega arith in rw (same, same_name (label s)))
     (cases_lt s t)
 
@@ -36,7 +39,9 @@ place_found (suc n) s t low high fits = ⊎_elim
 abbrev Fresh : ℕ → List (List ℕ) → Type 0
 Fresh s names = (t : ℕ) → s ≤ t → t < 2 ^ 64 → list_any (same_text (label t)) names ≡ false
 
-pub defined_once : (n s : ℕ) (names : List (List ℕ)) → s + n < 2 ^ 64 → Fresh s names → defined_again names (labels_from s n) ≡ None
+-- none of the labels is defined twice
+pub defined_once : (n s : ℕ) (names : List (List ℕ)) → s + n < 2 ^ 64 → Fresh s names → defined_again names (labels_from s n)
+    ≡ None
 defined_once zero s names fits fresh = refl
 defined_once (suc n) s names fits fresh =
     rw (fresh s (omega arith) (omega arith))

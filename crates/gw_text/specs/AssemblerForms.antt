@@ -1,6 +1,7 @@
 -- The instructions that the assembler reads, as a table: a word, the spellings of its operands, and the code of each
 -- (Linux, Documentation/networking/filter, section "BPF engine and instruction set", in the spellings of this project).
-use Rattle.std.specs.Prelude.{ℕ, ◌+◌, ◌-◌, ◌^◌, Bool, true, false, ◌&&◌, nat_le, if◌then◌else◌, List, [], ◌∷◌, ◌++◌, map, codes, Option, Some, None, option_map, is_some}
+use Rattle.std.specs.Prelude.{ℕ, ◌+◌, ◌-◌, ◌^◌, Bool, true, false, ◌&&◌, nat_le, if◌then◌else◌, List, [], ◌∷◌, ◌++◌, map, codes}
+use Rattle.std.specs.Prelude.{Option, Some, None, option_map, is_some}
 use Rattle.std.specs.List.{find}
 use Rattle.std.specs.Str.{bytes_eq}
 use Rattle.std.specs.Option.{option_and_then}
@@ -67,7 +68,8 @@ before operands rest = map (λ pieces. pieces ++ rest) operands
 
 -- the forms of some spellings
 abbrev pub forms_with : ℕ → ℕ → Jump → List (List Piece) → List Form
-forms_with constant code jump operands = map (λ pieces. record { pieces = pieces; code = code; jump = jump; constant = constant }) operands
+forms_with constant code jump operands = map (λ pieces. record { pieces = pieces; code = code; jump = jump; constant = constant })
+    operands
 
 abbrev pub jumping : ℕ → Jump → List (List Piece) → List Form
 jumping = forms_with 0
@@ -80,7 +82,8 @@ abbrev pub number_or_x : ℕ → List Form
 number_or_x code = plain code immediate ++ plain (code + 8) (register (codes "x"))
 
 abbrev pub compared : ℕ → Jump → List Piece → List Form
-compared code jump labels = jumping code jump (before immediate labels) ++ jumping (code + 8) jump (before (register (codes "x")) labels)
+compared code jump labels = jumping code jump (before immediate labels)
+    ++ jumping (code + 8) jump (before (register (codes "x")) labels)
 
 -- `, L, L`, or one label with the other branch falling through
 abbrev pub branch : ℕ → List Form
@@ -100,12 +103,14 @@ word name forms = record { name = name; forms = forms }
 abbrev pub loads : List Word
 loads =
     word (codes "ld")
-    (plain 0x20 absolute ++ plain 0x40 indexed ++ plain 0x60 scratch ++ plain 0x00 immediate ++ plain 0x80 (hash_or_not (codes "len"))
+    (plain 0x20 absolute ++ plain 0x40 indexed ++ plain 0x60 scratch ++ plain 0x00 immediate
+    ++ plain 0x80 (hash_or_not (codes "len"))
     ++ forms_with taking_port 0x20 NoJump (hash_or_not (codes "ifidx")))
     ∷ word (codes "ldi") (plain 0x00 (immediate ++ bare_number))
     ∷ word (codes "ldh") (plain 0x28 absolute ++ plain 0x48 indexed)
     ∷ word (codes "ldb") (plain 0x30 absolute ++ plain 0x50 indexed)
-    ∷ word (codes "ldx") (plain 0x61 scratch ++ plain 0x01 immediate ++ plain 0x81 (hash_or_not (codes "len")) ++ plain 0xb1 nibble)
+    ∷ word (codes "ldx") (plain 0x61 scratch ++ plain 0x01 immediate ++ plain 0x81 (hash_or_not (codes "len"))
+    ++ plain 0xb1 nibble)
     ∷ word (codes "ldxi") (plain 0x01 (immediate ++ bare_number))
     ∷ word (codes "ldxb") (plain 0xb1 nibble)
     ∷ word (codes "st") (plain 0x02 scratch)
@@ -191,7 +196,8 @@ form_of token operands = option_and_then (λ forms. form_among forms operands) (
 abbrev pub within : ℕ → ℕ → ℕ → Option ℕ
 within low high n = if nat_le low n && nat_le n high then Some n else None
 
--- the field k as far as one piece tells: it stays, or it is the number there, and None is a number that is malformed or out of range
+-- the field k as far as one piece tells: it stays, or it is the number there, and None is a number that is malformed or out of
+-- range
 abbrev pub k_at : Piece → List ℕ → ℕ → Option ℕ
 k_at (spelled text) token k = Some k
 k_at label token k = Some k

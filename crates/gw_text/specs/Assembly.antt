@@ -1,10 +1,12 @@
 -- The code that an assembler text means, and the first refusal of a text that means none.
-use Rattle.std.specs.Prelude.{◌≡◌, ℕ, suc, ◌+◌, ◌-◌, ◌≤◌, Bool, true, false, not, ◌==◌, ◌&&◌, ◌||◌, nat_lt, nat_le, if◌then◌else◌, List, [], ◌∷◌, ◌++◌, map, length, codes, Option, Some, None, unwrap_or, option_to_list}
+use Rattle.std.specs.Prelude.{◌≡◌, ℕ, ◌+◌, ◌-◌, Bool, true, false, not, ◌&&◌, nat_lt, nat_le, if◌then◌else◌}
+use Rattle.std.specs.Prelude.{List, [], ◌∷◌, ◌++◌, map, codes, Option, Some, None, unwrap_or, option_to_list}
 use Rattle.std.specs.List.{find, filter_map, list_any, list_all, enumerate_from, slice_get, flat_map}
-use Rattle.std.specs.Option.{option_map, option_map_or, option_and_then}
+use Rattle.std.specs.Option.{option_map, option_map_or}
 use Rattle.gw_insn.specs.declared.insn.Raw.{Raw}
 use Rattle.gw_text.specs.declared.refusal.AsmRefusal.{AsmRefusal}
-use Rattle.gw_text.specs.declared.refusal.AsmRefusal.TheVariants.{BadToken, UnknownWord, BadOperand, BadNumber, LabelTwice, NoSuchLabel, Backward, TooFar, TooMany, OutOfMemory}
+use Rattle.gw_text.specs.declared.refusal.AsmRefusal.TheVariants.{BadToken, UnknownWord, BadOperand, BadNumber, LabelTwice}
+use Rattle.gw_text.specs.declared.refusal.AsmRefusal.TheVariants.{NoSuchLabel, Backward, TooFar, TooMany, OutOfMemory}
 use Rattle.gw_text.specs.declared.forms.Jump.{Jump}
 use Rattle.gw_text.specs.declared.forms.Jump.TheVariants.{NoJump, Always, IfTrue, IfFalse, Either}
 use Rattle.gw_text.specs.AssemblerTokens.{lines_of, tokens_of, is_token_character, is_word}
@@ -82,7 +84,8 @@ operand_fault line word operands = option_map_or (number_fault line operands) (f
 
 abbrev pub instruction_fault : ℕ → List (List ℕ) → Option AsmRefusal
 instruction_fault line [] = None
-instruction_fault line (word ∷ operands) = if is_known_word word then operand_fault line word operands else Some (UnknownWord line)
+instruction_fault line (word ∷ operands) =
+    if is_known_word word then operand_fault line word operands else Some (UnknownWord line)
 
 abbrev pub line_fault : Line → Option AsmRefusal
 line_fault line =
@@ -192,7 +195,8 @@ too_many ws = option_to_list (option_map (λ w. TooMany w.line) (slice_get ws 40
 abbrev pub faults : List Line → List AsmRefusal
 faults lines =
     line_faults lines
-    ++ (twice (definitions lines) ++ (all_target_faults (place_of (definitions lines)) (instructions lines) ++ too_many (instructions lines)))
+    ++ (twice (definitions lines) ++ (all_target_faults (place_of (definitions lines)) (instructions lines)
+    ++ too_many (instructions lines)))
 
 -- the refusal of a text is its first fault
 abbrev pub first_refusal : List ℕ → Option AsmRefusal

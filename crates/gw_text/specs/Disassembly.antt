@@ -1,5 +1,6 @@
 -- The text of a program, one line for each instruction: its label, a tab and the instruction.
-use Rattle.std.specs.Prelude.{ℕ, ◌+◌, ◌^◌, ◌<◌, ◌≤◌, ◌==◌, if◌then◌else◌, false, List, [], ◌∷◌, ◌++◌, codes, decimal, unwrap_or, Option, Some, None, option_map}
+use Rattle.std.specs.Prelude.{ℕ, ◌+◌, ◌^◌, ◌<◌, ◌≤◌, ◌==◌, if◌then◌else◌, false, List, [], ◌∷◌, ◌++◌, codes, decimal, unwrap_or}
+use Rattle.std.specs.Prelude.{option_map}
 use Rattle.std.specs.List.{flat_map, enumerate_from, find}
 use Rattle.std.specs.Fmt.{digits}
 use Rattle.gw_insn.specs.declared.insn.Raw.{Raw}
@@ -43,13 +44,18 @@ texts =
     text 0x20 (codes "ld") bracket ∷ text 0x28 (codes "ldh") bracket ∷ text 0x30 (codes "ldb") bracket
     ∷ text 0x40 (codes "ld") bracket_x ∷ text 0x48 (codes "ldh") bracket_x ∷ text 0x50 (codes "ldb") bracket_x
     ∷ text 0x80 (codes "ld") (fixed (codes "len")) ∷ text 0x81 (codes "ldx") (fixed (codes "len"))
-    ∷ text 0x00 (codes "ld") number ∷ text 0x01 (codes "ldx") number ∷ text 0x60 (codes "ld") scratch ∷ text 0x61 (codes "ldx") scratch
+    ∷ text 0x00 (codes "ld") number ∷ text 0x01 (codes "ldx") number ∷ text 0x60 (codes "ld") scratch
+    ∷ text 0x61 (codes "ldx") scratch
     ∷ text 0x02 (codes "st") scratch ∷ text 0x03 (codes "stx") scratch ∷ text 0xb1 (codes "ldx") header_length
-    ∷ (both 0x04 (codes "add") ++ both 0x14 (codes "sub") ++ both 0x24 (codes "mul") ++ both 0x34 (codes "div") ++ both 0x94 (codes "mod")
-    ++ both 0x44 (codes "or") ++ both 0x54 (codes "and") ++ both 0xa4 (codes "xor") ++ both 0x64 (codes "lsh") ++ both 0x74 (codes "rsh"))
+    ∷ (both 0x04 (codes "add") ++ both 0x14 (codes "sub") ++ both 0x24 (codes "mul") ++ both 0x34 (codes "div")
+    ++ both 0x94 (codes "mod")
+    ++ both 0x44 (codes "or") ++ both 0x54 (codes "and") ++ both 0xa4 (codes "xor") ++ both 0x64 (codes "lsh")
+    ++ both 0x74 (codes "rsh"))
     ++ text 0x84 (codes "neg") nothing ∷ text 0x05 (codes "jmp") target
-    ∷ (both_targets 0x15 (codes "jeq") ++ both_targets 0x25 (codes "jgt") ++ both_targets 0x35 (codes "jge") ++ both_targets 0x45 (codes "jset"))
-    ++ text 0x06 (codes "ret") number ∷ text 0x16 (codes "ret") (fixed (codes "a")) ∷ text 0x07 (codes "tax") nothing ∷ text 0x87 (codes "txa") nothing ∷ []
+    ∷ (both_targets 0x15 (codes "jeq") ++ both_targets 0x25 (codes "jgt") ++ both_targets 0x35 (codes "jge")
+    ++ both_targets 0x45 (codes "jset"))
+    ++ text 0x06 (codes "ret") number ∷ text 0x16 (codes "ret") (fixed (codes "a")) ∷ text 0x07 (codes "tax") nothing
+    ∷ text 0x87 (codes "txa") nothing ∷ []
 
 abbrev pub label : ℕ → List ℕ
 label place = codes "l" ++ decimal place

@@ -10,11 +10,8 @@ use crate::places::places;
 use crate::refusal::AsmRefusal;
 use crate::source::read;
 use crate::targets::{encode, first_bad_target};
-use gw_insn::Raw;
+use gw_insn::{MAX_INSNS, Raw};
 use std::alloc::Global;
-
-/// The most instructions of a program (BPF_MAXINSNS of Linux's include/uapi/linux/bpf_common.h).
-const MOST_INSTRUCTIONS: usize = 4096;
 
 /// The code that an assembler text means.
 pub fn assemble(alloc: Global, text: &str) -> Result<Vec<Raw>, AsmRefusal>
@@ -29,8 +26,8 @@ pub fn assemble(alloc: Global, text: &str) -> Result<Vec<Raw>, AsmRefusal>
     if let Some(refusal) = first_bad_target(&places, &source.instructions) {
         return Err(refusal);
     }
-    if source.instructions.len() > MOST_INSTRUCTIONS {
-        let line = source.instructions[MOST_INSTRUCTIONS].line;
+    if source.instructions.len() > MAX_INSNS {
+        let line = source.instructions[MAX_INSNS].line;
         return Err(AsmRefusal::TooMany { line });
     }
     Ok(encode(alloc, &places, &source.instructions)?)

@@ -331,7 +331,8 @@ fn find_word(words: &[Word], name: &[u8]) -> Option<&'static [Form]>
 
 /// The form that operands are spelled in.
 pub fn form_in<'a>(forms: &'a [Form], operands: &[&[u8]]) -> Option<&'a Form>
-    ensures form { option_map (λ f. form_view f.now) result ≡ form_among (map form_view forms.now) (map (λ t. t.now) operands.now) }
+    ensures form { option_map (λ f. form_view f.now) result
+        ≡ form_among (map form_view forms.now) (map (λ t. t.now) operands.now) }
     ensures as_many { IfSome result (λ form. length form.now.pieces.now ≡ length operands.now) }
 {
     for form in forms {

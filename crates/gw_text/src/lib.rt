@@ -9,6 +9,7 @@ mod forms;
 mod line;
 mod lines;
 mod numbers;
+mod parts;
 mod places;
 mod refusal;
 mod source;
@@ -19,6 +20,3 @@ pub use assembler::assemble;
 pub use disassembler::disassemble;
 pub use explained::Explained;
 pub use refusal::AsmRefusal;
-
-#[cfg(test)]
-mod tests;

@@ -4,7 +4,17 @@ ghost use Rattle.std.specs.Prelude.{◌≡◌, ◌≢◌, ◌++◌, ◌∷◌, S
 ghost use Rattle.gw_text.specs.declared.refusal.AsmRefusal.{AsmRefusal as Refusal};
 ghost use Rattle.gw_text.specs.AssemblerForms.{k_at, k_of, label_at, labels_at};
 ghost use Rattle.gw_text.specs.FormViews.{piece_view};
-ghost use Rattle.gw_text.specs.Assembly.{Line, after_labels, instruction_fault, labels_on, line_fault, line_labels, starts_with_label, written_as, written_on};
+ghost use Rattle.gw_text.specs.Assembly.{
+  Line,
+  after_labels,
+  instruction_fault,
+  labels_on,
+  line_fault,
+  line_labels,
+  starts_with_label,
+  written_as,
+  written_on,
+};
 ghost use Rattle.gw_text.specs.Sources.{instruction_view};
 
 use crate::forms::{Form, Jump, Piece, form_in, forms_of};
@@ -34,10 +44,12 @@ pub struct ParsedLine<'a> {
 /// Reads the line of a number, without its comments. Refusals: 40 to 43, in this order, and 49.
 pub fn parse<'a>(alloc: Global, number: usize, text: &'a [u8]) -> Result<ParsedLine<'a>, AsmRefusal>
     ensures faultless { OnOk result (line_fault (record { number = number; text = text.now }) ≡ None) }
-    ensures labels { IfOk result (λ line. map (λ t. t.now) line.labels.items ≡ labels_on (record { number = number; text = text.now })) }
+    ensures labels { IfOk result (λ line. map (λ t. t.now) line.labels.items
+        ≡ labels_on (record { number = number; text = text.now })) }
     ensures instruction { IfOk result (λ line.
         option_map instruction_view line.instruction ≡ written_on (record { number = number; text = text.now })) }
-    ensures refused { IfErr result (λ e. e ≢ Refusal.OutOfMemory → line_fault (record { number = number; text = text.now }) ≡ Some e) }
+    ensures refused { IfErr result (λ e. e ≢ Refusal.OutOfMemory → line_fault (record { number = number; text = text.now })
+        ≡ Some e) }
 {
     if !are_tokens(text) {
         return Err(AsmRefusal::BadToken { line: number });
@@ -84,7 +96,8 @@ fn parse_instruction<'a>(
 ) -> Result<Option<Instruction<'a>>, AsmRefusal>
     ensures faultless { OnOk result (instruction_fault line (map (λ t. t.now) tokens.now) ≡ None) }
     ensures written { IfOk result (λ i. option_map instruction_view i ≡ written_as line (map (λ t. t.now) tokens.now)) }
-    ensures refused { IfErr result (λ e. e ≢ Refusal.OutOfMemory → instruction_fault line (map (λ t. t.now) tokens.now) ≡ Some e) }
+    ensures refused { IfErr result (λ e. e ≢ Refusal.OutOfMemory
+        → instruction_fault line (map (λ t. t.now) tokens.now) ≡ Some e) }
 {
     match tokens {
         [] => Ok(None),
@@ -100,7 +113,8 @@ fn parse_operands<'a>(
     operands: &[&'a [u8]],
 ) -> Result<Option<Instruction<'a>>, AsmRefusal>
     ensures faultless { OnOk result (instruction_fault line (word.now ∷ map (λ t. t.now) operands.now) ≡ None) }
-    ensures written { IfOk result (λ i. option_map instruction_view i ≡ written_as line (word.now ∷ map (λ t. t.now) operands.now)) }
+    ensures written { IfOk result (λ i. option_map instruction_view i
+        ≡ written_as line (word.now ∷ map (λ t. t.now) operands.now)) }
     ensures refused { IfErr result (λ e. e ≢ Refusal.OutOfMemory →
         instruction_fault line (word.now ∷ map (λ t. t.now) operands.now) ≡ Some e) }
 {
@@ -163,7 +177,8 @@ fn targets<'a>(
     operands: &[&'a [u8]],
 ) -> Result<Vec<&'a [u8]>, AllocError>
     requires as_many { length pieces.now ≡ length operands.now }
-    ensures { IfOk result (λ found. map (λ t. t.now) found.items ≡ labels_at (map piece_view pieces.now) (map (λ t. t.now) operands.now)) }
+    ensures { IfOk result (λ found. map (λ t. t.now) found.items
+        ≡ labels_at (map piece_view pieces.now) (map (λ t. t.now) operands.now)) }
 {
     let mut found = Vec::new(alloc);
     for (at, piece) in pieces.iter().enumerate() {

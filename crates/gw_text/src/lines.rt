@@ -22,7 +22,7 @@ pub fn lines<'a>(alloc: Global, text: &'a [u8]) -> Result<Vec<&'a [u8]>, AllocEr
 }
 
 /// Where the line ends that begins at a place.
-fn line_end(text: &[u8], from: usize) -> usize
+pub fn line_end(text: &[u8], from: usize) -> usize
     requires { from ≤ length text.now }
     ensures end { result ≡ from + position_or_len (λ c. c == 10) (drop from text.now) }
     ensures within { result ≤ length text.now }

@@ -1,6 +1,22 @@
 //! The places that labels name.
 
-ghost use Rattle.std.specs.Prelude.{◌≡◌, ◌≢◌, ℕ, List, [], Some, None, not, is_some, map, option_map, bytes_eq, IfOk, IfErr, OnOk};
+ghost use Rattle.std.specs.Prelude.{
+  ◌≡◌,
+  ◌≢◌,
+  ℕ,
+  List,
+  [],
+  Some,
+  None,
+  not,
+  is_some,
+  map,
+  option_map,
+  bytes_eq,
+  IfOk,
+  IfErr,
+  OnOk,
+};
 ghost use Rattle.std.specs.Map.{update};
 ghost use Rattle.gw_text.specs.declared.refusal.AsmRefusal.{AsmRefusal as Refusal};
 ghost use Rattle.gw_text.specs.Assembly.{defined_again, label_twice};
@@ -18,7 +34,8 @@ pub fn places<'a>(
 ) -> Result<BTreeMap<&'a [u8], usize>, AsmRefusal>
     ensures once { OnOk result (defined_again [] (map label_view labels.now) ≡ None) }
     ensures places { IfOk result (λ places. Places places (map label_view labels.now)) }
-    ensures refused { IfErr result (λ e. e ≢ Refusal.OutOfMemory → option_map label_twice (defined_again [] (map label_view labels.now)) ≡ Some e) }
+    ensures refused { IfErr result (λ e. e ≢ Refusal.OutOfMemory
+        → option_map label_twice (defined_again [] (map label_view labels.now)) ≡ Some e) }
 {
     let mut places = BTreeMap::new(alloc);
     for label in labels {

@@ -8,7 +8,7 @@ use std::error::Error;
 use std::fmt;
 use std::fmt::{Display, Formatter};
 
-/// Why `assemble` refuses a text, with the line, counted from 1. (`Explained` names the word or number too.)
+/// Why `assemble` refuses a text, with the line, counted from 1. (`Explained` names the word, label or number too.)
 #[derive(Clone, Copy, Debug, PartialEq, Eq)]
 pub enum AsmRefusal {
     /// 40: a character that is no part of a token, or a comment that is never closed.

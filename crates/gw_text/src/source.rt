@@ -27,7 +27,8 @@ pub struct Source<'a> {
 /// Reads lines, of which the first has the number 1. Refusals: that of the first line with one of 40 to 43, and 49.
 pub fn read<'a>(alloc: Global, lines: &[&'a [u8]]) -> Result<Source<'a>, AsmRefusal>
     ensures faultless { OnOk result (line_faults (lines_from 1 (map (λ t. t.now) lines.now)) ≡ []) }
-    ensures labels { IfOk result (λ source. map label_view source.labels.items ≡ definitions (lines_from 1 (map (λ t. t.now) lines.now))) }
+    ensures labels { IfOk result (λ source. map label_view source.labels.items
+        ≡ definitions (lines_from 1 (map (λ t. t.now) lines.now))) }
     ensures instructions { IfOk result (λ source.
         map instruction_view source.instructions.items ≡ instructions (lines_from 1 (map (λ t. t.now) lines.now))) }
     ensures refused { IfErr result (λ e. e ≢ Refusal.OutOfMemory →

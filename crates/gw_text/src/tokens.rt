@@ -46,7 +46,7 @@ pub fn is_number(token: &[u8]) -> bool
 }
 
 /// Letters, digits and `_`, of which words and numbers are made.
-fn is_name(c: u8) -> bool
+pub fn is_name(c: u8) -> bool
     ensures { result ≡ is_name_character c }
 {
     matches!(c, b'A'..=b'Z' | b'a'..=b'z' | b'_' | b'0'..=b'9')
@@ -60,7 +60,7 @@ fn is_blank(c: u8) -> bool
 }
 
 /// Where the name ends that begins at a place.
-fn name_end(line: &[u8], from: usize) -> usize
+pub fn name_end(line: &[u8], from: usize) -> usize
     requires { from ≤ length line.now }
     ensures end { result ≡ from + prefix_len is_name_character (drop from line.now) }
     ensures within { result ≤ length line.now }

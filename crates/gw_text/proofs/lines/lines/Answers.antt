@@ -1,4 +1,4 @@
-use Rattle.std.proofs.Common.{◌≡◌, ℕ, List, [], ◌∷◌, ◌++◌, map, refl, sym, ap, ◌∙◌, rules, arith}
+use Rattle.std.proofs.Common.{◌≡◌, ℕ, List, [], ◌∷◌, ◌++◌, map, refl, rules, arith}
 use Rattle.std.specs.Borrow.{Bor}
 use Rattle.std.proofs.lemmas.List.{map-append}
 use Rattle.gw_text.proofs.LineEnds.{next_line, last_line}
@@ -22,12 +22,14 @@ loop-end-preserved c = record {
   within = c.line_end-end-in-loop-end.ensures.within;
   found =
       pushed c.loop-end.lines.items _ _ _ _ c.in_ok-push.ensures.items
-      (next_line c.args.text.now (seen c.loop-end.lines.items) c.loop-end.from c.loop-end.end _ _ c.loop-end.invariant.begins c.loop-end.invariant.ends
+      (next_line c.args.text.now (seen c.loop-end.lines.items) c.loop-end.from c.loop-end.end _ _ c.loop-end.invariant.begins
+      c.loop-end.invariant.ends
       (search rules) refl c.loop-end.invariant.found);
 }
 
 pub returns : goal.returns
 returns c =
     ended c.loop-end.lines.items _ _ _ c.in_ok-push-2.ensures.items
-    (last_line c.args.text.now (seen c.loop-end.lines.items) c.loop-end.from c.loop-end.end _ _ c.loop-end.invariant.begins c.loop-end.invariant.ends
+    (last_line c.args.text.now (seen c.loop-end.lines.items) c.loop-end.from c.loop-end.end _ _ c.loop-end.invariant.begins
+    c.loop-end.invariant.ends
     c.loop-end.invariant.within (search rules) refl c.loop-end.invariant.found)

@@ -1,4 +1,4 @@
-use Rattle.std.proofs.Common.{◌≡◌, ℕ, List, [], drop, map}
+use Rattle.std.proofs.Common.{drop, map}
 use Rattle.gw_text.specs.Sources.{label_view, place_in}
 use Rattle.gw_text.proofs.LabelTable.{SoFar}
 use Rattle.gw_text.proofs.places.places.Given as goal

@@ -6,5 +6,6 @@ use Rattle.gw_text.proofs.targets.bad_target.Given as goal
 
 abbrev pub invariant-loop-name : goal.invariant-loop-name
 invariant-loop-name l =
-    first_of (filter_map (target_fault (place_in l.places) l.place (instruction_view l.instruction)) (map (λ t. t.now) (drop l.name-index l.name-items)))
+    first_of (filter_map (target_fault (place_in l.places) l.place (instruction_view l.instruction))
+    (map (λ t. t.now) (drop l.name-index l.name-items)))
     ≡ first_of (target_faults (place_in l.places) (l.place, instruction_view l.instruction))

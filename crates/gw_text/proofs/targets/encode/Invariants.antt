@@ -6,6 +6,8 @@ use Rattle.gw_text.proofs.targets.encode.Given as goal
 
 abbrev pub invariant-loop-place : goal.invariant-loop-place
 invariant-loop-place l =
-    (flat_map (target_faults (place_in l.places)) (enumerate_from l.place (map instruction_view (drop l.place l.instructions))) ≡ [])
-    × (l.code.items ++ map (raw_at (place_in l.places)) (enumerate_from l.place (map instruction_view (drop l.place l.instructions)))
+    (flat_map (target_faults (place_in l.places)) (enumerate_from l.place (map instruction_view (drop l.place l.instructions)))
+    ≡ [])
+    × (l.code.items ++ map (raw_at (place_in l.places))
+    (enumerate_from l.place (map instruction_view (drop l.place l.instructions)))
     ≡ map (raw_at (place_in l.places)) (enumerate_from 0 (map instruction_view l.instructions)))

@@ -6,5 +6,6 @@ use Rattle.gw_text.proofs.targets.first_bad_target.Given as goal
 
 abbrev pub invariant-loop-place : goal.invariant-loop-place
 invariant-loop-place l =
-    first_of (flat_map (target_faults (place_in l.places)) (enumerate_from l.place (map instruction_view (drop l.place l.instructions))))
+    first_of (flat_map (target_faults (place_in l.places))
+    (enumerate_from l.place (map instruction_view (drop l.place l.instructions))))
     ≡ first_of (all_target_faults (place_in l.places) (map instruction_view l.instructions))

@@ -1,7 +1,6 @@
-use Rattle.std.proofs.Common.{◌≡◌, ℕ, List, [], ◌∷◌, ◌++◌, map, refl, sym, ap, ◌∙◌, rules, arith, take, drop}
+use Rattle.std.proofs.Common.{◌≡◌, ℕ, List, [], ◌∷◌, ◌++◌, map, refl, rules, arith}
 use Rattle.std.specs.Borrow.{Bor}
 use Rattle.std.proofs.lemmas.List.{map-append}
-use Rattle.gw_text.specs.AssemblerTokens.{tokens_of}
 use Rattle.gw_text.proofs.TokenLemmas.{name_added, mark_added}
 use Rattle.gw_text.proofs.tokens.split.Goals as goal
 
