@@ -1,5 +1,6 @@
 -- What octets begin with, when more octets follow.
-use Rattle.std.proofs.Common.{◌≡◌, ℕ, ◌+◌, ◌≤◌, ◌<◌, ◌≢◌, List, ◌++◌, length, take, drop, Option, Some, None, ap, ◌∙◌, refl, arith, length-append, length-drop}
+use Rattle.std.proofs.Common.{◌≡◌, ℕ, ◌+◌, ◌≤◌, ◌<◌, ◌≢◌, List, ◌++◌, length, take, drop, Option, Some, None, ap, ◌∙◌, refl}
+use Rattle.std.proofs.Common.{arith, length-append, length-drop}
 use Rattle.std.proofs.lemmas.Bool.Decides.{nat_tests}
 use Rattle.std.proofs.lemmas.List.{take-append-le, drop-append-le}
 use Rattle.gw_frame.specs.declared.refusal.FrameRefusal.{FrameRefusal}
@@ -34,6 +35,7 @@ pub whole_says : (there count n : ℕ) (refusal : Option FrameRefusal) → begun
 whole_says there count n None h = grind (arith, nat_tests)
 whole_says there count n (Some why) h = grind (arith, nat_tests)
 
+-- the other way round: what IsWhole has makes a whole record
 pub whole_from : (there count n : ℕ) (refusal : Option FrameRefusal) → IsWhole there count n refusal
     → begun there count refusal ≡ Whole n
 whole_from there count n None h = grind (arith, nat_tests)
@@ -82,12 +84,14 @@ begins_on order xs ys h =
         let there : count ≤ length (drop 16 xs) = rw (length-drop 16 xs) (omega arith) in
         rw (drop-append-le 16 xs ys header, take-append-le count (drop 16 xs) ys there) refl
 
+-- a whole record stays whole
 pub whole_on : (order : Order) (xs ys : List ℕ) (n : ℕ) → beginning order xs ≡ Whole n → beginning order (xs ++ ys) ≡ Whole n
 whole_on order xs ys n e = begins_on order xs ys (rw e (λ h. whole_is_unfinished n h)) ∙ e
   where
     whole_is_unfinished : (n : ℕ) → Whole n ≡ Unfinished → ⊥
     whole_is_unfinished n h = cc
 
+-- a record that is no frame stays so
 pub bad_on : (order : Order) (xs ys : List ℕ) (why : FrameRefusal) → beginning order xs ≡ Bad why
     → beginning order (xs ++ ys) ≡ Bad why
 bad_on order xs ys why e = begins_on order xs ys (rw e (λ h. bad_is_unfinished why h)) ∙ e

@@ -1,5 +1,6 @@
 -- What is read of octets behind a header, record by record, and when more octets follow.
-use Rattle.std.proofs.Common.{◌≡◌, ℕ, zero, suc, ◌+◌, ◌≤◌, List, ◌∷◌, ◌++◌, length, drop, Some, None, sym, ap, ◌∙◌, refl, arith, length-drop}
+use Rattle.std.proofs.Common.{◌≡◌, ℕ, zero, suc, ◌+◌, ◌≤◌, List, ◌∷◌, ◌++◌, length, drop, Some, None, sym, ap, ◌∙◌, refl, arith}
+use Rattle.std.proofs.Common.{length-drop}
 use Rattle.std.proofs.lemmas.List.{take-append-le, drop-append-le}
 use Rattle.gw_frame.specs.declared.refusal.FrameRefusal.{FrameRefusal}
 use Rattle.gw_trace.specs.declared.order.Order.{Order}
@@ -60,10 +61,12 @@ step order xs = enough (length xs) (suc (length xs)) order xs (omega arith) (ome
 pub contents_unfinished : (order : Order) (xs : List ℕ) → beginning order xs ≡ Unfinished → contents order xs ≡ stopped xs None
 contents_unfinished order xs e = step order xs ∙ ap (λ b. contents_from xs b (λ rest. records (length xs) order rest)) e
 
+-- at a record that is no frame the contents stop
 pub contents_bad : (order : Order) (xs : List ℕ) (why : FrameRefusal) → beginning order xs ≡ Bad why
     → contents order xs ≡ stopped xs (Some why)
 contents_bad order xs why e = step order xs ∙ ap (λ b. contents_from xs b (λ rest. records (length xs) order rest)) e
 
+-- a whole record stands before the contents of the rest
 pub contents_whole : (order : Order) (xs : List ℕ) (n : ℕ) → beginning order xs ≡ Whole n
     → contents order xs ≡ behind (captured n xs) (contents order (drop (16 + n) xs))
 unfolding contents
@@ -94,6 +97,7 @@ GoesOn order xs =
     (ys : List ℕ) → (contents order xs).fault ≡ None
     → contents order (xs ++ ys) ≡ after_frames (contents order xs).frames (contents order ((contents order xs).rest ++ ys))
 
+-- the contents of both, by those of the first
 pub goes_on : (order : Order) (xs : List ℕ) → GoesOn order xs
 goes_on order = over_records (GoesOn order) order
     (λ xs e ys h. rw (contents_unfinished order xs e) refl)
@@ -112,6 +116,7 @@ abbrev StaysFaulty : Order → List ℕ → Type 0
 StaysFaulty order xs = (ys : List ℕ) (why : FrameRefusal) → (contents order xs).fault ≡ Some why
     → ((contents order (xs ++ ys)).frames ≡ (contents order xs).frames) × ((contents order (xs ++ ys)).fault ≡ Some why)
 
+-- octets with a fault, whatever follows
 pub stays_faulty : (order : Order) (xs : List ℕ) → StaysFaulty order xs
 stays_faulty order = over_records (StaysFaulty order) order
     (λ xs e ys why h. absurd (none_is_some why (rw (contents_unfinished order xs e) at h)))
@@ -137,6 +142,7 @@ stays_faulty order = over_records (StaysFaulty order) order
 abbrev EndsUnfinished : Order → List ℕ → Type 0
 EndsUnfinished order xs = (contents order xs).fault ≡ None → beginning order (contents order xs).rest ≡ Unfinished
 
+-- the rest of octets without a fault
 pub ends_unfinished : (order : Order) (xs : List ℕ) → EndsUnfinished order xs
 ends_unfinished order = over_records (EndsUnfinished order) order
     (λ xs e h. rw (contents_unfinished order xs e) e)

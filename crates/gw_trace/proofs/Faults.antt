@@ -1,5 +1,6 @@
 -- A fault of octets is of a header or of a record: neither memory nor a reader is one.
-use Rattle.std.proofs.Common.{◌≡◌, ◌≢◌, ℕ, ◌+◌, Bool, true, false, not, cond, List, [], ◌∷◌, ◌++◌, length, take, drop, Option, Some, None, Result, Ok, Err, sym, ap, ◌∙◌, subst, refl, append_assoc, append-nil, true≢false}
+use Rattle.std.proofs.Common.{◌≡◌, ◌≢◌, ℕ, ◌+◌, Bool, true, false, not, cond, List, [], ◌∷◌, ◌++◌, length, take, drop, Option}
+use Rattle.std.proofs.Common.{Some, None, Result, Ok, Err, sym, ap, ◌∙◌, subst, refl, append_assoc, append-nil, true≢false}
 use Rattle.std.specs.Prelude.{is_err, OnOk}
 use Rattle.std.specs.Io.KnownBytes.{Consumes, IsAtEnd}
 use Rattle.std.specs.Option.{option_map_or}
@@ -7,8 +8,10 @@ use Rattle.gw_trace.specs.declared.order.Order.{Order}
 use Rattle.gw_trace.specs.declared.stage.Stage.{Stage}
 use Rattle.gw_trace.specs.declared.stage.Stage.TheVariants.{Header, Records, Failed}
 use Rattle.gw_trace.specs.declared.refusal.TraceRefusal.{TraceRefusal}
-use Rattle.gw_trace.specs.declared.refusal.TraceRefusal.TheVariants.{BadMagic, BadVersion, BadLink, BadRecord, OutOfMemory, Cut, ReadFault}
-use Rattle.gw_trace.specs.Traces.{Contents, contents, index_of, reading_from, reading_behind, reading, header_in, header_of, is_version_2_4, is_link_227, order_of, ending}
+use Rattle.gw_trace.specs.declared.refusal.TraceRefusal.TheVariants.{BadMagic, BadVersion, BadLink, BadRecord, OutOfMemory, Cut}
+use Rattle.gw_trace.specs.declared.refusal.TraceRefusal.TheVariants.{ReadFault}
+use Rattle.gw_trace.specs.Traces.{Contents, contents, index_of, reading_from, reading_behind, reading, header_in, header_of}
+use Rattle.gw_trace.specs.Traces.{is_version_2_4, is_link_227, order_of, ending}
 use Rattle.gw_trace.specs.FaultKinds.{IsFault}
 use Rattle.gw_trace.specs.Progress.{IsNoTrace, IsUnread}
 use Rattle.gw_trace.proofs.Resuming.{reading_header, reading_records, by_test}

@@ -1,5 +1,6 @@
 -- What a piece adds, and what a trace says of it.
-use Rattle.std.proofs.Common.{◌≡◌, ℕ, suc, ◌+◌, ◌-◌, ◌^◌, ◌≤◌, ◌<◌, List, [], ◌∷◌, ◌++◌, length, take, drop, Option, Some, None, Result, sym, ap, ◌∙◌, subst, refl, arith, append-nil}
+use Rattle.std.proofs.Common.{◌≡◌, ℕ, suc, ◌+◌, ◌-◌, ◌^◌, ◌≤◌, ◌<◌, List, [], ◌∷◌, ◌++◌, length, take, drop, Option, Some, None}
+use Rattle.std.proofs.Common.{Result, sym, ap, ◌∙◌, subst, refl, arith, append-nil}
 use Rattle.std.proofs.lemmas.Bool.Decides.{nat_tests}
 use Rattle.std.proofs.lemmas.List.{take-append-drop}
 use Rattle.std.proofs.Math.Nat.{min-eq_left}
@@ -12,8 +13,10 @@ use Rattle.gw_trace.specs.declared.stage.Stage.{Stage}
 use Rattle.gw_trace.specs.declared.stage.Stage.TheVariants.{Header, Records, Failed}
 use Rattle.gw_trace.specs.declared.refusal.TraceRefusal.{TraceRefusal}
 use Rattle.gw_trace.specs.declared.refusal.TraceRefusal.TheVariants.{BadRecord}
-use Rattle.gw_trace.specs.Traces.{beginning, captured, Contents, contents, stopped, behind, Reading, index_of, reading_from, reading_behind, reading, header_of}
-use Rattle.gw_trace.specs.Progress.{Progress, progress, read_on, kept_after, fault_in, in_records, at_fault, HasRead, Gives, IsRefused}
+use Rattle.gw_trace.specs.Traces.{beginning, captured, Contents, contents, stopped, behind, Reading, index_of, reading_from}
+use Rattle.gw_trace.specs.Traces.{reading_behind, reading, header_of}
+use Rattle.gw_trace.specs.Progress.{Progress, progress, read_on, kept_after, fault_in, in_records, at_fault, HasRead, Gives}
+use Rattle.gw_trace.specs.Progress.{IsRefused}
 use Rattle.gw_trace.specs.Additions.{frames_in, IsAdded, refusal_in}
 use Rattle.gw_trace.proofs.Beginnings.{whole_on, bad_on, unfinished_is_short, unfinished_is_shorter}
 use Rattle.gw_trace.proofs.Contents.{contents_unfinished, contents_bad, contents_whole, captured_on}
@@ -86,6 +89,7 @@ pub record FirstWhole (order : Order) (held piece : List ℕ) (count : ℕ) (fro
       ≡ behind (captured count front) (contents order (drop (16 + count - length held) piece))
   pub longer : length held < 16 + count
 
+-- the record that was begun becomes whole within its first 32 octets
 pub record_whole : (order : Order) (held piece front : List ℕ) (count : ℕ) → front ≡ take 32 (held ++ piece)
     → beginning order held ≡ Unfinished → Whole count ≡ beginning order front → FirstWhole order held piece count front
 record_whole order held piece front count e unfinished b =
@@ -128,6 +132,7 @@ pub record Fed (a : Added) (octets piece : List ℕ) : Type 0 where
   pub stage : a.next.stage ≡ (reading (octets ++ piece)).stage
   pub read : HasRead a.next (octets ++ piece)
 
+-- a trace that has read octets, and what it adds of a piece
 pub fed : (trace : Progress) (a : Added) (octets piece : List ℕ) → IsAdded a trace.given (read_on trace piece)
     → HasRead trace octets → Fed a octets piece
 fed trace a octets piece is h = at (subst (λ t. IsAdded a t.given (read_on t piece)) h is)
@@ -173,6 +178,7 @@ refuses a octets piece fault f h =
       fault_shows = sym f.stage ∙ r.1;
     }
 
+-- frames that are given
 pub gives : (a : Added) (octets piece : List ℕ) (frames : List (List ℕ)) → Fed a octets piece
     → refusal_in (frames_in a) a.next.stage ≡ None → frames ≡ frames_in a → Gives octets piece frames
 gives a octets piece frames f h e = record {

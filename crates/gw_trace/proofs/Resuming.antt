@@ -1,5 +1,6 @@
 -- Reading in pieces is reading at once.
-use Rattle.std.proofs.Common.{◌≡◌, ℕ, ◌+◌, ◌≤◌, ◌<◌, nat_lt, true, false, cond, Bool, List, [], ◌++◌, length, take, drop, Option, Some, None, Result, Ok, Err, sym, ap, ◌∙◌, refl, arith, length-append, append-nil}
+use Rattle.std.proofs.Common.{◌≡◌, ℕ, ◌+◌, ◌≤◌, ◌<◌, nat_lt, true, false, cond, Bool, List, [], ◌++◌, length, take, drop, Option}
+use Rattle.std.proofs.Common.{Some, None, Result, Ok, Err, sym, ap, ◌∙◌, refl, arith, length-append, append-nil}
 use Rattle.std.proofs.lemmas.Bool.{ltb-true, ltb-false, le-ltb}
 use Rattle.std.proofs.lemmas.Bool.Decides.{nat_tests}
 use Rattle.std.proofs.lemmas.List.{take-append-le, drop-append-le}
@@ -32,6 +33,7 @@ reading_header octets h = at_test (nat_lt (length octets) 24) (grind (arith, nat
         (reading_behind (header_of (take 24 octets)) (drop 24 octets)) ≡ record { frames = []; rest = octets; stage = Header }
     at_test b e = rw e refl
 
+-- what stands behind a whole header
 pub reading_records : (octets : List ℕ) → 24 ≤ length octets
     → reading octets ≡ reading_behind (header_of (take 24 octets)) (drop 24 octets)
 unfolding reading
@@ -141,6 +143,7 @@ pub progress_nothing : progress [] ≡ record { stage = Header; rest = []; given
 unfolding reading
 progress_nothing = refl
 
+-- no octets give no frames
 pub nothing_read : (reading []).frames ≡ []
 unfolding reading
 nothing_read = refl

@@ -1,5 +1,6 @@
 -- Shares of frames, as they are found by passing over the frames of others.
-use Rattle.std.proofs.Common.{◌≡◌, ◌≢◌, ℕ, zero, suc, ◌+◌, ◌-◌, ◌*◌, ◌/◌, ◌%◌, ◌<◌, ◌≤◌, List, [], ◌∷◌, length, length-drop, drop, sym, ap, ◌∙◌, refl, arith}
+use Rattle.std.proofs.Common.{◌≡◌, ◌≢◌, ℕ, zero, suc, ◌+◌, ◌-◌, ◌*◌, ◌/◌, ◌%◌, ◌<◌, ◌≤◌, List, [], ◌∷◌, length, length-drop, drop}
+use Rattle.std.proofs.Common.{sym, ap, ◌∙◌, refl, arith}
 use Rattle.std.proofs.lemmas.Bool.Decides.{nat_tests}
 use Rattle.std.proofs.Math.Nat.{add-mod_right, div-add-mod, mul-le-mul_left, mod-eq_of_lt}
 use Rattle.std.proofs.Math.ListN.{drop_of_length-le}
@@ -85,6 +86,7 @@ pub none_left : (skip others : ℕ) (frames later : List (List ℕ)) → later �
     → every skip others frames ≡ []
 none_left skip others frames later e h = every_passed skip others frames ∙ ap (every 0 others) (sym e ∙ h)
 
+-- a frame is left
 pub next_is : (skip others : ℕ) (frames later rest : List (List ℕ)) (frame : List ℕ) → later ≡ drop skip frames
     → later ≡ frame ∷ rest → every skip others frames ≡ frame ∷ every others others rest
 next_is skip others frames later rest frame e h = every_passed skip others frames ∙ ap (every 0 others) (sym e ∙ h)

@@ -1,12 +1,14 @@
 -- What is said of a whole trace.
-use Rattle.std.proofs.Common.{◌≡◌, ℕ, ◌+◌, ◌*◌, ◌^◌, ◌≤◌, ◌<◌, List, [], ◌∷◌, length, take, drop, Some, None, Result, Ok, Err, sym, ap, ◌∙◌, refl, arith}
+use Rattle.std.proofs.Common.{◌≡◌, ℕ, ◌+◌, ◌*◌, ◌^◌, ◌≤◌, ◌<◌, List, [], ◌∷◌, length, take, drop, Some, None, Result, Ok, Err}
+use Rattle.std.proofs.Common.{sym, ap, ◌∙◌, refl, arith}
 use Rattle.std.proofs.Math.Nat.{min-eq_left}
 use Rattle.std.specs.Option.{option_map_or}
 use Rattle.gw_frame.specs.declared.refusal.FrameRefusal.{FrameRefusal}
 use Rattle.gw_trace.specs.declared.order.Order.{Order}
 use Rattle.gw_trace.specs.declared.refusal.TraceRefusal.{TraceRefusal}
 use Rattle.gw_trace.specs.declared.refusal.TraceRefusal.TheVariants.{BadRecord, Cut}
-use Rattle.gw_trace.specs.Traces.{Contents, contents, Reading, index_of, reading_from, reading_behind, reading, header_of, ending, whole_trace}
+use Rattle.gw_trace.specs.Traces.{Contents, contents, Reading, index_of, reading_from, reading_behind, reading, header_of, ending}
+use Rattle.gw_trace.specs.Traces.{whole_trace}
 use Rattle.gw_trace.proofs.Resuming.{reading_header, reading_records}
 
 abbrev verdict : Reading → Result (List (List ℕ)) TraceRefusal

@@ -1,6 +1,7 @@
 -- Octets that are whole records, and a walk over them.
-use Rattle.std.proofs.Common.{◌≡◌, ℕ, ◌+◌, ◌-◌, ◌*◌, ◌≤◌, ◌<◌, List, [], ◌∷◌, ◌++◌, length, take, drop, Option, Some, None, sym, ap, ◌∙◌, subst, refl, arith, length-drop, append-nil, take-add}
-use Rattle.std.proofs.lemmas.List.{take-append-drop, take_all, length-take-le, drop-take}
+use Rattle.std.proofs.Common.{◌≡◌, ℕ, ◌+◌, ◌-◌, ◌*◌, ◌≤◌, ◌<◌, List, [], ◌∷◌, ◌++◌, length, take, drop, Option, Some, None, sym}
+use Rattle.std.proofs.Common.{ap, ◌∙◌, subst, refl, arith, length-drop, append-nil, take-add}
+use Rattle.std.proofs.lemmas.List.{take-append-drop, take_all, length-take-le, length_push, drop-take}
 use Rattle.std.proofs.Math.ListN.{drop_of_length-le}
 use Rattle.std.specs.Prelude.{Result, Ok, Err, is_ok, true, IfOk}
 use Rattle.std.specs.Result.{result_err}
@@ -10,9 +11,12 @@ use Rattle.gw_frame.specs.Record.{refusal_of, IsRecord}
 use Rattle.gw_trace.specs.declared.order.Order.{Order}
 use Rattle.gw_trace.specs.declared.record.Beginning.TheVariants.{Bad, Whole}
 use Rattle.gw_trace.specs.Traces.{captured_length, captured, beginning, stopped, behind, contents}
+use Rattle.gw_trace.specs.declared.walk.Front.{Front}
+use Rattle.gw_trace.specs.Walks.{IsFront}
 use Rattle.gw_trace.specs.Wholes.{AreRecords}
 use Rattle.gw_trace.proofs.Beginnings.{whole_of, whole_on, bad_on, nothing_is_unfinished, unfinished_is_shorter}
-use Rattle.gw_trace.proofs.Contents.{over_records, by_beginning, contents_unfinished, contents_bad, contents_whole, after_frames, captured_on, goes_on}
+use Rattle.gw_trace.proofs.Contents.{over_records, by_beginning, contents_unfinished, contents_bad, contents_whole, after_frames}
+use Rattle.gw_trace.proofs.Contents.{captured_on, goes_on}
 
 -- a slice from a place on
 pub rest_from : (at : ℕ) (xs : List ℕ) → take (length xs - at) (drop at xs) ≡ drop at xs
@@ -22,9 +26,11 @@ rest_from at xs = take_all (length xs - at) (drop at xs) (rw (length-drop at xs)
 pub no_contents : (order : Order) → contents order [] ≡ stopped [] None
 no_contents order = contents_unfinished order [] (nothing_is_unfinished order [] (omega arith))
 
+-- they are whole records, none
 pub no_records : (order : Order) → AreRecords order []
 no_records order = record { sound = ap (λ c. c.fault) (no_contents order); whole = ap (λ c. c.rest) (no_contents order) }
 
+-- they have no frames
 pub no_frames : (order : Order) → (contents order []).frames ≡ []
 no_frames order = ap (λ c. c.frames) (no_contents order)
 
@@ -47,6 +53,7 @@ pub record FirstOf (order : Order) (xs : List ℕ) : Type 0 where
       ≡ captured (captured_length order xs) xs ∷ (contents order (drop (16 + captured_length order xs) xs)).frames
   pub others : AreRecords order (drop (16 + captured_length order xs) xs)
 
+-- some octets that are whole records begin with one
 pub first_of_records : (order : Order) (xs : List ℕ) → AreRecords order xs → 0 < length xs → FirstOf order xs
 first_of_records order xs are some =
     by_beginning (FirstOf order xs) (beginning order xs)
@@ -102,6 +109,7 @@ pub record OneMore (order : Order) (xs : List ℕ) (at n : ℕ) : Type 0 where
       ≡ (contents order (take at xs)).frames ++ captured n (drop at xs) ∷ []
   pub within : at + (16 + n) ≤ length xs
 
+-- the records in front, and one more behind them
 pub one_more : (order : Order) (xs : List ℕ) (at n : ℕ) → at ≤ length xs → AreRecords order (take at xs)
     → beginning order (drop at xs) ≡ Whole n → OneMore order xs at n
 one_more order xs at n inside are e =
@@ -138,6 +146,29 @@ one_more order xs at n inside are e =
         ∙ ap (behind (captured n (take (16 + n) ys))) (no_contents order)
         ∙ ap (λ frame. record { frames = frame ∷ []; rest = []; fault = None }) (sym same)
 
+-- a front with one record more
+pub front_with : (order : Order) (xs : List ℕ) (front : Front) (n : ℕ) → IsFront order xs front
+    → beginning order (drop front.end xs) ≡ Whole n
+    → IsFront order xs (record { end = front.end + 16 + n; count = front.count + 1 })
+front_with order xs front n is e =
+    let m = one_more order xs front.end n is.within is.whole e in
+    subst (λ end. IsFront order xs (record { end = end; count = front.count + 1 })) (further front.end n) (record {
+      within = m.within;
+      whole = m.are;
+      counted = ap (λ k. k + 1) is.counted
+          ∙ sym (ap length m.frames ∙ length_push (contents order (take front.end xs)).frames (captured n (drop front.end xs)));
+    })
+  where
+    further : (at n : ℕ) → at + (16 + n) ≡ at + 16 + n
+    further at n = omega arith
+
+-- there are fewer records than octets
+pub few_in_front : (order : Order) (xs : List ℕ) (front : Front) → IsFront order xs front → 24 * front.count ≤ length xs
+few_in_front order xs front is =
+    let fit = frames_fit order (take front.end xs) in
+    let len = length-take-le front.end xs is.within in
+    omega (arith, is.counted, is.within, fit, len)
+
 -- where a walk ends
 pub walk_ends : (order : Order) (xs : List ℕ) (at : ℕ) (fault : Option FrameRefusal) → AreRecords order (take at xs)
     → contents order (drop at xs) ≡ stopped (drop at xs) fault
@@ -167,6 +198,7 @@ first_is_frame order xs n are some is =
     ap (λ m. refusal_of (captured m xs)) is
     ∙ (whole_of order xs (captured_length order xs) (first_of_records order xs are some).is).frame
 
+-- the frame of the first record before those of the others
 pub first_frames : (order : Order) (xs rest frame : List ℕ) (n : ℕ) → AreRecords order xs → 0 < length xs
     → n ≡ captured_length order xs → rest ≡ drop (16 + n) xs → frame ≡ captured n xs
     → (contents order xs).frames ≡ frame ∷ (contents order rest).frames
@@ -176,6 +208,7 @@ first_frames order xs rest frame n are some is behind whole =
     ∙ ap (λ f. f ∷ (contents order (drop (16 + n) xs)).frames) (sym whole)
     ∙ ap (λ ys. frame ∷ (contents order ys).frames) (sym behind)
 
+-- the others are whole records too
 pub first_others : (order : Order) (xs rest : List ℕ) (n : ℕ) → AreRecords order xs → 0 < length xs
     → n ≡ captured_length order xs → rest ≡ drop (16 + n) xs → AreRecords order rest
 first_others order xs rest n are some is behind =

@@ -1,7 +1,8 @@
 -- The numbers by which refusals of a trace are told.
 use Rattle.std.specs.Prelude.{ℕ}
 use Rattle.gw_trace.specs.declared.refusal.TraceRefusal.{TraceRefusal}
-use Rattle.gw_trace.specs.declared.refusal.TraceRefusal.TheVariants.{BadMagic, BadVersion, BadLink, BadRecord, OutOfMemory, Cut, ReadFault}
+use Rattle.gw_trace.specs.declared.refusal.TraceRefusal.TheVariants.{BadMagic, BadVersion, BadLink, BadRecord, OutOfMemory, Cut}
+use Rattle.gw_trace.specs.declared.refusal.TraceRefusal.TheVariants.{ReadFault}
 
 abbrev pub refusal_number : TraceRefusal → ℕ
 refusal_number BadMagic = 90

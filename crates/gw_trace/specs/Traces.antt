@@ -1,7 +1,8 @@
 -- Classic pcap traces of link type 227 (LINKTYPE_CAN_SOCKETCAN), as the manual page pcap-savefile has them: a header of 24
 -- octets (magic number, version, zone, accuracy, snapshot length, link type), then records, each behind a header of 16
 -- octets (seconds, fraction, captured length, original length).
-use Rattle.std.specs.Prelude.{ℕ, zero, suc, ◌+◌, ◌==◌, nat_lt, min, Bool, not, ◌&&◌, ◌||◌, if◌then◌else◌, List, [], ◌∷◌, length, take, drop, Option, Some, None, Result, Ok, Err}
+use Rattle.std.specs.Prelude.{ℕ, zero, suc, ◌+◌, ◌==◌, nat_lt, min, Bool, not, ◌&&◌, ◌||◌, if◌then◌else◌, List, [], ◌∷◌, length}
+use Rattle.std.specs.Prelude.{take, drop, Option, Some, None, Result, Ok, Err}
 use Rattle.std.specs.Option.{option_map_or}
 use Rattle.byteorder.specs.Endian.{big_number, little_number}
 use Rattle.gw_frame.specs.declared.refusal.FrameRefusal.{FrameRefusal}

@@ -23,8 +23,3 @@ pub use share::Share;
 pub use trace::Trace;
 pub use tried::Tried;
 pub use whole::frames;
-
-#[cfg(test)]
-mod tests;
-#[cfg(test)]
-mod trace_tests;

@@ -1,6 +1,7 @@
 //! The records of a trace.
 
-ghost use Rattle.std.specs.Prelude.{◌≡◌, ◌≤◌, ◌+◌, length};
+ghost use Rattle.std.specs.Prelude.{◌≡◌, ◌≢◌, ◌≤◌, ◌+◌, length};
+ghost use Rattle.std.specs.Bool.{OnFalse, OnTrue};
 ghost use Rattle.gw_trace.specs.declared.record.Beginning.TheVariants.{Whole};
 ghost use Rattle.gw_trace.specs.Traces.{captured, captured_length, beginning};
 ghost use Rattle.gw_trace.specs.Wholes.{IsWithin};
@@ -10,6 +11,9 @@ use gw_frame::{Frame, FrameRefusal};
 
 /// How many octets stand before a record's own.
 pub const RECORD_HEADER: usize = 16;
+
+/// The most octets of a record, behind its header. Most writers give each record so many.
+pub const LONGEST: usize = 16;
 
 /// What octets behind a header or a record begin with.
 #[derive(Clone, Copy, PartialEq, Eq, Debug)]
@@ -53,6 +57,18 @@ pub fn begins(order: Order, octets: &[u8]) -> Beginning
         Ok(_) => Beginning::Whole(captured),
         Err(why) => Beginning::Bad(why),
     }
+}
+
+/// Whether the octets begin with a whole record of the longest form.
+#[tactic(auto, unfolding(crate::specs::Traces::beginning))]
+pub fn begins_longest(order: Order, octets: &[u8]) -> bool
+    ensures begins { OnTrue result (beginning order octets.now ≡ Whole LONGEST) }
+    ensures otherwise { OnFalse result (beginning order octets.now ≢ Whole LONGEST) }
+    ensures within { OnTrue result (RECORD_HEADER + LONGEST ≤ length octets.now) }
+{
+    octets.len() >= RECORD_HEADER + LONGEST
+        && captured_len(order, octets) == LONGEST
+        && Frame::read(&octets[RECORD_HEADER..RECORD_HEADER + LONGEST]).is_ok()
 }
 
 /// The frame of the whole record that the octets begin with.

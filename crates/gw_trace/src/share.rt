@@ -6,7 +6,7 @@ ghost use Rattle.gw_trace.specs.Traces.{captured_length, contents};
 ghost use Rattle.gw_trace.specs.Wholes.{AreRecords};
 
 use crate::order::Order;
-use crate::record::{RECORD_HEADER, captured_len};
+use crate::record::{LONGEST, RECORD_HEADER, captured_len};
 use gw_frame::Frame;
 use std::marker::Model;
 
@@ -65,20 +65,53 @@ fn first_len(order: Order, records: &[u8]) -> usize
     captured_len(order, records)
 }
 
-// The first record's frame, and the records behind it.
+// The first record's frame, and the records behind it. A record of the longest form has an arm of its own, as in `passed`.
 fn first<'a>(order: Order, records: &'a [u8]) -> (Frame, &'a [u8])
     requires whole { AreRecords order records.now }
     requires some { 0 < length records.now }
     ensures frames { (contents order records.now).frames ≡ result.0 ∷ (contents order result.1.now).frames }
     ensures others { AreRecords order result.1.now }
 {
-    let (record, rest) = records.split_at(RECORD_HEADER + first_len(order, records));
+    match first_len(order, records) {
+        LONGEST => parted(order, records, LONGEST),
+        len => parted(order, records, len),
+    }
+}
+
+// The frame of the first record, which has this length, and the records behind it.
+fn parted<'a>(order: Order, records: &'a [u8], len: usize) -> (Frame, &'a [u8])
+    requires whole { AreRecords order records.now }
+    requires some { 0 < length records.now }
+    requires len { len ≡ captured_length order records.now }
+    requires within { RECORD_HEADER + len ≤ length records.now }
+    ensures frames { (contents order records.now).frames ≡ result.0 ∷ (contents order result.1.now).frames }
+    ensures others { AreRecords order result.1.now }
+{
+    let (record, rest) = records.split_at(RECORD_HEADER + len);
     let frame = Frame::read(&record[RECORD_HEADER..]).unwrap();
     (frame, rest)
 }
 
-// The records behind so many, or none where there are no more.
+// The records behind so many, or none where there are no more. Records of the longest form have a loop of their own, so that
+// the processor need not wait for a record's length before it looks for the next one.
 fn passed<'a>(order: Order, records: &'a [u8], count: usize) -> &'a [u8]
+    requires { AreRecords order records.now }
+    ensures frames { (contents order result.now).frames ≡ drop count (contents order records.now).frames }
+    ensures whole { AreRecords order result.now }
+{
+    let mut rest = records;
+    'longest: for i in 0..count {
+        if rest.is_empty() || first_len(order, rest) != LONGEST {
+            return passed_any(order, rest, count - i);
+        }
+        let (_record, others) = rest.split_at(RECORD_HEADER + LONGEST);
+        rest = others;
+    }
+    rest
+}
+
+// The same, whatever the records' lengths.
+fn passed_any<'a>(order: Order, records: &'a [u8], count: usize) -> &'a [u8]
     requires { AreRecords order records.now }
     ensures frames { (contents order result.now).frames ≡ drop count (contents order records.now).frames }
     ensures whole { AreRecords order result.now }

@@ -1,13 +1,12 @@
 //! The whole records at the front of octets.
 
-ghost use Rattle.std.specs.Prelude.{◌≡◌, ◌≤◌, length, take, drop};
+ghost use Rattle.std.specs.Prelude.{◌≡◌, ◌≤◌, take, drop};
 ghost use Rattle.gw_trace.specs.Traces.{contents};
-ghost use Rattle.gw_trace.specs.Wholes.{AreRecords};
-ghost use Rattle.gw_trace.specs.Walks.{found};
+ghost use Rattle.gw_trace.specs.Walks.{IsFront, found};
 
 use crate::checked::Checked;
 use crate::order::Order;
-use crate::record::{Beginning, RECORD_HEADER, begins};
+use crate::record::{Beginning, LONGEST, RECORD_HEADER, begins, begins_longest};
 use gw_frame::FrameRefusal;
 
 /// The whole records at the front of octets, what stands behind them, and what is wrong with the record there.
@@ -18,28 +17,27 @@ pub struct Walk<'a> {
     pub fault: Option<FrameRefusal>,
 }
 
+/// Whole records in front of octets: where the last of them ends, and how many they are.
+#[derive(Clone, Copy)]
+pub struct Front {
+    pub end: usize,
+    pub count: usize,
+}
+
 impl<'a> Walk<'a> {
-    // A walk that ends at a place, behind so many records.
-    fn ended(
-        order: Order,
-        octets: &'a [u8],
-        at: usize,
-        len: usize,
-        fault: Option<FrameRefusal>,
-    ) -> Walk<'a>
-        requires within { at ≤ length octets.now }
-        requires records { AreRecords order (take at octets.now) }
-        requires counted { len ≡ length (contents order (take at octets.now)).frames }
-        ensures whole { result.whole ≡ (contents order (take at octets.now)).frames }
-        ensures rest { result.rest.now ≡ drop at octets.now }
+    // A walk that ends behind these records.
+    fn ended(order: Order, octets: &'a [u8], front: Front, fault: Option<FrameRefusal>) -> Walk<'a>
+        requires { IsFront order octets.now front }
+        ensures whole { result.whole ≡ (contents order (take front.end octets.now)).frames }
+        ensures rest { result.rest.now ≡ drop front.end octets.now }
         ensures fault { result.fault ≡ fault }
     {
-        let (records, rest) = octets.split_at(at);
+        let (records, rest) = octets.split_at(front.end);
         Walk {
             whole: Checked {
                 order,
                 records,
-                len,
+                len: front.count,
             },
             rest,
             fault,
@@ -51,16 +49,35 @@ impl<'a> Walk<'a> {
 pub fn over<'a>(order: Order, octets: &'a [u8]) -> Walk<'a>
     ensures { found result ≡ contents order octets.now }
 {
-    let mut at = 0;
-    let mut len = 0;
+    let mut front = Front { end: 0, count: 0 };
     'records: loop {
-        match begins(order, &octets[at..]) {
+        front = past_longest(order, octets, front);
+        match begins(order, &octets[front.end..]) {
             Beginning::Whole(captured) => {
-                at += RECORD_HEADER + captured;
-                len += 1;
+                front = Front {
+                    end: front.end + RECORD_HEADER + captured,
+                    count: front.count + 1,
+                };
             }
-            Beginning::Unfinished => return Walk::ended(order, octets, at, len, None),
-            Beginning::Bad(why) => return Walk::ended(order, octets, at, len, Some(why)),
+            Beginning::Unfinished => return Walk::ended(order, octets, front, None),
+            Beginning::Bad(why) => return Walk::ended(order, octets, front, Some(why)),
         }
     }
+}
+
+// Goes past records of the longest form. They have a loop of their own, so that the processor need not wait for a record's
+// length before it looks for the next one.
+fn past_longest(order: Order, octets: &[u8], front: Front) -> Front
+    requires { IsFront order octets.now front }
+    ensures front { IsFront order octets.now result }
+    ensures further { front.end ≤ result.end }
+{
+    let mut front = front;
+    'longest: while begins_longest(order, &octets[front.end..]) {
+        front = Front {
+            end: front.end + RECORD_HEADER + LONGEST,
+            count: front.count + 1,
+        };
+    }
+    front
 }
