@@ -23,7 +23,14 @@ pub record Publishing : Type 0 where
 
 -- the ends of a new board
 abbrev pub new_operator : Board → Bounds → Publishing
-new_operator board limits = record { board = board; published = []; ports = limits.ports; versions = limits.versions; stopped = false }
+new_operator board limits = record {
+  board = board;
+  published = [];
+  ports = limits.ports;
+  versions = limits.versions;
+  stopped =
+      false;
+}
 
 abbrev pub new_watch : Board → Known
 new_watch board = record { board = board; batches = [] }

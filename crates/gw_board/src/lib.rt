@@ -13,6 +13,3 @@ pub use make::board;
 pub use operator::Operator;
 pub use refusals::{BoardRefusal, NoReading, ReplaceRefusal};
 pub use watch::{Told, Watch};
-
-#[cfg(test)]
-mod tests;

@@ -19,7 +19,8 @@ use std::sync::Arc;
 /// An operator, and a watch for each port, of one new board. All know the empty list.
 pub fn board(alloc: Global, limits: Limits) -> Result<(Operator, Vec<Watch>), BoardRefusal>
     ensures operator { IfOk result (λ ends. ends.0 ≡ new_operator ends.0.board limits) }
-    ensures watches { IfOk result (λ ends. (vec_len ends.1 ≡ limits.ports) × All (λ watch. watch ≡ new_watch ends.0.board) ends.1.items) }
+    ensures watches { IfOk result (λ ends. (vec_len ends.1 ≡ limits.ports)
+        × All (λ watch. watch ≡ new_watch ends.0.board) ends.1.items) }
 {
     match ends(alloc, limits) {
         Ok(made) => Ok(made),
@@ -29,7 +30,8 @@ pub fn board(alloc: Global, limits: Limits) -> Result<(Operator, Vec<Watch>), Bo
 
 fn ends(alloc: Global, limits: Limits) -> Result<(Operator, Vec<Watch>), AllocError>
     ensures operator { IfOk result (λ ends. ends.0 ≡ new_operator ends.0.board limits) }
-    ensures watches { IfOk result (λ ends. (vec_len ends.1 ≡ limits.ports) × All (λ watch. watch ≡ new_watch ends.0.board) ends.1.items) }
+    ensures watches { IfOk result (λ ends. (vec_len ends.1 ≡ limits.ports)
+        × All (λ watch. watch ≡ new_watch ends.0.board) ends.1.items) }
 {
     let (word, nothing) = open();
     let shelf: Shelf = Table::new(alloc, Tag::of::<Prefix, BoardTag>(&nothing))?;

@@ -36,7 +36,14 @@ impl Model for Operator {
 
     ghost Value = { Publishing };
 
-    ghost view = { λ o. record { board = o.published.board; published = o.published.batches; ports = o.ports; versions = o.versions; stopped = o.stopped } };
+    ghost view = { λ o. record {
+      board = o.published.board;
+      published = o.published.batches;
+      ports = o.ports;
+      versions =
+          o.versions;
+      stopped = o.stopped;
+    } };
 
     // Unless it is stopped, watches find just the length of its list.
     ghost invariant = { λ o. (length o.published.batches ≤ o.versions) × (o.versions ≤ 65535) × (o.word ≡ o.published.board)
@@ -84,9 +91,11 @@ impl Operator {
     /// A refused batch comes back, and nothing changes. The one exception is the last case of `ReplaceRefusal`.
     pub fn replace<R: Wait>(&mut self, rt: &R, batch: Batch) -> Result<u32, ReplaceRefusal>
         ensures board { self.new.board ≡ self.old.board }
+        ensures ports { self.new.ports ≡ self.old.ports }
         ensures may { OnOk result (MayPublish self.old batch) }
         ensures published { MatchResult result
-            (λ front. (self.new ≡ record self.old { published = self.old.published ++ batch ∷ [] }) × (front ≡ length self.new.published))
+            (λ front. (self.new ≡ record self.old { published = self.old.published ++ batch ∷ [] })
+            × (front ≡ length self.new.published))
             (λ why. Refuses self.old batch why self.new) }
     {
         if !self.has_ports(&batch) {

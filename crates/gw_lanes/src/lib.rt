@@ -6,6 +6,3 @@ mod make;
 
 pub use lane::{LaneIn, LaneOut, finish};
 pub use make::{LaneEnds, OutOfMemory, lanes};
-
-#[cfg(test)]
-mod tests;

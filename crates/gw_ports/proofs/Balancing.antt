@@ -1,5 +1,6 @@
 -- What was placed is what was sent and what is left, lane by lane and in sums.
-use Rattle.std.proofs.Common.{◌≡◌, ◌∙◌, ℕ, zero, suc, ◌+◌, ◌-◌, ◌*◌, ◌<◌, ◌≤◌, ◌^◌, List, [], ◌∷◌, ◌++◌, length, map, drop, get_or, sum, sum_by, Option, Some, None, sym, ap, subst, refl, arith, length-append}
+use Rattle.std.proofs.Common.{◌≡◌, ◌∙◌, ℕ, zero, suc, ◌+◌, ◌-◌, ◌*◌, ◌<◌, ◌≤◌, ◌^◌, List, [], ◌∷◌, ◌++◌, length, map, drop}
+use Rattle.std.proofs.Common.{get_or, sum, sum_by, Option, Some, None, sym, ap, subst, refl, arith, length-append}
 use Rattle.std.specs.List.{All}
 use Rattle.std.proofs.Math.Nat.{min-eq_left, zero-add}
 use Rattle.std.proofs.lemmas.List.Sums.{sum_by-append, sum_by-cons}
@@ -9,8 +10,10 @@ use Rattle.gw_ledger.specs.Ledgers.{AreBalanced}
 use Rattle.gw_ledger.specs.declared.ledger.InLedger.{InLedger}
 use Rattle.gw_ledger.specs.declared.ledger.OutLedger.{OutLedger}
 use Rattle.gw_lanes.specs.Ends.{Inlet, Outlet}
-use Rattle.gw_ports.specs.Ends.{Ingress, Egress, lane_at, placed_on, taken_from, count_of, IsSoundIngress, IsSoundEgress}
-use Rattle.gw_ports.specs.Closing.{Lane, lane_of, lanes_to, lanes_of, rows_of, columns_of, heads, tails, ring_to, ring_from, Match, IsLeft, AreLeft}
+use Rattle.gw_ports.specs.Ends.{Ingress, Egress, lane_at, ring_to, ring_from, placed_on, taken_from, count_of}
+use Rattle.gw_ports.specs.Ends.{IsSoundIngress, IsSoundEgress}
+use Rattle.gw_ports.specs.Closing.{Lane, lane_of, lanes_to, lanes_of, rows_of, columns_of, heads, tails}
+use Rattle.gw_ports.specs.Closing.{Match, IsLeft, AreLeft}
 use Rattle.gw_ports.specs.declared.closing.LaneLeft.{LaneLeft}
 
 abbrev pub placed_in : Lane → ℕ
@@ -51,8 +54,10 @@ row_placed source destination (inlet ∷ inlets) (outlet ∷ outlets) same =
     let first : ring_to inlet ≡ ring_from outlet = cc same in
     let rest : map ring_to inlets ≡ map ring_from outlets = cc same in
     sum_by-append placed_in (lane_of source destination inlet outlet) (lanes_to source (suc destination) inlets outlets)
-    ∙ ap (λ n. n + sum_by placed_in (lanes_to source (suc destination) inlets outlets)) (one_placed source destination inlet outlet first)
-    ∙ ap (λ n. placed_on inlet + n) (row_placed source (suc destination) inlets outlets rest) ∙ sym (sum_by-cons placed_on inlet inlets)
+    ∙ ap (λ n. n + sum_by placed_in (lanes_to source (suc destination) inlets outlets))
+    (one_placed source destination inlet outlet first)
+    ∙ ap (λ n. placed_on inlet + n) (row_placed source (suc destination) inlets outlets rest)
+    ∙ sym (sum_by-cons placed_on inlet inlets)
 
 pub row_counted : (source destination : ℕ) (inlets : List (Option Inlet)) (outlets : List (Option Outlet))
     → map ring_to inlets ≡ map ring_from outlets
@@ -64,8 +69,10 @@ row_counted source destination (inlet ∷ inlets) (outlet ∷ outlets) same =
     let first : ring_to inlet ≡ ring_from outlet = cc same in
     let rest : map ring_to inlets ≡ map ring_from outlets = cc same in
     sum_by-append counted_in (lane_of source destination inlet outlet) (lanes_to source (suc destination) inlets outlets)
-    ∙ ap (λ n. n + sum_by counted_in (lanes_to source (suc destination) inlets outlets)) (one_counted source destination inlet outlet first)
-    ∙ ap (λ n. counted_from outlet + n) (row_counted source (suc destination) inlets outlets rest) ∙ sym (sum_by-cons counted_from outlet outlets)
+    ∙ ap (λ n. n + sum_by counted_in (lanes_to source (suc destination) inlets outlets))
+    (one_counted source destination inlet outlet first)
+    ∙ ap (λ n. counted_from outlet + n) (row_counted source (suc destination) inlets outlets rest)
+    ∙ sym (sum_by-cons counted_from outlet outlets)
 
 pub all_placed : (source : ℕ) (rows : List (List (Option Inlet))) (columns : List (List (Option Outlet))) → Match rows columns
     → sum_by placed_in (lanes_of source rows columns) ≡ sum_by (sum_by placed_on) rows
@@ -127,7 +134,8 @@ all_counted source (row ∷ rows) columns match whole =
     omega arith
 
 -- lane by lane
-pub lefts_balance : (lanes : List Lane) (lefts : List LaneLeft) → AreLeft lanes lefts → All (λ lane. placed_in lane < 2 ^ 64) lanes
+pub lefts_balance : (lanes : List Lane) (lefts : List LaneLeft) → AreLeft lanes lefts
+    → All (λ lane. placed_in lane < 2 ^ 64) lanes
     → sum_by placed_in lanes ≡ sum_by counted_in lanes + sum_by left_in lefts
 lefts_balance [] [] are small = refl
 lefts_balance [] (left ∷ lefts) are small = absurd are
@@ -154,11 +162,13 @@ small_row most source destination (inlet ∷ inlets) (outlet ∷ outlets) less =
     (lanes_to source (suc destination) inlets outlets) (one inlet outlet (omega arith))
     (small_row most source (suc destination) inlets outlets (omega arith))
   where
-    one : (i : Option Inlet) (o : Option Outlet) → placed_on i < most → All (λ lane. placed_in lane < most) (lane_of source destination i o)
+    one : (i : Option Inlet) (o : Option Outlet) → placed_on i < most
+        → All (λ lane. placed_in lane < most) (lane_of source destination i o)
     one None o less_one = λ k d below. absurd (omega arith)
     one (Some i) None less_one = λ k d below. absurd (omega arith)
     one (Some i) (Some o) less_one =
-        All-cons (λ (l : Lane). placed_in l < most) (record { source = source; destination = destination; inlet = i; outlet = o }) []
+        All-cons (λ (l : Lane). placed_in l < most) (record { source = source; destination = destination; inlet = i; outlet = o })
+        []
         less_one (λ k d below. absurd (omega arith))
 
 pub small_lanes : (most source : ℕ) (rows : List (List (Option Inlet))) (columns : List (List (Option Outlet)))
@@ -166,7 +176,8 @@ pub small_lanes : (most source : ℕ) (rows : List (List (Option Inlet))) (colum
 small_lanes most source [] columns all = λ k d below. absurd (omega arith)
 small_lanes most source (row ∷ rows) columns all =
     let small = λ (r : List (Option Inlet)). sum_by placed_on r < most in
-    All-append (λ (l : Lane). placed_in l < most) (lanes_to source 0 row (heads columns)) (lanes_of (suc source) rows (tails columns))
+    All-append (λ (l : Lane). placed_in l < most) (lanes_to source 0 row (heads columns))
+    (lanes_of (suc source) rows (tails columns))
     (small_row most source 0 row (heads columns) (All-head small row rows all))
     (small_lanes most (suc source) rows (tails columns) (All-tail small row rows all))
 

@@ -1,5 +1,6 @@
 -- What one more frame, one more lane and one more copy keep of the counts.
-use Rattle.std.proofs.Common.{◌≡◌, ◌∙◌, ℕ, ◌+◌, ◌-◌, ◌*◌, ◌<◌, ◌≤◌, ◌^◌, min, Bool, true, false, if◌then◌else◌, List, [], ◌∷◌, ◌++◌, length, get_or, sum_by, Option, Some, None, ⊎_elim, sym, ap, refl, arith, length-append}
+use Rattle.std.proofs.Common.{◌≡◌, ◌∙◌, ℕ, ◌+◌, ◌-◌, ◌*◌, ◌<◌, ◌≤◌, ◌^◌, min, Bool, true, false, if◌then◌else◌, List, [], ◌∷◌}
+use Rattle.std.proofs.Common.{◌++◌, length, get_or, sum_by, Option, Some, None, ⊎_elim, sym, ap, refl, arith, length-append}
 use Rattle.std.specs.List.{All}
 use Rattle.std.proofs.Math.Nat.{min-eq_left, min-eq_right}
 use Rattle.std.proofs.lemmas.Bool.{cases_eq, cases_lt}
@@ -62,7 +63,8 @@ one_more_source ledger lanes lane counts new = record {
         let nothing : taken_from (lane_at lanes source) ≡ 0 = ap taken_from (get_or_past lanes source None past) in
         ⊎_elim
         (λ (last : source ≡ length lanes).
-        ap (λ n. taken_from (lane_at (lanes ++ lane ∷ []) n)) last ∙ ap taken_from (get_or_push lanes lane None (length lanes) refl)
+        ap (λ n. taken_from (lane_at (lanes ++ lane ∷ []) n)) last
+        ∙ ap taken_from (get_or_push lanes lane None (length lanes) refl)
         ∙ new ∙ sym nothing)
         (λ (apart : source ≡ length lanes → ⊥).
         let more = length-append lanes (lane ∷ []) in
@@ -100,7 +102,8 @@ one_more_sent ledger lanes lanes' source copy counts pops below = record {
         get_or-set_same ledger.sent source next 0 inside ∙ ap count_after (counts.sent source below)
         ∙ count_after-count_of (taken_from (lane_at lanes source)) ∙ ap count_of (sym taken)
 
-    here : (other : ℕ) → other ≡ source → get_or (sent_with ledger source).sent other 0 ≡ count_of (taken_from (lane_at lanes' other))
+    here : (other : ℕ) → other ≡ source → get_or (sent_with ledger source).sent other 0
+        ≡ count_of (taken_from (lane_at lanes' other))
     here other same =
         ap (λ n. get_or (sent_with ledger source).sent n 0) same ∙ at_source
         ∙ ap (λ n. count_of (taken_from (lane_at lanes' n))) (sym same)

@@ -1,9 +1,11 @@
 -- Finishing lanes, one behind the other.
-use Rattle.std.proofs.Common.{◌≡◌, ◌∙◌, ℕ, suc, ◌+◌, ◌<◌, ◌≤◌, List, [], ◌∷◌, ◌++◌, length, map, drop, get_or, Option, Some, None, vec_capacity, sym, ap, subst, refl, arith, append_assoc, append-nil}
+use Rattle.std.proofs.Common.{◌≡◌, ◌∙◌, ℕ, suc, ◌+◌, ◌<◌, ◌≤◌, List, [], ◌∷◌, ◌++◌, length, map, drop, get_or, Option, Some, None}
+use Rattle.std.proofs.Common.{vec_capacity, sym, ap, subst, refl, arith, append_assoc, append-nil}
 use Rattle.gw_lanes.specs.Ends.{Inlet, Outlet}
-use Rattle.gw_ports.specs.Ends.{lane_at}
+use Rattle.gw_ports.specs.Ends.{lane_at, ring_to, ring_from}
 use Rattle.std.proofs.lemmas.List.{drop_more, get_or-map, length-map}
-use Rattle.gw_ports.specs.Closing.{Lane, lane_of, lanes_to, lanes_of, heads, tails, Match, ring_to, ring_from, IsRoomOf, AreRooms, IsLeft, AreLeft, Finishes}
+use Rattle.gw_ports.specs.Closing.{Lane, lane_of, lanes_to, lanes_of, heads, tails, Match, IsRoomOf, AreRooms}
+use Rattle.gw_ports.specs.Closing.{IsLeft, AreLeft, Finishes}
 use Rattle.gw_ports.specs.declared.closing.LaneLeft.{LaneLeft}
 use Rattle.gw_ports.proofs.Rooms.{Passed, each-append, row_behind, row_next, row_end}
 
@@ -11,22 +13,14 @@ use Rattle.gw_ports.proofs.Rooms.{Passed, each-append, row_behind, row_next, row
 pub finishes_nothing : (rooms lefts : List LaneLeft) → Finishes [] rooms rooms lefts lefts
 finishes_nothing rooms lefts = record { finished = λ others are. (are, ([], sym (append-nil lefts), tt)) }
 
--- one lane, in the room at the head
-pub finishes_one : (lane : Lane) (room : LaneLeft) (rooms lefts : List LaneLeft) (left : LaneLeft)
-    → left.from ≡ room.from → left.to ≡ room.to → lane.outlet.taken ++ left.left.items ≡ lane.inlet.placed
-    → Finishes (lane ∷ []) (room ∷ rooms) rooms lefts (lefts ++ left ∷ [])
-finishes_one lane room rooms lefts left from to copies = record {
-  finished = λ others are.
-      (are.1, (left ∷ [], refl, (record { source = from ∙ are.0.source; destination = to ∙ are.0.destination; copies = copies }, tt)));
-}
-
 -- lanes behind lanes
 pub finishes_more : (lanes lanes' : List Lane) (rooms rooms' rooms'' lefts lefts' lefts'' : List LaneLeft)
     → Finishes lanes rooms rooms' lefts lefts' → Finishes lanes' rooms' rooms'' lefts' lefts''
     → Finishes (lanes ++ lanes') rooms rooms'' lefts lefts''
 finishes_more lanes lanes' rooms rooms' rooms'' lefts lefts' lefts'' first then = record {
   finished = λ others are.
-      let one = first.finished (lanes' ++ others) (subst (λ (l : List Lane). AreRooms l rooms) (append_assoc lanes lanes' others) are) in
+      let one = first.finished (lanes' ++ others) (subst (λ (l : List Lane). AreRooms l rooms) (append_assoc lanes lanes' others)
+      are) in
       let two = then.finished others one.0 in (
         two.0,
         (
@@ -36,20 +30,6 @@ finishes_more lanes lanes' rooms rooms' rooms'' lefts lefts' lefts'' first then 
         ),
       );
 }
-
--- the first of these lanes has the first room
-pub room_there : (source destination : ℕ) (inlet : Inlet) (outlet : Outlet) (others : List Lane) (rooms : List LaneLeft)
-    → AreRooms (lane_of source destination (Some inlet) (Some outlet) ++ others) rooms → rooms ≡ [] → ⊥
-room_there source destination inlet outlet others [] are none = are
-room_there source destination inlet outlet others (room ∷ rooms) are none = absurd (cc none)
-
-pub room_fits : (source destination : ℕ) (inlet : Inlet) (outlet : Outlet) (others : List Lane) (rooms rooms' : List LaneLeft)
-    (room : LaneLeft) → AreRooms (lane_of source destination (Some inlet) (Some outlet) ++ others) rooms → rooms ≡ room ∷ rooms'
-    → (room.left.items ≡ []) × (length inlet.placed ≤ vec_capacity room.left + length outlet.taken)
-room_fits source destination inlet outlet others rooms rooms' room are is =
-    let here : AreRooms (lane_of source destination (Some inlet) (Some outlet) ++ others) (room ∷ rooms') =
-    subst (λ (l : List LaneLeft). AreRooms (lane_of source destination (Some inlet) (Some outlet) ++ others) l) is are in
-    (here.0.empty, here.0.enough)
 
 -- the lanes from one port
 
@@ -96,20 +76,24 @@ takes_next destination row columns now rest rest' from to so_far is left pairs n
     }
 
 -- so the lanes to the other destinations begin with the lane of these ends
-pub row_splits : (source destination : ℕ) (row : List (Option Inlet)) (columns : List (List (Option Outlet))) (from : Option Inlet)
+pub row_splits : (source destination : ℕ) (row : List (Option Inlet)) (columns : List (List (Option Outlet)))
+    (from : Option Inlet)
     (to : Option Outlet) (rest : List (Option Inlet)) → TakesNext destination row columns from to rest
     → row_behind source destination row (heads columns)
     ≡ lane_of source destination from to ++ row_behind source (destination + 1) row (heads columns)
 row_splits source destination row columns from to rest takes =
     row_next source destination row (heads columns) takes.inside takes.inside'
-    ∙ ap (λ f. lane_of source destination f (lane_at (heads columns) destination) ++ row_behind source (destination + 1) row (heads columns))
+    ∙ ap (λ f. lane_of source destination f (lane_at (heads columns) destination)
+    ++ row_behind source (destination + 1) row (heads columns))
     (sym takes.from_is)
     ∙ ap (λ t. lane_of source destination from t ++ row_behind source (destination + 1) row (heads columns)) (sym takes.to_is)
 
 -- they have room
-pub rooms_split : (source destination : ℕ) (row : List (Option Inlet)) (columns : List (List (Option Outlet))) (from : Option Inlet)
+pub rooms_split : (source destination : ℕ) (row : List (Option Inlet)) (columns : List (List (Option Outlet)))
+    (from : Option Inlet)
     (to : Option Outlet) (rest : List (Option Inlet)) (others : List Lane) (rooms : List LaneLeft)
-    → TakesNext destination row columns from to rest → AreRooms (row_behind source destination row (heads columns) ++ others) rooms
+    → TakesNext destination row columns from to rest → AreRooms (row_behind source destination row (heads columns) ++ others)
+    rooms
     → AreRooms (lane_of source destination from to ++ (row_behind source (destination + 1) row (heads columns) ++ others)) rooms
 rooms_split source destination row columns from to rest others rooms takes are =
     subst (λ (l : List Lane). AreRooms l rooms)
@@ -118,7 +102,8 @@ rooms_split source destination row columns from to rest others rooms takes are =
     are
 
 -- once the lane of these ends and then the others are finished, all are
-pub row_goes_on : (source destination : ℕ) (row : List (Option Inlet)) (columns : List (List (Option Outlet))) (from : Option Inlet)
+pub row_goes_on : (source destination : ℕ) (row : List (Option Inlet)) (columns : List (List (Option Outlet)))
+    (from : Option Inlet)
     (to : Option Outlet) (rest : List (Option Inlet)) (rooms rooms' rooms'' lefts lefts' lefts'' : List LaneLeft)
     → TakesNext destination row columns from to rest → Finishes (lane_of source destination from to) rooms rooms' lefts lefts'
     → Finishes (row_behind source (destination + 1) row (heads columns)) rooms' rooms'' lefts' lefts''
@@ -126,7 +111,8 @@ pub row_goes_on : (source destination : ℕ) (row : List (Option Inlet)) (column
 row_goes_on source destination row columns from to rest rooms rooms' rooms'' lefts lefts' lefts'' takes one others =
     subst (λ (l : List Lane). Finishes l rooms rooms'' lefts lefts'')
     (sym (row_splits source destination row columns from to rest takes))
-    (finishes_more (lane_of source destination from to) (row_behind source (destination + 1) row (heads columns)) rooms rooms' rooms''
+    (finishes_more (lane_of source destination from to) (row_behind source (destination + 1) row (heads columns)) rooms rooms'
+    rooms''
     lefts lefts' lefts'' one others)
 
 -- behind the last destination there is nothing to finish

@@ -10,3 +10,6 @@ pub mod Balancing
 pub mod Rooms
 pub mod SettlingAll
 pub mod Finishing
+pub mod OneGateway
+pub mod Runs
+pub mod Opening

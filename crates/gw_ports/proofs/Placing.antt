@@ -1,5 +1,7 @@
 -- Placing copies, lane by lane.
-use Rattle.std.proofs.Common.{◌≡◌, ℕ, ◌+◌, ◌<◌, ◌≤◌, ◌==◌, ◌||◌, ◌∙◌, ◌++◌, ◌∷◌, length-append, Bool, true, false, List, [], length, slice_set, get_or, Option, None, IsSome, IsTrue, MatchBool, ⊎_elim, sym, ap, subst, refl, arith}
+use Rattle.std.proofs.Common.{◌≡◌, ℕ, ◌+◌, ◌<◌, ◌≤◌, ◌==◌, ◌||◌, ◌∙◌, ◌++◌, ◌∷◌, length-append, Bool, true, false, List, []}
+use Rattle.std.proofs.Common.{length, slice_set, get_or, Option, None, IsSome, IsTrue, MatchBool, ⊎_elim, sym, ap, subst, refl}
+use Rattle.std.proofs.Common.{arith}
 use Rattle.std.proofs.lemmas.Bool.{cases_eq, cases_lt, eq-eqb, ne_eqb}
 use Rattle.std.proofs.lemmas.List.{get_or-set_same, get_or-set_other, get_or_append_left, get_or_past, get_or_push, length-set}
 use Rattle.gw_ledger.specs.Ports.{has_port}
@@ -16,25 +18,26 @@ At count allowed copy port lane lane' placed =
     ((port < count) × IsTrue (has_port port allowed) × Appends lane copy lane')
     ((lane' ≡ lane) × (port < count → IsTrue (has_port port allowed) → WasFull lane))
 
-pub record PlacesBelow (count : ℕ) (allowed : List ℕ) (copy : FrameCopy) (placed : List ℕ) (lanes lanes' : List (Option Inlet)) : Type 0 where
+pub record PlacesBelow (count : ℕ) (allowed : List ℕ) (copy : FrameCopy) (placed : List ℕ)
+    (lanes lanes' : List (Option Inlet)) : Type 0 where
   pub ports : (port : ℕ) → At count allowed copy port (lane_at lanes port) (lane_at lanes' port) (has_port port placed)
 
-pub none_placed : (allowed : List ℕ) (copy : FrameCopy) (lanes : List (Option Inlet)) → PlacesBelow 0 allowed copy [] lanes lanes
-none_placed allowed copy lanes = record { ports = λ port. (refl, λ below. absurd (omega arith)) }
-
 -- the port that is next was not placed on yet
-unplaced : (placed : Bool) (count : ℕ) (allowed : List ℕ) (copy : FrameCopy) (lane lane' : Option Inlet) → At count allowed copy count lane lane' placed → placed ≡ false
+unplaced : (placed : Bool) (count : ℕ) (allowed : List ℕ) (copy : FrameCopy) (lane lane' : Option Inlet)
+    → At count allowed copy count lane lane' placed → placed ≡ false
 unplaced true count allowed copy lane lane' at = let below : count < count = at.0 in absurd (omega arith)
 unplaced false count allowed copy lane lane' at = refl
 
-pub not_yet : (count : ℕ) (allowed : List ℕ) (copy : FrameCopy) (placed : List ℕ) (lanes now : List (Option Inlet)) → PlacesBelow count allowed copy placed lanes now
+pub not_yet : (count : ℕ) (allowed : List ℕ) (copy : FrameCopy) (placed : List ℕ) (lanes now : List (Option Inlet))
+    → PlacesBelow count allowed copy placed lanes now
     → (has_port count placed ≡ false) × (lane_at now count ≡ lane_at lanes count)
 not_yet count allowed copy placed lanes now so_far =
     let at = so_far.ports count in
     let free = unplaced (has_port count placed) count allowed copy (lane_at lanes count) (lane_at now count) at in
     (free, (subst (λ b. At count allowed copy count (lane_at lanes count) (lane_at now count) b) free at).0)
 
-wider : (placed : Bool) (count : ℕ) (allowed : List ℕ) (copy : FrameCopy) (port : ℕ) (lane lane' : Option Inlet) → (count ≡ port → ⊥) → At count allowed copy port lane lane' placed
+wider : (placed : Bool) (count : ℕ) (allowed : List ℕ) (copy : FrameCopy) (port : ℕ) (lane lane' : Option Inlet)
+    → (count ≡ port → ⊥) → At count allowed copy port lane lane' placed
     → At (count + 1) allowed copy port lane lane' placed
 wider true count allowed copy port lane lane' other at = let below : port < count = at.0 in (omega arith, at.1, at.2)
 wider false count allowed copy port lane lane' other at = (at.0, λ (below : port < count + 1) yes. at.1 (omega arith) yes)
@@ -46,11 +49,13 @@ Next allowed copy port lane lane' placed =
     (IsTrue (has_port port allowed) × Appends lane copy lane')
     ((lane' ≡ lane) × (IsTrue (has_port port allowed) → WasFull lane))
 
-widest : (placed : Bool) (count : ℕ) (allowed : List ℕ) (copy : FrameCopy) (lane lane' : Option Inlet) → Next allowed copy count lane lane' placed → At (count + 1) allowed copy count lane lane' placed
+widest : (placed : Bool) (count : ℕ) (allowed : List ℕ) (copy : FrameCopy) (lane lane' : Option Inlet)
+    → Next allowed copy count lane lane' placed → At (count + 1) allowed copy count lane lane' placed
 widest true count allowed copy lane lane' next = (omega arith, next.0, next.1)
 widest false count allowed copy lane lane' next = (next.0, λ below allowed_there. next.1 allowed_there)
 
-pub one_more_lane : (count : ℕ) (allowed : List ℕ) (copy : FrameCopy) (placed placed' : List ℕ) (lanes now now' : List (Option Inlet)) (lane lane' : Option Inlet) (was_placed : Bool)
+pub one_more_lane : (count : ℕ) (allowed : List ℕ) (copy : FrameCopy) (placed placed' : List ℕ)
+    (lanes now now' : List (Option Inlet)) (lane lane' : Option Inlet) (was_placed : Bool)
     → PlacesBelow count allowed copy placed lanes now
     → count < length now
     → lane ≡ lane_at now count
@@ -72,33 +77,44 @@ one_more_lane count allowed copy placed placed' lanes now now' lane lane' was_pl
     at_count =
         subst (λ b. At (count + 1) allowed copy count (lane_at lanes count) (lane_at now' count) b) (sym is)
         (subst (λ (l : Option Inlet). At (count + 1) allowed copy count (lane_at lanes count) l was_placed) (sym there)
-        (subst (λ (l : Option Inlet). At (count + 1) allowed copy count l lane' was_placed) first (widest was_placed count allowed copy lane lane' next)))
+        (subst (λ (l : Option Inlet). At (count + 1) allowed copy count l lane' was_placed) first
+        (widest was_placed count allowed copy lane lane' next)))
 
-    same : (port : ℕ) → count ≡ port → At (count + 1) allowed copy port (lane_at lanes port) (lane_at now' port) (has_port port placed')
+    same : (port : ℕ) → count ≡ port → At (count + 1) allowed copy port (lane_at lanes port) (lane_at now' port)
+        (has_port port placed')
     same port e = subst (λ p. At (count + 1) allowed copy p (lane_at lanes p) (lane_at now' p) (has_port p placed')) e at_count
 
-    other : (port : ℕ) → (count ≡ port → ⊥) → At (count + 1) allowed copy port (lane_at lanes port) (lane_at now' port) (has_port port placed')
+    other : (port : ℕ) → (count ≡ port → ⊥) → At (count + 1) allowed copy port (lane_at lanes port) (lane_at now' port)
+        (has_port port placed')
     other port apart =
-        let kept : lane_at now' port ≡ lane_at now port = ap (λ l. lane_at l port) set ∙ get_or-set_other now count port lane' None (λ e. apart (sym e)) in
+        let kept : lane_at now' port ≡ lane_at now port = ap (λ l. lane_at l port) set
+        ∙ get_or-set_other now count port lane' None (λ e. apart (sym e)) in
         subst (λ b. At (count + 1) allowed copy port (lane_at lanes port) (lane_at now' port) b) (sym (others port apart))
         (subst (λ (l : Option Inlet). At (count + 1) allowed copy port (lane_at lanes port) l (has_port port placed)) (sym kept)
         (wider (has_port port placed) count allowed copy port (lane_at lanes port) (lane_at now port) apart (so_far.ports port)))
 
 -- once each lane was looked at
-whole : (placed : Bool) (count : ℕ) (allowed : List ℕ) (copy : FrameCopy) (port : ℕ) (lane lane' : Option Inlet) → (IsTrue (has_port port allowed) → port < count) → At count allowed copy port lane lane' placed
+whole : (placed : Bool) (count : ℕ) (allowed : List ℕ) (copy : FrameCopy) (port : ℕ) (lane lane' : Option Inlet)
+    → (IsTrue (has_port port allowed) → port < count) → At count allowed copy port lane lane' placed
     → Next allowed copy port lane lane' placed
 whole true count allowed copy port lane lane' inside at = (at.1, at.2)
 whole false count allowed copy port lane lane' inside at = (at.0, λ yes_there. at.1 (inside yes_there) yes_there)
 
-pub all_placed : (count : ℕ) (allowed : List ℕ) (copy : FrameCopy) (placed : List ℕ) (lanes now : List (Option Inlet)) → PlacesBelow count allowed copy placed lanes now
+pub all_placed : (count : ℕ) (allowed : List ℕ) (copy : FrameCopy) (placed : List ℕ) (lanes now : List (Option Inlet))
+    → PlacesBelow count allowed copy placed lanes now
     → length now ≡ length lanes
     → ((port : ℕ) → IsTrue (has_port port allowed) → port < count)
     → PlacesCopies allowed copy placed lanes now
 all_placed count allowed copy placed lanes now so_far size inside =
-    record { size = size; ports = λ port. whole (has_port port placed) count allowed copy port (lane_at lanes port) (lane_at now port) (inside port) (so_far.ports port) }
+    record {
+      size = size;
+      ports = λ port. whole (has_port port placed) count allowed copy port (lane_at lanes port)
+          (lane_at now port) (inside port) (so_far.ports port);
+    }
 
 -- a lane on which a copy was placed is still there
-still : (placed : Bool) (allowed : List ℕ) (copy : FrameCopy) (port : ℕ) (lane lane' : Option Inlet) → Next allowed copy port lane lane' placed → IsSome lane → IsSome lane'
+still : (placed : Bool) (allowed : List ℕ) (copy : FrameCopy) (port : ℕ) (lane lane' : Option Inlet)
+    → Next allowed copy port lane lane' placed → IsSome lane → IsSome lane'
 still true allowed copy port lane lane' next there = let e = next.1.is in subst (λ (l : Option Inlet). IsSome l) (sym e) refl
 still false allowed copy port lane lane' next there = subst (λ (l : Option Inlet). IsSome l) (sym next.0) there
 
@@ -164,7 +180,8 @@ has_one_more own lanes lane has few none there = record {
 }
 
 -- a copy that is taken leaves the lanes where they are
-pub pops_keep_lanes : (own source : ℕ) (copy : FrameCopy) (lanes lanes' : List (Option Outlet)) → PopsFrom source lanes copy lanes'
+pub pops_keep_lanes : (own source : ℕ) (copy : FrameCopy) (lanes lanes' : List (Option Outlet))
+    → PopsFrom source lanes copy lanes'
     → HasLanes own lanes → HasLanes own lanes'
 pops_keep_lanes own source copy lanes lanes' pops has = record {
   most = let e = size in let m = has.most in omega arith;

@@ -1,10 +1,13 @@
 -- Room for what is left, lane by lane.
-use Rattle.std.proofs.Common.{◌≡◌, ◌∙◌, ℕ, zero, suc, ◌+◌, ◌<◌, ◌≤◌, List, [], ◌∷◌, ◌++◌, length, map, drop, get_or, Option, Some, None, slice_set, vec_capacity, ⊎_elim, sym, ap, subst, refl, arith, append_assoc, append-nil, length-append, add-one}
+use Rattle.std.proofs.Common.{◌≡◌, ◌∙◌, ℕ, zero, suc, ◌+◌, ◌<◌, ◌≤◌, List, [], ◌∷◌, ◌++◌, length, map, drop, get_or, Option, Some}
+use Rattle.std.proofs.Common.{None, slice_set, vec_capacity, ⊎_elim, sym, ap, subst, refl, arith, append_assoc, append-nil}
+use Rattle.std.proofs.Common.{length-append, add-one}
 use Rattle.std.proofs.lemmas.Bool.{cases_eq}
 use Rattle.std.proofs.lemmas.List.{drop_more, ext_get_or, get_or-map, get_or-set_same, get_or-set_other, length-map, length-set}
 use Rattle.gw_lanes.specs.Ends.{Inlet, Outlet}
-use Rattle.gw_ports.specs.Ends.{Ingress, Egress, lane_at}
-use Rattle.gw_ports.specs.Closing.{Lane, lane_of, lanes_to, lanes_of, column_at, columns_of, rows_of, heads, tails, ring_to, ring_from, Match, EachOf, IsRoomOf, IsWaiting}
+use Rattle.gw_ports.specs.Ends.{Ingress, Egress, lane_at, ring_to, ring_from}
+use Rattle.gw_ports.specs.Closing.{Lane, lane_of, lanes_to, lanes_of, column_at, columns_of, rows_of, heads, tails}
+use Rattle.gw_ports.specs.Closing.{Match, EachOf, IsRoomOf, IsWaiting}
 use Rattle.gw_ports.specs.declared.closing.LaneLeft.{LaneLeft}
 
 -- the two lists of one relation, one behind the other
@@ -13,7 +16,8 @@ pub each-append : (R : Lane → LaneLeft → Type 0) (lanes lanes' : List Lane) 
 each-append R [] lanes' [] lefts' each each' = each'
 each-append R [] lanes' (left ∷ lefts) lefts' each each' = absurd each
 each-append R (lane ∷ lanes) lanes' [] lefts' each each' = absurd each
-each-append R (lane ∷ lanes) lanes' (left ∷ lefts) lefts' each each' = (each.0, each-append R lanes lanes' lefts lefts' each.1 each')
+each-append R (lane ∷ lanes) lanes' (left ∷ lefts) lefts' each each' =
+    (each.0, each-append R lanes lanes' lefts lefts' each.1 each')
 
 -- the lanes from one port to the destinations from a number on
 abbrev pub row_behind : ℕ → ℕ → List (Option Inlet) → List (Option Outlet) → List Lane
@@ -23,18 +27,21 @@ row_behind source destination row col = lanes_to source destination (drop destin
 pub row_next : (source destination : ℕ) (row : List (Option Inlet)) (col : List (Option Outlet))
     → destination < length row → destination < length col
     → row_behind source destination row col
-    ≡ lane_of source destination (lane_at row destination) (lane_at col destination) ++ row_behind source (destination + 1) row col
+    ≡ lane_of source destination (lane_at row destination) (lane_at col destination)
+    ++ row_behind source (destination + 1) row col
 row_next source destination row col inside inside' =
     let next : suc destination ≡ destination + 1 = omega arith in
     ap (λ l. lanes_to source destination l (drop destination col)) (drop_more row destination None inside)
-    ∙ ap (λ l. lanes_to source destination (lane_at row destination ∷ drop (destination + 1) row) l) (drop_more col destination None inside')
+    ∙ ap (λ l. lanes_to source destination (lane_at row destination ∷ drop (destination + 1) row) l)
+    (drop_more col destination None inside')
     ∙ ap (λ n. lane_of source destination (lane_at row destination) (lane_at col destination)
     ++ lanes_to source n (drop (destination + 1) row) (drop (destination + 1) col)) next
 
 -- behind the last destination there is no lane
 pub row_end : (source destination : ℕ) (row : List (Option Inlet)) (col : List (Option Outlet)) → length row ≤ destination
     → row_behind source destination row col ≡ []
-row_end source destination row col past = ap (λ l. lanes_to source destination l (drop destination col)) (drop_past row destination past)
+row_end source destination row col past =
+    ap (λ l. lanes_to source destination l (drop destination col)) (drop_past row destination past)
   where
     drop_past : (xs : List (Option Inlet)) (n : ℕ) → length xs ≤ n → drop n xs ≡ []
     drop_past [] zero le = refl
@@ -43,16 +50,13 @@ row_end source destination row col past = ap (λ l. lanes_to source destination 
     drop_past (x ∷ xs) (suc n) le = drop_past xs n (omega arith)
 
 -- the lanes from one port to the destinations below a number have what stands behind `before` in a list
-pub record RowDone (R : Lane → LaneLeft → Type 0) (source destination : ℕ) (row : List (Option Inlet)) (col : List (Option Outlet))
+pub record RowDone (R : Lane → LaneLeft → Type 0) (source destination : ℕ) (row : List (Option Inlet))
+    (col : List (Option Outlet))
     (before now : List LaneLeft) : Type 0 where
   pub new : List LaneLeft
   pub items : now ≡ before ++ new
   pub each : (more : List LaneLeft) → EachOf R (row_behind source destination row col) more
       → EachOf R (lanes_to source 0 row col) (new ++ more)
-
-pub row_begins : (R : Lane → LaneLeft → Type 0) (source : ℕ) (row : List (Option Inlet)) (col : List (Option Outlet))
-    (before : List LaneLeft) → RowDone R source 0 row col before before
-row_begins R source row col before = record { new = []; items = sym (append-nil before); each = λ more each. each }
 
 -- one destination more, with what stands for its lane: one element or none
 pub row_more : (R : Lane → LaneLeft → Type 0) (source destination : ℕ) (row : List (Option Inlet)) (col : List (Option Outlet))
@@ -102,24 +106,6 @@ pub all_end : (R : Lane → LaneLeft → Type 0) (source : ℕ) (all : List Lane
     (now : List LaneLeft) → AllDone R source all [] columns now → EachOf R all now
 all_end R source all columns now done = subst (λ (l : List LaneLeft). EachOf R all l) (append-nil now) (done.each [] tt)
 
--- room for one lane
-
--- the room that was made for what waits between two ends
-pub one_room : (source destination : ℕ) (inlet : Option Inlet) (outlet : Option Outlet) (waiting : ℕ) (room : LaneLeft)
-    → IsWaiting inlet outlet (Some waiting) → room.from ≡ source → room.to ≡ destination → room.left.items ≡ []
-    → vec_capacity room.left ≡ waiting → EachOf IsRoomOf (lane_of source destination inlet outlet) (room ∷ [])
-one_room source destination (Some inlet) (Some outlet) waiting room waits from to empty exact =
-    (record { source = from; destination = to; empty = empty; enough = omega arith }, tt)
-one_room source destination (Some inlet) None waiting room waits from to empty exact = absurd waits
-one_room source destination None outlet waiting room waits from to empty exact = absurd waits
-
--- no room where there is no lane
-pub no_room : (R : Lane → LaneLeft → Type 0) (source destination : ℕ) (inlet : Option Inlet) (outlet : Option Outlet)
-    → IsWaiting inlet outlet None → EachOf R (lane_of source destination inlet outlet) []
-no_room R source destination (Some inlet) (Some outlet) waits = absurd waits
-no_room R source destination (Some inlet) None waits = tt
-no_room R source destination None outlet waits = tt
-
 -- columns of which the first lane was taken
 
 -- the columns below a number gave their first lane, and the others are as they were
@@ -127,9 +113,6 @@ pub record Passed (count : ℕ) (old now : List (List (Option Outlet))) : Type 0
   pub size : length now ≡ length old
   pub passed : (k : ℕ) → k < count → get_or now k [] ≡ drop 1 (get_or old k [])
   pub waiting : (k : ℕ) → count ≤ k → get_or now k [] ≡ get_or old k []
-
-pub none_passed : (columns : List (List (Option Outlet))) → Passed 0 columns columns
-none_passed columns = record { size = refl; passed = λ k below. absurd (omega arith); waiting = λ k above. refl }
 
 pub one_passed : (count : ℕ) (old now now' : List (List (Option Outlet))) → Passed count old now → count < length old
     → now' ≡ slice_set now count (drop 1 (get_or now count [])) → Passed (count + 1) old now'
@@ -204,7 +187,8 @@ pub row_pairs : (source : ℕ) (ins : List Ingress) (outs : List Egress) (d : In
     → Match (drop source (rows_of ins)) (columns_from source outs)
     → map ring_to (get_or ins source d).lanes ≡ map ring_from (column_at source outs)
 row_pairs source ins outs d inside match =
-    let here = subst (λ (r : List (List (Option Inlet))). Match r (columns_from source outs)) (rows_next source ins d inside) match in
+    let here = subst (λ (r : List (List (Option Inlet))). Match r (columns_from source outs)) (rows_next source ins d inside)
+    match in
     here.0 ∙ ap (λ l. map ring_from l) (heads_from source outs)
 
 -- one port more has room
@@ -223,7 +207,8 @@ rooms_go_on source ins outs d all now new now' inside match done each pushed =
     let here = subst (λ (r : List (List (Option Inlet))). Match r columns) split match in
     let behind : tails columns ≡ columns_from (source + 1) outs = tails_from source outs ∙ ap (λ n. columns_from n outs) next in
     let begun = subst (λ (r : List (List (Option Inlet))). AllDone IsRoomOf source all r columns now) split done in
-    let head = subst (λ (h : List (Option Outlet)). EachOf IsRoomOf (lanes_to source 0 row h) new) (sym (heads_from source outs)) each in
+    let head = subst (λ (h : List (Option Outlet)). EachOf IsRoomOf (lanes_to source 0 row h) new) (sym (heads_from source outs))
+    each in
     let more = all_more IsRoomOf source all row rows columns now new now' begun head pushed in (
       subst (λ (cs : List (List (Option Outlet))). Match rows cs) behind here.1,
       subst (λ (cs : List (List (Option Outlet))). AllDone IsRoomOf (source + 1) all rows cs now') behind

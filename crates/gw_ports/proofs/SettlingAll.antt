@@ -1,9 +1,11 @@
 -- Settling what each port knows, port by port.
-use Rattle.std.proofs.Common.{◌≡◌, ◌∙◌, ℕ, ◌+◌, ◌<◌, ◌≤◌, List, [], ◌∷◌, Option, length, slice_set, get_or, ⊎_elim, sym, ap, subst, refl, arith}
+use Rattle.std.proofs.Common.{◌≡◌, ◌∙◌, ℕ, ◌+◌, ◌<◌, ◌≤◌, List, [], ◌∷◌, Option, length, slice_set, get_or, ⊎_elim, sym, ap}
+use Rattle.std.proofs.Common.{subst, refl, arith}
 use mathlib.Core.List.{IsPrefix}
 use Rattle.std.proofs.lemmas.Bool.{cases_eq, cases_lt}
 use Rattle.std.specs.List.{All}
-use Rattle.std.proofs.lemmas.List.{get_or-map, get_or-set_same, get_or-set_other, get_or_default, length-map, length-set, same_lists}
+use Rattle.std.proofs.lemmas.List.{get_or-map, get_or-set_same, get_or-set_other, get_or_default, length-map, length-set}
+use Rattle.std.proofs.lemmas.List.{same_lists}
 use Rattle.gw_policy.specs.Batches.{Pair}
 use Rattle.gw_board.proofs.Prefixes.{prefix_self}
 use Rattle.gw_ports.specs.Ends.{Ingress}

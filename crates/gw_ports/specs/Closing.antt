@@ -1,22 +1,16 @@
 -- What closing a gateway tells.
-use Rattle.std.specs.Prelude.{◌≡◌, ℕ, ◌+◌, ◌<◌, ◌≤◌, suc, List, [], ◌++◌, ◌∷◌, length, map, drop, sum_by, slice_index_or, vec_capacity, Option, Some, None, All, option_map}
+use Rattle.std.specs.Prelude.{◌≡◌, ℕ, ◌+◌, ◌<◌, ◌≤◌, suc, List, [], ◌++◌, ◌∷◌, length, map, drop, sum_by, slice_index_or}
+use Rattle.std.specs.Prelude.{vec_capacity, Option, Some, None, All}
 use mathlib.Core.List.{IsPrefix}
 use Rattle.gw_board.specs.Ends.{Publishing}
 use Rattle.gw_ledger.specs.Ledgers.{AreBalanced}
-use Rattle.gw_lanes.specs.Ends.{Ring, Inlet, Outlet}
-use Rattle.gw_ports.specs.Ends.{Ingress, Egress, lane_at}
+use Rattle.gw_lanes.specs.Ends.{Inlet, Outlet}
+use Rattle.gw_ports.specs.Ends.{Ingress, Egress, lane_at, ring_to, ring_from}
 use Rattle.gw_ports.specs.declared.closing.LaneLeft.{LaneLeft}
 use Rattle.gw_ports.specs.declared.closing.Report.{Report}
 use Rattle.gw_ports.specs.declared.parts.Parts.{Parts}
 use Rattle.gw_ports.specs.declared.closing.CloseRefusal.{CloseRefusal}
 use Rattle.gw_ports.specs.declared.closing.CloseRefusal.TheVariants.{OutOfMemory, NoReading}
-
--- the ring of a lane, by either end
-abbrev pub ring_to : Option Inlet → Option Ring
-ring_to lane = option_map (λ inlet. inlet.ring) lane
-
-abbrev pub ring_from : Option Outlet → Option Ring
-ring_from lane = option_map (λ outlet. outlet.ring) lane
 
 -- the lanes of all ports in, by source: of each by destination; and those of all ports out, by destination: of each by source
 abbrev pub rows_of : List Ingress → List (List (Option Inlet))
@@ -40,17 +34,6 @@ tails columns = map (λ column. drop 1 column) columns
 abbrev pub Match : List (List (Option Inlet)) → List (List (Option Outlet)) → Type 0
 Match [] columns = Unit {0}
 Match (row ∷ rows) columns = (map ring_to row ≡ map ring_from (heads columns)) × Match rows (tails columns)
-
--- these are the parts of one gateway, each once and in the order of their ports
-pub record AreOfOneGateway (operator : Publishing) (ins : List Ingress) (outs : List Egress) : Type 0 where
-  pub few : operator.ports ≤ 16
-  pub enough_ins : length ins ≡ operator.ports
-  pub enough_outs : length outs ≡ operator.ports
-  pub boards : All (λ ingress. ingress.board ≡ operator.board) ins
-  pub sources : (k : ℕ) (d : Ingress) → k < length ins → (slice_index_or ins k d).port ≡ k
-  pub destinations : (k : ℕ) (d : Egress) → k < length outs → (slice_index_or outs k d).port ≡ k
-  pub whole : All (λ egress. length egress.lanes ≡ operator.ports) outs
-  pub lanes : Match (rows_of ins) (columns_of outs)
 
 -- a lane, by its ports and its ends
 pub record Lane : Type 0 where

@@ -1,8 +1,9 @@
 -- What contracts see of a port's ends.
-use Rattle.std.specs.Prelude.{◌≡◌, ◌≢◌, ℕ, ◌+◌, ◌-◌, ◌*◌, ◌<◌, ◌≤◌, ◌^◌, min, List, length, slice_index, slice_index_or, sum_by, Option, Some, None, IsSome}
+use Rattle.std.specs.Prelude.{◌≡◌, ◌≢◌, ℕ, ◌+◌, ◌-◌, ◌*◌, ◌<◌, ◌≤◌, ◌^◌, min, List, length, map, slice_index}
+use Rattle.std.specs.Prelude.{slice_index_or, sum_by, Option, Some, None, IsSome, option_map}
 use Rattle.gw_board.specs.Ends.{Board}
 use Rattle.gw_policy.specs.Batches.{Pair}
-use Rattle.gw_lanes.specs.Ends.{Inlet, Outlet}
+use Rattle.gw_lanes.specs.Ends.{Ring, Inlet, Outlet}
 use Rattle.gw_ledger.specs.declared.ledger.InLedger.{InLedger}
 use Rattle.gw_ledger.specs.declared.ledger.OutLedger.{OutLedger}
 
@@ -35,6 +36,29 @@ pub record HasLanes {A : Type 0} (own : ℕ) (lanes : List (Option A)) : Type 0 
   pub most : length lanes ≤ 16
   pub none : lane_at lanes own ≡ None
   pub others : (port : ℕ) → port < length lanes → port ≢ own → IsSome (lane_at lanes port)
+
+-- the ring of a lane, by either end
+abbrev pub ring_to : Option Inlet → Option Ring
+ring_to lane = option_map (λ inlet. inlet.ring) lane
+
+abbrev pub ring_from : Option Outlet → Option Ring
+ring_from lane = option_map (λ outlet. outlet.ring) lane
+
+-- which end it is, as no call changes it: its port, its board, and the rings of its lanes
+pub record EndIn : Type 0 where
+  pub port : ℕ
+  pub board : Board
+  pub rings : List (Option Ring)
+
+pub record EndOut : Type 0 where
+  pub port : ℕ
+  pub rings : List (Option Ring)
+
+abbrev pub end_in : Ingress → EndIn
+end_in ingress = record { port = ingress.port; board = ingress.board; rings = map ring_to ingress.lanes }
+
+abbrev pub end_out : Egress → EndOut
+end_out egress = record { port = egress.port; rings = map ring_from egress.lanes }
 
 -- how many copies were placed on a lane, and how many were taken from one
 abbrev pub placed_on : Option Inlet → ℕ

@@ -5,3 +5,5 @@ pub mod Sending
 pub mod Making
 pub mod Refusals
 pub mod Closing
+pub mod Running
+pub mod Runs

@@ -3,7 +3,17 @@
 ghost use Rattle.std.specs.Prelude.{◌≡◌, ◌+◌, ◌<◌, ◌≤◌, ℕ, [], length, map, slice_index_or, vec_capacity, IfOk, IfErr, OnOk, All};
 ghost use mathlib.Core.List.{IsPrefix};
 ghost use Rattle.gw_ports.specs.Ends.{Ingress, IsSoundIngress, IsSoundEgress};
-ghost use Rattle.gw_ports.specs.Closing.{AreOfOneGateway, AreRooms, Closes, HandsBack, KnowsMore, Match, columns_of, lanes_of, rows_of};
+ghost use Rattle.gw_ports.specs.Making.{AreOfOneGateway};
+ghost use Rattle.gw_ports.specs.Closing.{
+  AreRooms,
+  Closes,
+  HandsBack,
+  KnowsMore,
+  Match,
+  columns_of,
+  lanes_of,
+  rows_of,
+};
 
 use crate::{Parts, PortIn, PortOut};
 use finish::{finish_all, take_columns};

@@ -2,17 +2,18 @@
 #![tactic(auto)]
 
 mod closing;
+mod gate;
 mod parts;
 mod place;
 mod port_in;
 mod port_out;
 mod refusals;
+mod running;
 
 pub use closing::{CloseRefusal, LaneLeft, Report, close};
+pub use gate::Gate;
 pub use parts::{Parts, gateway};
 pub use port_in::PortIn;
 pub use port_out::PortOut;
 pub use refusals::{MakeRefusal, OfferRefusal};
-
-#[cfg(test)]
-mod tests;
+pub use running::{RunRefusal, RunReport, run, run_from};

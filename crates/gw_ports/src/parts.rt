@@ -2,7 +2,7 @@
 
 ghost use Rattle.std.specs.Prelude.{◌≡◌, [], false, IfOk, All};
 ghost use Rattle.gw_board.specs.Ends.{new_operator};
-ghost use Rattle.gw_ports.specs.Making.{AreNewEnds};
+ghost use Rattle.gw_ports.specs.Making.{AreNewEnds, AreOfOneGateway};
 
 use crate::refusals::MakeRefusal;
 use crate::{PortIn, PortOut};
@@ -28,6 +28,7 @@ pub fn gateway(alloc: Global, limits: Limits) -> Result<Parts, MakeRefusal>
     ensures known { IfOk result (λ parts. All
         (λ ingress. (ingress.board ≡ parts.operator.board) × (ingress.known ≡ [])) parts.ins.items) }
     ensures ends { IfOk result (λ parts. AreNewEnds limits.ports limits.frames limits.lane parts.ins.items parts.outs.items) }
+    ensures one { IfOk result (λ parts. AreOfOneGateway parts.operator parts.ins.items parts.outs.items) }
 {
     let Ok((operator, watches)) = board(alloc, limits) else {
         return Err(MakeRefusal::Unavailable);

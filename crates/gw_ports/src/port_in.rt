@@ -46,7 +46,7 @@ impl Model for PortIn {
 }
 
 impl PortIn {
-    ghost use Rattle.gw_ports.specs.Ends.{IsSoundIngress};
+    ghost use Rattle.gw_ports.specs.Ends.{IsSoundIngress, end_in};
 
     pub(crate) fn new(port: u8, frames: u32, watch: Watch, lanes: Vec<Option<LaneIn>>) -> PortIn
         requires lanes { HasLanes port lanes.items }
@@ -72,6 +72,13 @@ impl PortIn {
         }
     }
 
+    // Its number.
+    pub(crate) fn number(&self) -> u8
+        ensures { result ≡ self.now.port }
+    {
+        self.port
+    }
+
     /// What became of the frames that were taken.
     pub fn ledger(&self) -> &InLedger
         ensures ledger { result.now ≡ self.now.ledger }
@@ -84,6 +91,8 @@ impl PortIn {
     /// It knows the longer list from now on, which both begin.
     pub fn learn(&mut self, told: &Told)
         requires { told.now.board ≡ self.old.board }
+        ensures end { end_in self.new ≡ end_in self.old }
+        ensures board { self.new.board ≡ self.old.board }
         ensures value { self.new ≡ record self.old { known = longer self.old.known told.now.batches } }
         ensures kept { IsPrefix self.old.known self.new.known }
         ensures told { IsPrefix told.now.batches self.new.known }

@@ -1,9 +1,9 @@
 //! The end at which copies leave at a port.
 
 ghost use Rattle.std.specs.Prelude.{◌≡◌, ℕ, None, MatchOption, IsSome};
-ghost use Rattle.gw_ports.specs.Ends.{lane_at};
+ghost use Rattle.gw_ports.specs.Ends.{lane_at, ring_to, ring_from};
 ghost use Rattle.gw_ports.specs.Sending.{Pops, PopsFrom};
-ghost use Rattle.gw_ports.specs.Closing.{IsWaiting, ring_to, ring_from};
+ghost use Rattle.gw_ports.specs.Closing.{IsWaiting};
 
 use crate::PortIn;
 use gw_lanes::{LaneIn, LaneOut};
@@ -36,8 +36,8 @@ impl Model for PortOut {
 impl PortOut {
     ghost use Rattle.std.specs.Prelude.{◌≡◌, ◌≢◌, ◌<◌, ◌++◌, ◌∷◌, [], length, OnOk, ℕ, None, MatchOption, IfSome, IsSome};
     ghost use Rattle.gw_ports.specs.Making.{new_egress};
-    ghost use Rattle.gw_ports.specs.Ends.{taken_from, lane_at, IsSoundEgress};
-    ghost use Rattle.gw_ports.specs.Closing.{IsWaiting, ring_to, ring_from};
+    ghost use Rattle.gw_ports.specs.Ends.{taken_from, lane_at, ring_to, ring_from, end_out, IsSoundEgress};
+    ghost use Rattle.gw_ports.specs.Closing.{IsWaiting};
     ghost use Rattle.gw_ports.specs.Sending.{Sends};
 
     // An end without lanes.
@@ -75,7 +75,8 @@ impl PortOut {
     /// The oldest copy that waits on the lane of the first source that has one, in a circle that begins after the source that
     /// it gave last, at first with port 0.
     pub fn next(&mut self) -> Option<FrameCopy>
-        ensures { MatchOption result (self.new ≡ self.old) (λ copy. (source : ℕ) × Sends source self.old copy self.new) }
+        ensures end { end_out self.new ≡ end_out self.old }
+        ensures sent { MatchOption result (self.new ≡ self.old) (λ copy. (source : ℕ) × Sends source self.old copy self.new) }
     {
         let ports = self.lanes.len();
         for step in 0..ports {
@@ -90,6 +91,7 @@ impl PortOut {
 
     /// The oldest copy that waits on the lane of a source. There is none for a number that is no other port.
     pub fn next_from(&mut self, port: u8) -> Option<FrameCopy>
+        ensures end { end_out self.new ≡ end_out self.old }
         ensures sent { MatchOption result (self.new ≡ self.old) (λ copy. Sends port self.old copy self.new) }
         ensures other { IfSome result (λ _. (port ≢ self.old.port) × (port < length self.old.lanes)) }
     {

@@ -1,9 +1,37 @@
 //! Ending the lanes. It takes no memory.
 
-ghost use Rattle.std.specs.Prelude.{◌≡◌, ◌+◌, ◌<◌, ◌≤◌, ◌++◌, ℕ, List, [], length, map, drop, slice_index_or, vec_len, vec_capacity};
+ghost use Rattle.std.specs.Prelude.{
+  ◌≡◌,
+  ◌+◌,
+  ◌<◌,
+  ◌≤◌,
+  ◌++◌,
+  ℕ,
+  List,
+  [],
+  length,
+  map,
+  drop,
+  slice_index_or,
+  vec_len,
+  vec_capacity,
+};
 ghost use Rattle.std.specs.Vec.Iter.{into_iter_items};
-ghost use Rattle.gw_ports.specs.Ends.{lane_at};
-ghost use Rattle.gw_ports.specs.Closing.{AreLeft, AreRooms, Finishes, Lane, Match, columns_of, heads, tails, lane_of, lanes_of, lanes_to, ring_from, ring_to, rows_of};
+ghost use Rattle.gw_ports.specs.Ends.{lane_at, ring_to, ring_from};
+ghost use Rattle.gw_ports.specs.Closing.{
+  AreLeft,
+  AreRooms,
+  Finishes,
+  Lane,
+  Match,
+  columns_of,
+  heads,
+  tails,
+  lane_of,
+  lanes_of,
+  lanes_to,
+  rows_of,
+};
 
 use super::LaneLeft;
 use crate::{PortIn, PortOut};

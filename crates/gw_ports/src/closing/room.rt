@@ -1,8 +1,17 @@
 //! Room for what is left on the lanes.
 
 ghost use Rattle.std.specs.Prelude.{◌≡◌, ◌+◌, ◌<◌, ◌≤◌, ◌++◌, ℕ, List, length, map, drop, IfOk, OnOk};
-ghost use Rattle.gw_ports.specs.Closing.{AreRooms, Match, column_at, columns_of, lane_of, lanes_of, lanes_to, ring_from, ring_to, rows_of};
-ghost use Rattle.gw_ports.specs.Ends.{lane_at};
+ghost use Rattle.gw_ports.specs.Closing.{
+  AreRooms,
+  Match,
+  column_at,
+  columns_of,
+  lane_of,
+  lanes_of,
+  lanes_to,
+  rows_of,
+};
+ghost use Rattle.gw_ports.specs.Ends.{lane_at, ring_to, ring_from};
 
 use super::LaneLeft;
 use crate::{PortIn, PortOut};

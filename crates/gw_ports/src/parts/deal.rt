@@ -1,6 +1,27 @@
 //! Dealing out the ends of the lanes to the ports.
 
-ghost use Rattle.std.specs.Prelude.{◌≡◌, ◌≢◌, ◌+◌, ◌*◌, ◌-◌, ◌<◌, ◌≤◌, ◌∷◌, ◌++◌, [], ℕ, length, map, slice_index_or, vec_len, IfOk, IsSome, OnOk, All, option_map};
+ghost use Rattle.std.specs.Prelude.{
+  ◌≡◌,
+  ◌≢◌,
+  ◌+◌,
+  ◌*◌,
+  ◌-◌,
+  ◌<◌,
+  ◌≤◌,
+  ◌∷◌,
+  ◌++◌,
+  [],
+  ℕ,
+  length,
+  map,
+  slice_index_or,
+  vec_len,
+  IfOk,
+  IsSome,
+  OnOk,
+  All,
+  option_map,
+};
 ghost use Rattle.std.specs.Vec.Iter.{into_iter_items};
 ghost use Rattle.gw_lanes.specs.Ends.{new_inlet, new_outlet};
 ghost use Rattle.gw_ports.specs.Ends.{Egress, HasLanes, lane_at};

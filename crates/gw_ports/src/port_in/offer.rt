@@ -1,13 +1,31 @@
 //! Taking a frame. It enters the board once, and takes no memory and no lock.
 
-ghost use Rattle.std.specs.Prelude.{◌≡◌, ◌≤◌, ◌<◌, ◌↔◌, ℕ, List, [], length, reverse, if◌then◌else◌, ◌==◌, ◌&&◌, not, MatchResult, OnErr, Err};
+ghost use Rattle.std.specs.Prelude.{
+  ◌≡◌,
+  ◌≤◌,
+  ◌<◌,
+  ◌↔◌,
+  ℕ,
+  List,
+  [],
+  length,
+  reverse,
+  if◌then◌else◌,
+  ◌==◌,
+  ◌&&◌,
+  not,
+  MatchResult,
+  OnErr,
+  OnOk,
+  Err,
+};
 ghost use mathlib.Core.List.{IsPrefix};
 ghost use Rattle.gw_policy.specs.Batches.{passes, policy_at};
 ghost use Rattle.gw_policy.specs.Allowed.{allowed_ports};
 ghost use Rattle.gw_claims.specs.Holders.{HoldsAfter};
 ghost use Rattle.gw_ledger.specs.Ports.{ports_below, IsPartOf, IsPortSet};
 ghost use Rattle.gw_ledger.specs.Ledgers.{ledger_with};
-ghost use Rattle.gw_ports.specs.Ends.{IsCounted};
+ghost use Rattle.gw_ports.specs.Ends.{IsCounted, end_in};
 ghost use Rattle.gw_ports.specs.Offers.{Offered};
 ghost use Rattle.gw_ports.specs.declared.refusals.OfferRefusal.TheVariants.{FramesSpent, NoReading};
 
@@ -25,6 +43,9 @@ impl PortIn {
     pub fn offer(&mut self, frame: Frame) -> Result<Outcome, OfferRefusal>
         ensures offered { (heard : List (List ℕ)) → HoldsAfter self.old.claims heard
             → MatchResult result (λ outcome. Offered heard self.old frame outcome self.new) (λ _. self.new ≡ self.old) }
+        ensures end { end_in self.new ≡ end_in self.old }
+        ensures board { self.new.board ≡ self.old.board }
+        ensures inside { OnOk result (self.old.ledger.taken < self.old.frames) }
         ensures unchanged { OnErr result (self.new ≡ self.old) }
         ensures spent { (result ≡ Err FramesSpent) ↔ (self.old.ledger.taken ≡ self.old.frames) }
     {

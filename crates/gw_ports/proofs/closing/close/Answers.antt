@@ -1,4 +1,5 @@
-use Rattle.std.proofs.Common.{◌≡◌, ℕ, ◌<◌, ◌∙◌, ◌++◌, List, Option, drop, length, map, take, slice_index_or, sum_by, arith, ap, refl, sym, subst}
+use Rattle.std.proofs.Common.{◌≡◌, ℕ, ◌<◌, ◌∙◌, ◌++◌, List, Option, drop, length, map, take, slice_index_or, sum_by, arith, ap}
+use Rattle.std.proofs.Common.{refl, sym, subst}
 use Rattle.std.specs.List.{All}
 use Rattle.std.specs.Vec.Iter.{into_iter_items}
 use Rattle.std.proofs.lemmas.List.{with_items_is}
@@ -12,8 +13,17 @@ use Rattle.gw_ports.specs.Ends.{Ingress, Egress, IsSoundIngress, IsSoundEgress}
 use Rattle.gw_ports.specs.Closing.{AreLeft, AreRooms, KnowsMore, Match, columns_of, lanes_of, rows_of}
 use Rattle.gw_ports.specs.declared.closing.LaneLeft.{LaneLeft}
 use Rattle.gw_ports.proofs.Balancing.{balanced}
+use Rattle.gw_ports.proofs.OneGateway.{lanes_match, of_board, whole_out}
 use Rattle.gw_ports.proofs.SettlingAll.{Settles, knew_less, rows_stay}
 use Rattle.gw_ports.proofs.closing.close.Goals as goal
+
+pub prepare-requires-clause-lanes : goal.prepare-requires-clause-lanes
+prepare-requires-clause-lanes c =
+    let ins = c.args.parts.ins.items in
+    let outs = c.args.parts.outs.items in
+    subst (λ (l : List Ingress). Match (rows_of l) (columns_of c.deref_mut-2.result.now)) (sym c.deref_mut.ensures.value)
+    (subst (λ (l : List Egress). Match (rows_of ins) (columns_of l)) (sym c.deref_mut-2.ensures.value)
+    (lanes_match c.args.parts.operator ins outs c.requires))
 
 pub settle_all-requires : goal.settle_all-requires
 settle_all-requires c = λ k d below.
@@ -22,7 +32,9 @@ settle_all-requires c = λ k d below.
     let lent : c.deref_mut-3.result.now ≡ ins.items =
     c.deref_mut-3.ensures.value ∙ with_items_is ins c.prepare.new.ins (ap length kept ∙ sym ins.ok.0) ∙ kept in
     let size = ap length lent in
-    ap (λ l. (slice_index_or l k d).board) lent ∙ c.requires.boards k d (omega arith) ∙ sym (ap (λ t. t.board) c.tell-told.ensures)
+    ap (λ l. (slice_index_or l k d).board) lent
+    ∙ of_board c.args.parts.operator ins.items c.args.parts.outs.items c.requires k d (omega arith)
+    ∙ sym (ap (λ t. t.board) c.tell-told.ensures)
 
 -- The ends are as they were, but for what ports in know.
 pub returns-in_default-settle_all-clause-back : goal.returns-in_default-settle_all-clause-back
@@ -36,7 +48,8 @@ returns-in_default-settle_all-clause-back c =
     with_items_is ins c.prepare.new.ins (ap length kept ∙ sym ins.ok.0) ∙ kept in
     let lent : c.deref_mut-3.result.now ≡ ins.items = c.deref_mut-3.ensures.value ∙ before in
     let size : length now ≡ length ins.items = c.settle_all.ensures.size ∙ ap length lent in
-    let after : take ins.len (now ++ drop (length now) (take ins.len (c.prepare.new.ins ++ drop (length c.prepare.new.ins) ins.items))) ≡ now =
+    let after : take ins.len
+    (now ++ drop (length now) (take ins.len (c.prepare.new.ins ++ drop (length c.prepare.new.ins) ins.items))) ≡ now =
     ap (λ l. take ins.len (now ++ drop (length now) l)) before ∙ with_items_is ins now (size ∙ sym ins.ok.0) in (
       refl,
       with_items_is outs c.prepare.new.outs (ap length kept_outs ∙ sym outs.ok.0) ∙ kept_outs,
@@ -60,13 +73,16 @@ finish_all-requires-clause-pairs c =
     with_items_is ins c.prepare.new.ins (ap length kept ∙ sym ins.ok.0) ∙ kept in
     let lent : c.deref_mut-3.result.now ≡ ins.items = c.deref_mut-3.ensures.value ∙ before in
     let size : length now ≡ length ins.items = c.settle_all.ensures.size ∙ ap length lent in
-    let after : take ins.len (now ++ drop (length now) (take ins.len (c.prepare.new.ins ++ drop (length c.prepare.new.ins) ins.items))) ≡ now =
+    let after : take ins.len
+    (now ++ drop (length now) (take ins.len (c.prepare.new.ins ++ drop (length c.prepare.new.ins) ins.items))) ≡ now =
     ap (λ l. take ins.len (now ++ drop (length now) l)) before ∙ with_items_is ins now (size ∙ sym ins.ok.0) in
-    let settled : (k : ℕ) (d : Ingress) → k < length ins.items → Settles told (slice_index_or ins.items k d) (slice_index_or now k d) =
+    let settled : (k : ℕ) (d : Ingress) → k < length ins.items
+    → Settles told (slice_index_or ins.items k d) (slice_index_or now k d) =
     subst
     (λ (l : List Ingress). (k : ℕ) (d : Ingress) → k < length l → Settles told (slice_index_or l k d) (slice_index_or now k d))
     lent c.in-Ok-settle_all.ensures.settled in
-    let rows : rows_of (take ins.len (now ++ drop (length now) (take ins.len (c.prepare.new.ins ++ drop (length c.prepare.new.ins) ins.items))))
+    let rows : rows_of (take ins.len
+    (now ++ drop (length now) (take ins.len (c.prepare.new.ins ++ drop (length c.prepare.new.ins) ins.items))))
     ≡ rows_of ins.items =
     ap rows_of after ∙ rows_stay told ins.items now size settled in
     let kept_outs : c.prepare.new.outs ≡ outs.items = c.prepare.ensures.same.1 ∙ c.deref_mut-2.ensures.value in
@@ -74,7 +90,8 @@ finish_all-requires-clause-pairs c =
     c.take_columns-columns.ensures
     ∙ ap columns_of (with_items_is outs c.prepare.new.outs (ap length kept_outs ∙ sym outs.ok.0) ∙ kept_outs) in
     subst (λ (r : List (List (Option Inlet))). Match r (map into_iter_items c.take_columns-columns.result.items)) (sym rows)
-    (subst (λ (cs : List (List (Option Outlet))). Match (rows_of ins.items) cs) (sym columns) c.requires.lanes)
+    (subst (λ (cs : List (List (Option Outlet))). Match (rows_of ins.items) cs) (sym columns)
+    (lanes_match c.args.parts.operator ins.items outs.items c.requires))
 
 pub finish_all-requires-clause-rooms : goal.finish_all-requires-clause-rooms
 finish_all-requires-clause-rooms c =
@@ -87,13 +104,16 @@ finish_all-requires-clause-rooms c =
     with_items_is ins c.prepare.new.ins (ap length kept ∙ sym ins.ok.0) ∙ kept in
     let lent : c.deref_mut-3.result.now ≡ ins.items = c.deref_mut-3.ensures.value ∙ before in
     let size : length now ≡ length ins.items = c.settle_all.ensures.size ∙ ap length lent in
-    let after : take ins.len (now ++ drop (length now) (take ins.len (c.prepare.new.ins ++ drop (length c.prepare.new.ins) ins.items))) ≡ now =
+    let after : take ins.len
+    (now ++ drop (length now) (take ins.len (c.prepare.new.ins ++ drop (length c.prepare.new.ins) ins.items))) ≡ now =
     ap (λ l. take ins.len (now ++ drop (length now) l)) before ∙ with_items_is ins now (size ∙ sym ins.ok.0) in
-    let settled : (k : ℕ) (d : Ingress) → k < length ins.items → Settles told (slice_index_or ins.items k d) (slice_index_or now k d) =
+    let settled : (k : ℕ) (d : Ingress) → k < length ins.items
+    → Settles told (slice_index_or ins.items k d) (slice_index_or now k d) =
     subst
     (λ (l : List Ingress). (k : ℕ) (d : Ingress) → k < length l → Settles told (slice_index_or l k d) (slice_index_or now k d))
     lent c.in-Ok-settle_all.ensures.settled in
-    let rows : rows_of (take ins.len (now ++ drop (length now) (take ins.len (c.prepare.new.ins ++ drop (length c.prepare.new.ins) ins.items))))
+    let rows : rows_of (take ins.len
+    (now ++ drop (length now) (take ins.len (c.prepare.new.ins ++ drop (length c.prepare.new.ins) ins.items))))
     ≡ rows_of ins.items =
     ap rows_of after ∙ rows_stay told ins.items now size settled in
     let kept_outs : c.prepare.new.outs ≡ outs.items = c.prepare.ensures.same.1 ∙ c.deref_mut-2.ensures.value in
@@ -121,13 +141,16 @@ returns-clause-closed c =
     with_items_is ins c.prepare.new.ins (ap length kept ∙ sym ins.ok.0) ∙ kept in
     let lent : c.deref_mut-3.result.now ≡ ins.items = c.deref_mut-3.ensures.value ∙ before in
     let size : length now ≡ length ins.items = c.settle_all.ensures.size ∙ ap length lent in
-    let after : take ins.len (now ++ drop (length now) (take ins.len (c.prepare.new.ins ++ drop (length c.prepare.new.ins) ins.items))) ≡ now =
+    let after : take ins.len
+    (now ++ drop (length now) (take ins.len (c.prepare.new.ins ++ drop (length c.prepare.new.ins) ins.items))) ≡ now =
     ap (λ l. take ins.len (now ++ drop (length now) l)) before ∙ with_items_is ins now (size ∙ sym ins.ok.0) in
-    let settled : (k : ℕ) (d : Ingress) → k < length ins.items → Settles told (slice_index_or ins.items k d) (slice_index_or now k d) =
+    let settled : (k : ℕ) (d : Ingress) → k < length ins.items
+    → Settles told (slice_index_or ins.items k d) (slice_index_or now k d) =
     subst
     (λ (l : List Ingress). (k : ℕ) (d : Ingress) → k < length l → Settles told (slice_index_or l k d) (slice_index_or now k d))
     lent c.in-Ok-settle_all.ensures.settled in
-    let rows : rows_of (take ins.len (now ++ drop (length now) (take ins.len (c.prepare.new.ins ++ drop (length c.prepare.new.ins) ins.items))))
+    let rows : rows_of (take ins.len
+    (now ++ drop (length now) (take ins.len (c.prepare.new.ins ++ drop (length c.prepare.new.ins) ins.items))))
     ≡ rows_of ins.items =
     ap rows_of after ∙ rows_stay told ins.items now size settled in
     let kept_outs : c.prepare.new.outs ≡ outs.items = c.prepare.ensures.same.1 ∙ c.deref_mut-2.ensures.value in
@@ -145,7 +168,7 @@ returns-clause-closed c =
     let sound_outs : All IsSoundEgress outs.items =
     subst (λ (l : List Egress). All IsSoundEgress l) c.deref_mut-2.ensures.value c.in-Ok.ensures.outs.1 in
     let whole : All (λ (e : Egress). length e.lanes ≡ length ins.items) outs.items =
-    λ k d below. c.requires.whole k d below ∙ sym c.requires.enough_ins in
+    whole_out c.args.parts.operator ins.items outs.items c.requires in
     let left : AreLeft (lanes_of 0 (rows_of ins.items) (columns_of outs.items)) lefts =
     subst (λ (cs : List (List (Option Outlet))). AreLeft (lanes_of 0 (rows_of ins.items) cs) lefts) columns
     (subst
@@ -153,7 +176,8 @@ returns-clause-closed c =
     rows c.finish_all.ensures) in
     let sum = sum_by (λ (lane : LaneLeft). length lane.left.items) lefts in
     let balances : AreBalanced (map (λ (i : Ingress). i.ledger) ins.items) (map (λ (e : Egress). e.ledger) outs.items) sum =
-    balanced ins.items outs.items lefts sound sound_outs c.requires.lanes whole left in
+    balanced ins.items outs.items lefts sound sound_outs
+    (lanes_match c.args.parts.operator ins.items outs.items c.requires) whole left in
     record {
       taken = taken;
       sent = sent;

@@ -14,7 +14,8 @@ loop-port-preserved c =
     let ledger : c.ledger.result.now ≡ port.ledger = c.ledger.ensures.ledger in
     let is : port ≡ get_or all at.port-index port = c.port-item.is in (
       c.in_ok-push.ensures.items ∙ ap (λ l. l ++ c.ledger.result.now ∷ []) at.invariant.0
-          ∙ ap (λ x. map (λ (i : Ingress). i.ledger) (take at.port-index all) ++ x ∷ []) (ledger ∙ ap (λ (i : Ingress). i.ledger) is)
+          ∙ ap (λ x. map (λ (i : Ingress). i.ledger) (take at.port-index all) ++ x ∷ []) (ledger
+          ∙ ap (λ (i : Ingress). i.ledger) is)
           ∙ sym (map_more (λ (i : Ingress). i.ledger) all at.port-index port inside),
       subst (λ (l : List Ingress). All IsSoundIngress l) (sym (take_more all at.port-index port inside))
           (All-push IsSoundIngress (take at.port-index all) (get_or all at.port-index port) at.invariant.1

@@ -6,7 +6,8 @@ pub loop-index-preserved : goal.loop-index-preserved
 loop-index-preserved c =
     let at = c.loop-index in
     let inside : at.index < length at.ins = let s = at.auto.ins in let t = c.loop-index-test.true in omega arith in
-    one_more_settled at.index c.args.told.now.batches c.args.ins.now at.ins c.index-ins-index.result c.settle.new.self at.invariant
+    one_more_settled at.index c.args.told.now.batches c.args.ins.now at.ins c.index-ins-index.result c.settle.new.self
+    at.invariant
     inside c.in_ok-settle.ensures.settled
 
 pub returns-clause-settled : goal.returns-clause-settled
@@ -20,5 +21,6 @@ pub returns-in_err-settle-clause-more : goal.returns-in_err-settle-clause-more
 returns-in_err-settle-clause-more c =
     let at = c.loop-index in
     let inside : at.index < length at.ins = let s = at.auto.ins in let t = c.loop-index-test.true in omega arith in
-    refused_know_more at.index c.args.told.now.batches c.args.ins.now at.ins c.index-ins-index.result c.settle.new.self at.invariant
+    refused_know_more at.index c.args.told.now.batches c.args.ins.now at.ins c.index-ins-index.result c.settle.new.self
+    at.invariant
     inside c.settle.ensures.more

@@ -34,8 +34,10 @@ loop-port-preserved c =
     let now : map into_iter_items (take at.columns.len (new ++ drop (length new) old)) ≡ tails columns =
     ap (λ l. map into_iter_items l) items ∙ tail in
     let one : Finishes (lanes_to source 0 row (heads columns)) rooms rooms' lefts lefts' =
-    subst (λ (r : List (Option Inlet)). Finishes (lanes_to source 0 r (heads columns)) rooms rooms' lefts lefts') c.into_lanes.ensures
-    (subst (λ l. Finishes (lanes_to source 0 c.into_lanes.result.items (heads (map into_iter_items l))) rooms rooms' lefts lefts') value
+    subst (λ (r : List (Option Inlet)). Finishes (lanes_to source 0 r (heads columns)) rooms rooms' lefts lefts')
+    c.into_lanes.ensures
+    (subst (λ l. Finishes (lanes_to source 0 c.into_lanes.result.items (heads (map into_iter_items l))) rooms rooms' lefts lefts')
+    value
     (c.finish_from.ensures.left source)) in
     let match = subst (λ (r : List (List (Option Inlet))). Match r columns) next inv.1 in
     let are = subst (λ (r : List (List (Option Inlet))). AreRooms (lanes_of source r columns) rooms) next inv.2 in
@@ -66,7 +68,8 @@ returns c =
     inv.3 rooms lefts
     (subst (λ (r : List (List (Option Inlet))). Finishes (lanes_of inv.0 r columns) rooms rooms lefts lefts)
     (sym (ap rows_of none)) (finishes_nothing rooms lefts)) in
-    all_finished (lanes_of 0 (rows_of c.args.ins.items) (map into_iter_items c.args.columns.items)) (into_iter_items c.into_iter-rooms.result)
+    all_finished (lanes_of 0 (rows_of c.args.ins.items) (map into_iter_items c.args.columns.items))
+    (into_iter_items c.into_iter-rooms.result)
     rooms c.args.lanes.items lefts done c.requires.empty
     (subst (λ (l : List LaneLeft). AreRooms (lanes_of 0 (rows_of c.args.ins.items) (map into_iter_items c.args.columns.items)) l)
     (sym c.into_iter-rooms.ensures.rest) c.requires.rooms)

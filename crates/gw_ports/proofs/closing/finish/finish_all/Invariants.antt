@@ -9,8 +9,11 @@ abbrev pub invariant-loop-port : goal.invariant-loop-port
 invariant-loop-port l =
     (source : ℕ)
     × Match (rows_of (into_iter_items l.port-iterator)) (map into_iter_items l.columns.items)
-    × AreRooms (lanes_of source (rows_of (into_iter_items l.port-iterator)) (map into_iter_items l.columns.items)) (into_iter_items l.rooms)
+    × AreRooms (lanes_of source (rows_of (into_iter_items l.port-iterator)) (map into_iter_items l.columns.items))
+    (into_iter_items l.rooms)
     × ((rooms lefts : List LaneLeft)
-    → Finishes (lanes_of source (rows_of (into_iter_items l.port-iterator)) (map into_iter_items l.columns.items)) (into_iter_items l.rooms) rooms l.lanes.items lefts
-    → Finishes (lanes_of 0 (rows_of l.fn.ins.items) (map into_iter_items l.initial.columns.items)) (into_iter_items l.initial.rooms) rooms l.initial.lanes.items lefts)
+    → Finishes (lanes_of source (rows_of (into_iter_items l.port-iterator)) (map into_iter_items l.columns.items))
+    (into_iter_items l.rooms) rooms l.lanes.items lefts
+    → Finishes (lanes_of 0 (rows_of l.fn.ins.items) (map into_iter_items l.initial.columns.items))
+    (into_iter_items l.initial.rooms) rooms l.initial.lanes.items lefts)
     × (vec_len l.lanes + length (into_iter_items l.rooms) ≤ vec_capacity l.lanes)

@@ -1,4 +1,5 @@
-use Rattle.std.proofs.Common.{◌≡◌, ◌<◌, ◌≤◌, ◌∙◌, ◌+◌, ◌++◌, ◌∷◌, [], ℕ, List, Option, drop, get_or, slice_set, length, map, arith, ap, sym, subst}
+use Rattle.std.proofs.Common.{◌≡◌, ◌<◌, ◌≤◌, ◌∙◌, ◌+◌, ◌++◌, ◌∷◌, [], ℕ, List, Option, drop, get_or, slice_set, length, map}
+use Rattle.std.proofs.Common.{arith, ap, sym, subst}
 use Rattle.std.specs.Vec.Iter.{into_iter_items}
 use Rattle.std.proofs.lemmas.List.{get_or-map, length-map, map-set}
 use Rattle.gw_lanes.specs.Ends.{Outlet}
@@ -20,7 +21,8 @@ finish_one-requires-clause-pair c =
     let next = ap length c.in-Some.ensures.steps.0 in
     let left = inv.2 in
     omega arith in
-    let column : into_iter_items (get_or at.columns at.destination it) ≡ get_or (map into_iter_items at.columns) at.destination [] =
+    let column : into_iter_items (get_or at.columns at.destination it) ≡ get_or (map into_iter_items at.columns) at.destination
+    [] =
     sym (get_or-map into_iter_items at.columns at.destination it [] below) in
     (takes_next at.destination c.args.row.items (map into_iter_items c.args.columns.now) (map into_iter_items at.columns)
     (into_iter_items at.from-iterator) (into_iter_items c.next.new.self) c.in-Some.from c.next_lane-to.result
@@ -41,7 +43,8 @@ finish_one-requires-clause-rooms c =
     let next = ap length c.in-Some.ensures.steps.0 in
     let left = inv.2 in
     omega arith in
-    let column : into_iter_items (get_or at.columns at.destination it) ≡ get_or (map into_iter_items at.columns) at.destination [] =
+    let column : into_iter_items (get_or at.columns at.destination it) ≡ get_or (map into_iter_items at.columns) at.destination
+    [] =
     sym (get_or-map into_iter_items at.columns at.destination it [] below) in
     let takes : TakesNext at.destination row columns c.in-Some.from c.next_lane-to.result (into_iter_items c.next.new.self) =
     takes_next at.destination row columns (map into_iter_items at.columns) (into_iter_items at.from-iterator)
@@ -50,7 +53,8 @@ finish_one-requires-clause-rooms c =
       inv.3.0,
       at.destination,
       row_behind inv.3.0 (at.destination + 1) row (heads columns) ++ inv.3.1,
-      rooms_split inv.3.0 at.destination row columns c.in-Some.from c.next_lane-to.result (into_iter_items c.next.new.self) inv.3.1
+      rooms_split inv.3.0 at.destination row columns c.in-Some.from c.next_lane-to.result (into_iter_items c.next.new.self)
+          inv.3.1
           (into_iter_items at.rooms) takes inv.3.2,
     )
 

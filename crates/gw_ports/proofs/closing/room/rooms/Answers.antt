@@ -1,4 +1,5 @@
-use Rattle.std.proofs.Common.{◌≡◌, ◌<◌, ◌≤◌, ◌∙◌, ◌++◌, [], List, Option, drop, length, slice_index_or, slice_set, arith, ap, refl, sym, subst}
+use Rattle.std.proofs.Common.{◌≡◌, ◌<◌, ◌≤◌, ◌∙◌, ◌++◌, [], List, Option, drop, length, slice_index_or, slice_set, arith, ap}
+use Rattle.std.proofs.Common.{refl, sym, subst}
 use Rattle.std.proofs.lemmas.List.{set-get_or}
 use Rattle.gw_lanes.specs.Ends.{Inlet, Outlet}
 use Rattle.gw_ports.specs.Closing.{EachOf, IsRoomOf, Match, column_at, columns_of, lanes_of, lanes_to, rows_of}
@@ -11,13 +12,15 @@ loop-source-init c =
     let rows = rows_of c.args.ins.now in
     let outs = c.args.outs.now in
     let first : columns_of outs ≡ columns_from 0 outs = sym (columns_from_first outs) in
-    let begun : AllDone IsRoomOf 0 (lanes_of 0 rows (columns_of outs)) rows (columns_of outs) [] = record { each = λ more each. each } in (
+    let begun : AllDone IsRoomOf 0 (lanes_of 0 rows (columns_of outs)) rows (columns_of outs) [] =
+    record { each = λ more each. each } in (
       refl,
       refl,
       subst (λ (cs : List (List (Option Outlet))). Match rows cs) first c.requires.lanes,
       subst (λ (now : List LaneLeft). AllDone IsRoomOf 0 (lanes_of 0 rows (columns_of outs)) rows (columns_from 0 outs) now)
           (sym c.new-rooms.ensures.items)
-          (subst (λ (cs : List (List (Option Outlet))). AllDone IsRoomOf 0 (lanes_of 0 rows (columns_of outs)) rows cs []) first begun),
+          (subst (λ (cs : List (List (Option Outlet))). AllDone IsRoomOf 0 (lanes_of 0 rows (columns_of outs)) rows cs []) first
+          begun),
     )
 
 pub rooms_from-requires-clause-lanes : goal.rooms_from-requires-clause-lanes
@@ -54,5 +57,6 @@ returns-clause-rooms c =
     let outs = c.args.outs.now in
     let past : length ins ≤ at.source = let s = at.auto.ins in let t = c.loop-source-test.false in omega arith in
     all_end IsRoomOf at.source (lanes_of 0 (rows_of ins) (columns_of outs)) (columns_from at.source outs) at.rooms.items
-    (subst (λ r. AllDone IsRoomOf at.source (lanes_of 0 (rows_of ins) (columns_of outs)) r (columns_from at.source outs) at.rooms.items)
+    (subst (λ r. AllDone IsRoomOf at.source (lanes_of 0 (rows_of ins) (columns_of outs)) r (columns_from at.source outs)
+    at.rooms.items)
     (no_rows at.source ins past) at.invariant.3)

@@ -8,5 +8,6 @@ abbrev pub invariant-loop-source : goal.invariant-loop-source
 invariant-loop-source l =
     (l.ins ≡ l.initial.ins) × (l.outs ≡ l.initial.outs)
     × Match (drop l.source (rows_of l.initial.ins)) (columns_from l.source l.initial.outs)
-    × AllDone IsRoomOf l.source (lanes_of 0 (rows_of l.initial.ins) (columns_of l.initial.outs)) (drop l.source (rows_of l.initial.ins))
+    × AllDone IsRoomOf l.source (lanes_of 0 (rows_of l.initial.ins) (columns_of l.initial.outs))
+    (drop l.source (rows_of l.initial.ins))
     (columns_from l.source l.initial.outs) l.rooms.items

@@ -7,4 +7,5 @@ use Rattle.gw_ports.proofs.closing.room.rooms_from.Given as goal
 abbrev pub invariant-loop-destination : goal.invariant-loop-destination
 invariant-loop-destination l =
     (l.from ≡ l.initial.from) × (l.outs ≡ l.initial.outs)
-    × RowDone IsRoomOf l.source l.destination l.initial.from.lanes (column_at l.source l.initial.outs) l.initial.rooms.items l.rooms.items
+    × RowDone IsRoomOf l.source l.destination l.initial.from.lanes (column_at l.source l.initial.outs) l.initial.rooms.items
+    l.rooms.items

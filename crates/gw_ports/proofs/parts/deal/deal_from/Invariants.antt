@@ -4,4 +4,5 @@ use Rattle.gw_ports.proofs.Dealing.{Dealt}
 use Rattle.gw_ports.proofs.parts.deal.deal_from.Given as goal
 
 abbrev pub invariant-loop-destination : goal.invariant-loop-destination
-invariant-loop-destination l = Dealt l.port l.destination l.lanes.items l.initial.outs l.outs (into_iter_items l.initial.froms) (into_iter_items l.froms) (into_iter_items l.tos)
+invariant-loop-destination l = Dealt l.port l.destination l.lanes.items l.initial.outs l.outs (into_iter_items l.initial.froms)
+    (into_iter_items l.froms) (into_iter_items l.tos)

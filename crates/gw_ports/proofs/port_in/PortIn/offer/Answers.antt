@@ -1,4 +1,6 @@
-use Rattle.std.proofs.Common.{◌≡◌, ◌≢◌, ◌<◌, ◌≤◌, ◌+◌, ◌∙◌, ◌++◌, ℕ, Bool, true, false, List, length, take, drop, reverse, Option, IsTrue, IsSome, sum_by, sym, ap, subst, refl, arith}
+use Rattle.std.proofs.Common.{◌≡◌, ◌≢◌, ◌<◌, ◌≤◌, ◌+◌, ◌∙◌, ◌++◌, ℕ, Bool, true, false, List, length, map, take, drop}
+use Rattle.std.proofs.Common.{reverse, Option}
+use Rattle.std.proofs.Common.{IsTrue, IsSome, sum_by, sym, ap, subst, refl, arith}
 use Rattle.std.proofs.lemmas.List.{with_items_is}
 use Rattle.gw_policy.specs.Allowed.{allowed_ports}
 use Rattle.gw_claims.specs.Claims.{is_local}
@@ -6,11 +8,12 @@ use Rattle.gw_claims.specs.Holders.{HoldsAfter}
 use Rattle.gw_ledger.specs.Ports.{has_port}
 use Rattle.gw_ledger.specs.declared.outcome.FrameCopy.{FrameCopy}
 use Rattle.gw_lanes.specs.Ends.{Inlet}
-use Rattle.gw_ports.specs.Ends.{Ingress, lane_at, placed_on, HasLanes, CountsPlaced}
+use Rattle.gw_ports.specs.Ends.{Ingress, end_in, lane_at, ring_to, placed_on, HasLanes, CountsPlaced}
 use Rattle.gw_ports.specs.Placing.{PlacesCopies}
 use Rattle.gw_ports.specs.Offers.{Offered}
 use Rattle.gw_ports.proofs.Judging.{allowed_elsewhere}
 use Rattle.gw_ports.proofs.Placing.{keeps_lanes, placed_inside}
+use Rattle.gw_ports.proofs.OneGateway.{rings_stay, same_end}
 use Rattle.gw_ports.proofs.Summing.{copies_placed}
 use Rattle.gw_ports.proofs.port_in.PortIn.offer.Goals as goal
 
@@ -108,3 +111,18 @@ returns-clause-offered c = λ heard.
       placed = subst (λ (l : List (Option Inlet)). PlacesCopies allowed copy placed old l) (sym items) done;
       ledger = c.count.ensures.added;
     })
+
+-- Placing leaves each lane its ring.
+pub returns-clause-end : goal.returns-clause-end
+returns-clause-end c =
+    let inside = c.self.inside in
+    let old = inside.lanes.items in
+    let new = c.place-placed.new.lanes in
+    let copy : FrameCopy = record { from = inside.port; number = inside.ledger.taken; frame = c.args.frame } in
+    let done =
+    subst (λ (l : List (Option Inlet)). PlacesCopies c.in-Ok.allowed copy c.place-placed.result l new)
+    c.deref_mut.ensures.value c.place-placed.ensures in
+    let items : take inside.lanes.len (new ++ drop (length new) old) ≡ new =
+    with_items_is inside.lanes new (done.size ∙ sym inside.lanes.ok.0) in
+    let rings = ap (λ (l : List (Option Inlet)). map ring_to l) items ∙ rings_stay _ _ _ old new done in
+    same_end inside.port _ _ _ _ c.judge.ensures.board rings ∙ ap end_in c.self.view_is

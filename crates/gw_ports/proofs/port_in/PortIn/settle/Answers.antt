@@ -25,7 +25,8 @@ pub returns-then-len-clause-more : goal.returns-then-len-clause-more
 returns-then-len-clause-more c =
     let read = c.with.new.self.batches in
     let before = c.self.inside.watch.batches in
-    let later : IsPrefix before read = prefix_trans before c.learn.new.self.batches read c.learn.ensures.kept c.in_ok-with.ensures.read.0 in
+    let later : IsPrefix before read = prefix_trans before c.learn.new.self.batches read c.learn.ensures.kept
+    c.in_ok-with.ensures.read.0 in
     let known : before ≡ c.args.self.now.known = ap (λ a. a.known) c.self.view_is in
     let board : c.with.new.self.board ≡ c.self.inside.watch.board = c.with.ensures.board ∙ c.learn.ensures.board in (
       renewed _ _ c.with.new.self.board read read c.self.view_is board refl,

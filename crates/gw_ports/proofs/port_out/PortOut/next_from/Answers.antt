@@ -1,11 +1,12 @@
-use Rattle.std.proofs.Common.{◌≡◌, ◌++◌, ◌<◌, List, Option, length, take, drop, arith, sym, subst, ap, ◌∙◌}
+use Rattle.std.proofs.Common.{◌≡◌, ◌++◌, ◌<◌, List, Option, length, map, take, drop, arith, sym, subst, ap, ◌∙◌}
 use Rattle.std.proofs.lemmas.List.{length-set, with_items_is}
 use Rattle.gw_ledger.specs.declared.ledger.OutLedger.{OutLedger}
-use Rattle.gw_lanes.specs.Ends.{Outlet}
-use Rattle.gw_ports.specs.Ends.{HasLanes, CountsSent, lane_at}
+use Rattle.gw_lanes.specs.Ends.{Outlet, Ring}
+use Rattle.gw_ports.specs.Ends.{EndOut, HasLanes, CountsSent, end_out, lane_at, ring_from}
 use Rattle.gw_ports.specs.Sending.{PopsFrom, sent_with}
 use Rattle.gw_ports.proofs.Placing.{pops_keep_lanes}
 use Rattle.gw_ports.proofs.Counting.{one_more_sent}
+use Rattle.gw_ports.proofs.OneGateway.{rings_stay_below}
 use Rattle.gw_ports.proofs.port_out.PortOut.next_from.Goals as goal
 
 -- The copy left the lane of the source that was asked for, and is counted there.
@@ -32,3 +33,19 @@ invariant_of-self-2 c =
           (one_more_sent inside.ledger old new port copy c.self.invariant.1 pops below)),
       c.self.invariant.2,
     )
+
+-- Taking leaves each lane its ring.
+pub returns-clause-end : goal.returns-clause-end
+returns-clause-end c =
+    let inside = c.self.inside in
+    let old = inside.lanes.items in
+    let new = c.take.new.lanes in
+    let copy = c.in_ok-copy.copy in
+    let pops : PopsFrom c.from.result old copy new =
+    subst (λ (l : List (Option Outlet)). PopsFrom c.from.result l copy new) c.deref_mut.ensures.value c.in_ok-copy.ensures in
+    let size : length new ≡ length old = ap length pops.others ∙ length-set old c.from.result (lane_at new c.from.result) in
+    let items : take inside.lanes.len (new ++ drop (length new) old) ≡ new =
+    with_items_is inside.lanes new (size ∙ sym inside.lanes.ok.0) in
+    let rings = ap (λ (l : List (Option Outlet)). map ring_from l) items ∙ rings_stay_below _ _ old new pops in
+    let P : List (Option Ring) → EndOut = λ r. record { port = inside.port; rings = r } in
+    ap P rings ∙ ap end_out c.self.view_is

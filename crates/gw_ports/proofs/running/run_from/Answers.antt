@@ -1,0 +1,88 @@
+use Rattle.std.proofs.Common.{◌≡◌, ◌∙◌, ◌<◌, ℕ, List, arith, ap, length, map, slice_index}
+use Rattle.std.specs.Iterator.{UpTo}
+use Rattle.std.proofs.lemmas.List.{length-map}
+use Rattle.gw_ports.specs.Ends.{Ingress, Egress, end_in, end_out}
+use Rattle.gw_ports.specs.Running.{HasTaken, IsDone}
+use Rattle.gw_ports.specs.declared.running.offering.Done.{Done}
+use Rattle.gw_ports.specs.declared.running.offering.Offering.{Offering}
+use Rattle.gw_ports.specs.declared.running.taking.Taking.{Taking}
+use Rattle.gw_ports.proofs.Opening.{ends_after_offers, ends_after_takes, input_at, ready_ports, same_gateway}
+use Rattle.gw_ports.proofs.Runs.{pairwise_length}
+use Rattle.gw_ports.proofs.running.run_from.Goals as goal
+
+pub start_taking-requires-clause-inputs : goal.start_taking-requires-clause-inputs
+start_taking-requires-clause-inputs g c κs within = λ k d below.
+    let P : ℕ → g.row.I.Denot → Type 0 =
+    λ n s. g.I.Iterator.can_next s × UpTo (g.I.Iterator.remaining s) (slice_index c.args.sizes.items n) in
+    let it = input_at P c.args.inputs.items c.in-Ok-prepare.prepared.offerings.items c.in-Ok-prepare.ensures.inputs
+    c.requires.inputs k d below in
+    (it.0, it.1.0)
+
+pub start_taking-requires-clause-room : goal.start_taking-requires-clause-room
+start_taking-requires-clause-room g c κs within = λ k d below.
+    let P : ℕ → g.row.I.Denot → Type 0 =
+    λ n s. g.I.Iterator.can_next s × UpTo (g.I.Iterator.remaining s) (slice_index c.args.sizes.items n) in
+    let prepared = c.in-Ok-prepare.prepared in
+    let offerings = prepared.offerings.items in
+    let it = input_at P c.args.inputs.items offerings c.in-Ok-prepare.ensures.inputs c.requires.inputs k d below in
+    let at_most = it.1.1 in
+    let ready =
+    ready_ports c.args.limits c.in-Ok.parts.ins.items c.in-Ok.parts.outs.items offerings c.in-Ok.ensures.opened.ends
+    c.in-Ok-prepare.ensures.ports k d below in
+    let frames = ready.1 in
+    let room = c.in-Ok-prepare.ensures.room k d below in
+    let sizes = ap (λ l. slice_index l k) c.deref.ensures.value in
+    omega arith
+
+pub start_taking-requires-clause-new : goal.start_taking-requires-clause-new
+start_taking-requires-clause-new g c κs within = λ k d below.
+    let ready =
+    ready_ports c.args.limits c.in-Ok.parts.ins.items c.in-Ok.parts.outs.items c.in-Ok-prepare.prepared.offerings.items
+    c.in-Ok.ensures.opened.ends c.in-Ok-prepare.ensures.ports k d below in
+    (ready.0, c.in-Ok-prepare.ensures.empty k d below)
+
+pub gather-sources-requires-clause-room : goal.gather-sources-requires-clause-room
+gather-sources-requires-clause-room g c =
+    let R : Offering g.row.I.Denot → Done → Type 0 = λ o one. IsDone g.I.Iterator.next_gives o.port o.input one in
+    let offerings = c.in-Ok-prepare.prepared.offerings.items in
+    let many = pairwise_length R offerings c.in-Some.done.items c.in-Some.ensures.done in
+    let count = c.in-Some.done.ok.0 in
+    let ports = length-map offerings (λ (o : Offering g.row.I.Denot). o.port) in
+    let ins = ap length c.in-Ok-prepare.ensures.ports in
+    let size = c.in-Ok.parts.ins.ok.0 in
+    let room = c.in-Ok-prepare.ensures.sources in
+    let first = room.3 in
+    let second = room.4 in
+    let third = room.5 in
+    (omega arith, omega arith, omega arith)
+
+pub gather-sinks-requires-clause-room : goal.gather-sinks-requires-clause-room
+gather-sinks-requires-clause-room g c =
+    let R : Taking → Taking → Type 0 = λ t one. HasTaken t.port one in
+    let takings = c.in-Ok-prepare.prepared.takings.items in
+    let many = pairwise_length R takings c.in-Some.taken.items c.in-Some.ensures.taken in
+    let count = c.in-Some.taken.ok.0 in
+    let ports = length-map takings (λ (t : Taking). t.port) in
+    let outs = ap length c.in-Ok-prepare.ensures.outs in
+    let ends = c.in-Ok.ensures.opened.ends in
+    let ins_many = ends.enough_ins in
+    let outs_many = ends.enough_outs in
+    let size = c.in-Ok.parts.ins.ok.0 in
+    let room = c.in-Ok-prepare.ensures.sinks in
+    let first = room.2 in
+    let second = room.3 in
+    (omega arith, omega arith)
+
+-- The threads hand back the ends that they were given, so these are of one gateway still.
+pub close-requires : goal.close-requires
+close-requires g c =
+    let parts = c.in-Ok.parts in
+    let prepared = c.in-Ok-prepare.prepared in
+    same_gateway parts.operator c.in-Some.published.operator parts.ins.items c.gather-sources.result.ports.items parts.outs.items
+    c.gather-sinks.result.ports.items c.in-Ok.ensures.opened.one c.in-Some.ensures.published.same
+    (ap (λ (l : List Ingress). map end_in l) c.gather-sources.ensures.ports
+    ∙ ends_after_offers g.I.Iterator.next_gives prepared.offerings.items c.in-Some.done.items c.in-Some.ensures.done
+    ∙ ap (λ (l : List Ingress). map end_in l) c.in-Ok-prepare.ensures.ports)
+    (ap (λ (l : List Egress). map end_out l) c.gather-sinks.ensures.ports
+    ∙ ends_after_takes prepared.takings.items c.in-Some.taken.items c.in-Some.ensures.taken
+    ∙ ap (λ (l : List Egress). map end_out l) c.in-Ok-prepare.ensures.outs)

@@ -1,0 +1,78 @@
+-- What the threads of a run do.
+use Rattle.std.specs.Prelude.{◌≡◌, ℕ, ◌+◌, ◌<◌, List, [], ◌∷◌, ◌++◌, length, take, slice_index, slice_index_or, Option, Some}
+use Rattle.std.specs.Prelude.{None}
+use Rattle.std.specs.Prelude.{MatchOption}
+use Rattle.std.specs.Iterator.{Drains, Yields}
+use Rattle.gw_board.specs.Ends.{Publishing}
+use Rattle.gw_board.specs.Refusals.{Refuses}
+use Rattle.gw_board.specs.declared.refusals.ReplaceRefusal.{ReplaceRefusal}
+use Rattle.gw_ledger.specs.declared.outcome.FrameCopy.{FrameCopy}
+use Rattle.gw_ledger.specs.declared.outcome.Outcome.{Outcome}
+use Rattle.gw_claims.specs.Holders.{HoldsAfter}
+use Rattle.gw_policy.specs.Batches.{Pair}
+use Rattle.gw_ports.specs.Ends.{Ingress, Egress, end_in, end_out}
+use Rattle.gw_ports.specs.Making.{nothing_counted}
+use Rattle.gw_ports.specs.Offers.{Offered}
+use Rattle.gw_ports.specs.Sending.{Sends}
+use Rattle.gw_ports.specs.declared.refusals.OfferRefusal.{OfferRefusal}
+use Rattle.gw_ports.specs.declared.refusals.OfferRefusal.TheVariants.{FramesSpent}
+use Rattle.gw_ports.specs.declared.running.offering.Done.{Done}
+use Rattle.gw_ports.specs.declared.running.taking.Taking.{Taking}
+
+-- the frames were offered one after another, each where the one before left the port, and these are their outcomes; `heard` is
+-- what was heard before, newest first
+abbrev pub Offers : List (List ℕ) → Ingress → List (List ℕ) → List Outcome → Ingress → Type 0
+Offers heard old [] [] new = new ≡ old
+Offers heard old [] (outcome ∷ outcomes) new = ⊥
+Offers heard old (octets ∷ frames) [] new = ⊥
+Offers heard old (octets ∷ frames) (outcome ∷ outcomes) new =
+    (next : Ingress) × Offered heard old octets outcome next × Offers (octets ∷ heard) next frames outcomes new
+
+-- the port has taken no frame
+abbrev pub IsReady : Ingress → Type 0
+IsReady ingress = HoldsAfter ingress.claims [] × (ingress.ledger ≡ nothing_counted)
+
+-- an input gave these frames and ended; or, where the port stopped, it gave one more
+abbrev pub Gives : {S : Type 0} → (S → Option (List ℕ) → S → Type 0) → S → List (List ℕ) → Option OfferRefusal → Type 0
+Gives steps input frames None = Drains steps input frames
+Gives {S} steps input frames (Some why) = (refused : List ℕ) × (rest : S) × Yields steps input (frames ++ refused ∷ []) rest
+
+-- the port offered the frames of its input, up to the one that was refused
+pub record IsDone {S : Type 0} (steps : S → Option (List ℕ) → S → Type 0) (port : Ingress) (input : S) (done : Done) : Type
+    0 where
+  pub frames : List (List ℕ)
+  pub gave : Gives steps input frames done.stop
+  pub offers : Offers [] port frames done.outcomes.items done.port
+  pub same : end_in done.port ≡ end_in port
+  pub spent : done.stop ≡ Some FramesSpent → done.port.ledger.taken ≡ done.port.frames
+
+-- the copies left the port one after another
+abbrev pub Takes : Egress → List FrameCopy → Egress → Type 0
+Takes old [] new = new ≡ old
+Takes old (copy ∷ copies) new = (source : ℕ) × (next : Egress) × Sends source old copy next × Takes next copies new
+
+-- the port took these copies out
+pub record HasTaken (port : Egress) (taking : Taking) : Type 0 where
+  pub takes : Takes port taking.out.items taking.port
+  pub same : end_out taking.port ≡ end_out port
+
+-- the operator with more batches published
+abbrev pub with_batches : Publishing → List (List Pair) → Publishing
+with_batches operator batches = record operator { published = operator.published ++ batches }
+
+-- the operator published batches in order, each with the next front: all of them, or those before one that was refused
+pub record Publishes (old : Publishing) (batches : List (List Pair)) (fronts : List ℕ) (refused : Option ReplaceRefusal)
+    (new : Publishing) : Type 0 where
+  pub same : (new.board ≡ old.board) × (new.ports ≡ old.ports)
+  pub numbered : (k : ℕ) → k < length fronts → slice_index fronts k ≡ length old.published + k + 1
+  pub published : MatchOption refused
+      ((length fronts ≡ length batches) × (new ≡ with_batches old batches))
+      (λ why. (length fronts < length batches)
+      × Refuses (with_batches old (take (length fronts) batches)) (slice_index_or batches (length fronts) []) why new)
+
+-- a relation holds of each element and what stands at its place in the other list
+abbrev pub Pairwise : {A B : Type 0} → (A → B → Type 0) → List A → List B → Type 0
+Pairwise R [] [] = Unit {0}
+Pairwise R [] (y ∷ ys) = ⊥
+Pairwise R (x ∷ xs) [] = ⊥
+Pairwise R (x ∷ xs) (y ∷ ys) = R x y × Pairwise R xs ys

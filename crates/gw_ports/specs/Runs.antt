@@ -1,0 +1,57 @@
+-- What a run of a gateway tells.
+use Rattle.std.specs.Prelude.{◌≡◌, ℕ, List, [], ◌∷◌, map, Option, All}
+use Rattle.gw_board.specs.Ends.{Publishing, new_operator}
+use Rattle.gw_ledger.specs.Bounds.{Bounds}
+use Rattle.gw_policy.specs.Batches.{Pair}
+use Rattle.gw_ports.specs.Ends.{Ingress, Egress}
+use Rattle.gw_ports.specs.Making.{AreNewEnds, AreOfOneGateway}
+use Rattle.gw_ports.specs.Closing.{Closes}
+use Rattle.gw_ports.specs.Running.{HasTaken, IsDone, Pairwise, Publishes, with_batches}
+use Rattle.gw_ports.specs.Refusals.{make_refusal_number}
+use Rattle.gw_ports.specs.declared.running.RunRefusal.{RunRefusal}
+use Rattle.gw_ports.specs.declared.running.RunRefusal.TheVariants.{NotMade, NoSuchPort, NotPublished, OutOfMemory, NoThread}
+use Rattle.gw_ports.specs.declared.running.RunRefusal.TheVariants.{NoReading}
+use Rattle.gw_ports.specs.declared.running.RunReport.{RunReport}
+use Rattle.gw_ports.specs.declared.running.offering.Done.{Done}
+use Rattle.gw_ports.specs.declared.running.offering.Offering.{Offering}
+use Rattle.gw_ports.specs.declared.running.taking.Taking.{Taking}
+
+-- the parts of a new gateway of which the first batch is published, and known to each port
+pub record IsOpened (limits : Bounds) (first : List Pair) (operator : Publishing) (ins : List Ingress) (outs : List Egress)
+    : Type 0 where
+  pub published : operator ≡ with_batches (new_operator operator.board limits) (first ∷ [])
+  pub ends : AreNewEnds limits.ports limits.frames limits.lane ins outs
+  pub known : All (λ ingress. (ingress.board ≡ operator.board) × (ingress.known ≡ first ∷ [])) ins
+  pub one : AreOfOneGateway operator ins outs
+
+-- the report of a run: each port of a new gateway that knows the first batch offered the frames of its input and took copies
+-- out, while batches were published; then the gateway was closed
+pub record IsRun {S : Type 0} (steps : S → Option (List ℕ) → S → Type 0) (limits : Bounds) (first : List Pair) (inputs : List S)
+    (batches : List (List Pair)) (report : RunReport) : Type 0 where
+  pub operator : Publishing
+  pub ins : List Ingress
+  pub outs : List Egress
+  pub opened : IsOpened limits first operator ins outs
+  pub offerings : List (Offering S)
+  pub ports_are : map (λ offering. offering.port) offerings ≡ ins
+  pub inputs_are : map (λ offering. offering.input) offerings ≡ inputs
+  pub done : List Done
+  pub offered : Pairwise (λ offering one. IsDone steps offering.port offering.input one) offerings done
+  pub takings : List Taking
+  pub outs_are : map (λ taking. taking.port) takings ≡ outs
+  pub taken : List Taking
+  pub took : Pairwise (λ taking one. HasTaken taking.port one) takings taken
+  pub closing : Publishing
+  pub published : Publishes operator batches report.fronts.items report.refused closing
+  pub outcomes_are : report.outcomes.items ≡ map (λ one. one.outcomes) done
+  pub stops_are : report.stops.items ≡ map (λ one. one.stop) done
+  pub out_is : report.out.items ≡ map (λ one. one.out) taken
+  pub closed : Closes closing (map (λ one. one.port) done) (map (λ one. one.port) taken) report.report
+
+abbrev pub run_refusal_number : RunRefusal → ℕ
+run_refusal_number (NotMade why) = make_refusal_number why
+run_refusal_number NoSuchPort = 81
+run_refusal_number NotPublished = 82
+run_refusal_number OutOfMemory = 85
+run_refusal_number NoThread = 86
+run_refusal_number NoReading = 77

@@ -1,0 +1,16 @@
+//! What holds the threads of a run back, or watches them.
+
+/// Is called by the threads of a run around their steps. It may hold them back, so that a run has one schedule.
+pub trait Gate: Sync {
+    /// Before a port offers the frame of this index.
+    fn enter(&self, port: u8, index: usize);
+
+    /// After that offer.
+    fn leave(&self, port: u8, index: usize);
+
+    /// Before the batch of this index is published.
+    fn before_replace(&self, index: usize);
+
+    /// After that, published or refused.
+    fn replaced(&self, index: usize);
+}

@@ -1,0 +1,257 @@
+//! Running a gateway in threads of its own.
+
+ghost use Rattle.std.specs.Prelude.{◌≡◌, ◌<◌, ℕ, List, [], All, Err, IfOk, length, map, slice_index, slice_index_or, vec_len};
+ghost use Rattle.std.specs.Vec.Iter.{into_iter_items, into_iter_len, into_iter_steps};
+ghost use Rattle.std.specs.Iterator.{UpTo};
+ghost use Rattle.std.specs.declared.vec.IntoIter.{IntoIter};
+ghost use Rattle.std.specs.declared.alloc.Global.{Global};
+ghost use Rattle.gw_board.specs.Refusals.{PortsBelow};
+ghost use Rattle.gw_ports.specs.Ends.{Ingress};
+ghost use Rattle.gw_ports.specs.Runs.{IsOpened, IsRun};
+ghost use Rattle.gw_ports.specs.declared.running.RunRefusal.TheVariants.{NoSuchPort};
+
+use crate::closing::CloseRefusal;
+use crate::{Gate, MakeRefusal, OfferRefusal, Parts, PortIn, Report, close, gateway};
+use gw_board::{ReplaceRefusal, Told};
+use gw_frame::Frame;
+use gw_ledger::{FrameCopy, Limits, Outcome};
+use gw_policy::Batch;
+use publishing::Publishing;
+use room::{Prepared, prepare};
+use std::alloc::{AllocError, Global};
+use std::error::Error;
+use std::fmt;
+use std::fmt::{Display, Formatter};
+use std::marker::{Send, Sync};
+use std::sync::Wait;
+use std::thread::Threads;
+use std::vec::IntoIter;
+use taking::{Feeding, start_taking};
+
+mod gathering;
+mod offering;
+mod publishing;
+mod room;
+mod taking;
+
+/// What a run did.
+#[derive(Drop)]
+pub struct RunReport {
+    /// By port, what became of its frames, in order.
+    pub outcomes: Vec<Vec<Outcome>>,
+    /// By port, why it stopped before its frames were at an end.
+    pub stops: Vec<Option<OfferRefusal>>,
+    /// How many batches were published after each of the batches.
+    pub fronts: Vec<u32>,
+    /// Why the batch after those was not published.
+    pub refused: Option<ReplaceRefusal>,
+    /// By port, the copies that were taken out there, in order.
+    pub out: Vec<Vec<FrameCopy>>,
+    /// What the gateway was at its end.
+    pub report: Report,
+}
+
+/// Why there was no run, or no report of one.
+#[derive(Clone, Copy, PartialEq, Eq, Debug)]
+pub enum RunRefusal {
+    /// 71, 80 or 83: the gateway was not made.
+    NotMade(MakeRefusal),
+    /// 81: the first batch names a port that the gateway does not have.
+    NoSuchPort,
+    /// 82: memory was refused for the first batch.
+    NotPublished,
+    /// 85: memory was refused for what the run is to report.
+    OutOfMemory,
+    /// 86: no thread could be started for a port.
+    NoThread,
+    /// 77: the policies in force could not be read at the close.
+    NoReading,
+}
+
+impl RunRefusal {
+    ghost use Rattle.gw_ports.specs.Runs.{run_refusal_number};
+
+    /// The number by which the refusal is known outside: 71, 77, 80 to 83, 85 or 86.
+    pub fn number(self) -> u32
+        ensures { result ≡ run_refusal_number self }
+    {
+        match self {
+            RunRefusal::NotMade(why) => why.number(),
+            RunRefusal::NoSuchPort => 81,
+            RunRefusal::NotPublished => 82,
+            RunRefusal::OutOfMemory => 85,
+            RunRefusal::NoThread => 86,
+            RunRefusal::NoReading => 77,
+        }
+    }
+}
+
+impl Display for RunRefusal {
+    fn fmt<W: fmt::Write>(&self, f: &mut Formatter<W>) -> fmt::Result {
+        match self {
+            RunRefusal::NotMade(why) => write!(f, "{why}"),
+            RunRefusal::NoSuchPort => f.write_str(
+                "the first batch names a port that the gateway does not have: name ports below its number of ports",
+            ),
+            RunRefusal::NotPublished => f.write_str(
+                "no memory to publish the first batch: run again",
+            ),
+            RunRefusal::OutOfMemory => f.write_str(
+                "no memory for the report: run again, on fewer frames",
+            ),
+            RunRefusal::NoThread => f.write_str(
+                "no thread for a port: run again, with fewer ports",
+            ),
+            RunRefusal::NoReading => f.write_str(
+                "the policies in force could not be read: run again",
+            ),
+        }
+    }
+}
+
+impl Error for RunRefusal {}
+
+/// Runs a gateway on lists of frames, one for each port: see `run_from`. It may wait.
+pub fn run<R: Threads + Wait + Sync, G: Gate>(
+    rt: &R,
+    alloc: Global,
+    limits: Limits,
+    first: Batch,
+    inputs: Vec<Vec<Frame>>,
+    batches: Vec<Batch>,
+    gate: &G,
+) -> Result<RunReport, RunRefusal>
+    requires { vec_len inputs ≡ limits.ports }
+    ensures ran { IfOk result (λ report. (made : List (IntoIter (List ℕ) Global))
+        × (map into_iter_items made ≡ map (λ list. list.items) inputs.items)
+        × IsRun into_iter_steps limits first made batches.items report) }
+    ensures refused { result ≡ Err NoSuchPort → ¬ PortsBelow limits.ports first }
+{
+    let Ok((inputs, sizes)) = iterators(alloc, inputs) else {
+        return Err(RunRefusal::OutOfMemory);
+    };
+    run_from(rt, alloc, limits, first, inputs, sizes, batches, gate)
+}
+
+// The lists as iterators, and their lengths.
+fn iterators(
+    alloc: Global,
+    lists: Vec<Vec<Frame>>,
+) -> Result<(Vec<IntoIter<Frame>>, Vec<usize>), AllocError>
+    ensures count { IfOk result (λ made. (vec_len made.0 ≡ vec_len lists) × (vec_len made.1 ≡ vec_len lists)) }
+    ensures items { IfOk result (λ made. map into_iter_items made.0.items ≡ map (λ list. list.items) lists.items) }
+    ensures sizes { IfOk result (λ made. (k : ℕ) (d : _) → k < length made.0.items
+        → into_iter_len (slice_index_or made.0.items k d) ≡ slice_index made.1.items k) }
+{
+    let mut inputs = Vec::with_capacity(alloc, lists.len())?;
+    let mut sizes = Vec::with_capacity(alloc, lists.len())?;
+    for list in lists {
+        sizes.push(list.len())?;
+        inputs.push(list.into_iter())?;
+    }
+    Ok((inputs, sizes))
+}
+
+/// Runs a gateway: publishes the first batch and tells each port; then a thread for each port offers the frames of its input,
+/// a thread for each port takes copies out, and this one publishes the batches. `sizes` has how many frames an input gives at
+/// most: the room for what is reported is made before a thread starts. It may wait.
+pub fn run_from<R: Threads + Wait + Sync, G: Gate, I: Iterator<Item = Frame> + Send>(
+    rt: &R,
+    alloc: Global,
+    limits: Limits,
+    first: Batch,
+    inputs: Vec<I>,
+    sizes: Vec<usize>,
+    batches: Vec<Batch>,
+    gate: &G,
+) -> Result<RunReport, RunRefusal>
+    requires count { (vec_len inputs ≡ limits.ports) × (vec_len sizes ≡ limits.ports) }
+    requires inputs { (k : ℕ) (d : I) → k < length inputs.items → I.can_next (slice_index_or inputs.items k d)
+        × UpTo (I.remaining (slice_index_or inputs.items k d)) (slice_index sizes.items k) }
+    ensures ran { IfOk result (IsRun I.next_gives limits first inputs.items batches.items) }
+    ensures refused { result ≡ Err NoSuchPort → ¬ PortsBelow limits.ports first }
+{
+    let parts = match open(rt, alloc, limits, first) {
+        Ok(parts) => parts,
+        Err(why) => return Err(why),
+    };
+    let Parts {
+        operator,
+        ins,
+        outs,
+    } = parts;
+    let Ok(prepared) = prepare(alloc, limits, ins, outs, inputs, &sizes, batches.len()) else {
+        return Err(RunRefusal::OutOfMemory);
+    };
+    let Prepared {
+        takings,
+        taken,
+        offerings,
+        done,
+        sources,
+        sinks,
+        fronts,
+    } = prepared;
+    let feeding = Feeding {
+        ports: offerings,
+        all: done,
+        publishing: Publishing {
+            operator,
+            batches,
+            fronts,
+        },
+    };
+    let Some((taken, done, published)) = start_taking(rt, gate, takings, taken, feeding) else {
+        return Err(RunRefusal::NoThread);
+    };
+    let sources = sources.gather(done);
+    let sinks = sinks.gather(taken);
+    let parts = Parts {
+        operator: published.operator,
+        ins: sources.ports,
+        outs: sinks.ports,
+    };
+    match close(alloc, parts) {
+        Ok(report) => Ok(RunReport {
+            outcomes: sources.outcomes,
+            stops: sources.stops,
+            fronts: published.fronts,
+            refused: published.refused,
+            out: sinks.out,
+            report,
+        }),
+        Err(CloseRefusal::OutOfMemory(_)) => Err(RunRefusal::OutOfMemory),
+        Err(CloseRefusal::NoReading(_)) => Err(RunRefusal::NoReading),
+    }
+}
+
+/// The parts of a new gateway, each port of which knows the first batch.
+fn open<R: Wait>(rt: &R, alloc: Global, limits: Limits, first: Batch) -> Result<Parts, RunRefusal>
+    ensures opened { IfOk result (λ parts. IsOpened limits first parts.operator parts.ins.items parts.outs.items) }
+    ensures refused { result ≡ Err NoSuchPort → ¬ PortsBelow limits.ports first }
+{
+    let mut parts = match gateway(alloc, limits) {
+        Ok(parts) => parts,
+        Err(why) => return Err(RunRefusal::NotMade(why)),
+    };
+    match parts.operator.replace(rt, first) {
+        Ok(_) => {}
+        Err(ReplaceRefusal::NoSuchPort(_)) => return Err(RunRefusal::NoSuchPort),
+        Err(_) => return Err(RunRefusal::NotPublished),
+    }
+    let told = parts.operator.tell();
+    learn_all(&mut parts.ins, &told);
+    Ok(parts)
+}
+
+// Each of these ports, which know nothing, knows what was told from now on.
+fn learn_all(ports: &mut [PortIn], told: &Told)
+    requires { All (λ i. (i.board ≡ told.now.board) × (i.known ≡ [])) ports.old }
+    ensures size { length ports.new ≡ length ports.old }
+    ensures told { (k : ℕ) (d : Ingress) → k < length ports.old
+        → slice_index_or ports.new k d ≡ record (slice_index_or ports.old k d) { known = told.now.batches } }
+{
+    for index in 0..ports.len() {
+        ports[index].learn(told);
+    }
+}

@@ -1,0 +1,68 @@
+//! Gathers what the threads of a run did, port by port. It takes no memory.
+
+use super::offering::Done;
+use super::taking::Taking;
+use crate::{OfferRefusal, PortIn, PortOut};
+use gw_ledger::{FrameCopy, Outcome};
+
+/// The ports in with what became of their frames, by port.
+#[derive(Drop)]
+pub(super) struct Sources {
+    pub ports: Vec<PortIn>,
+    pub outcomes: Vec<Vec<Outcome>>,
+    pub stops: Vec<Option<OfferRefusal>>,
+}
+
+impl Sources {
+    ghost use Rattle.std.specs.Prelude.{◌≡◌, ◌≤◌, [], map, vec_capacity, vec_len};
+
+    pub fn gather(self, done: Vec<Done>) -> Sources
+        requires empty { (self.ports.items ≡ []) × (self.outcomes.items ≡ []) × (self.stops.items ≡ []) }
+        requires room { (vec_len done ≤ vec_capacity self.ports) × (vec_len done ≤ vec_capacity self.outcomes)
+            × (vec_len done ≤ vec_capacity self.stops) }
+        ensures ports { result.ports.items ≡ map (λ one. one.port) done.items }
+        ensures outcomes { result.outcomes.items ≡ map (λ one. one.outcomes) done.items }
+        ensures stops { result.stops.items ≡ map (λ one. one.stop) done.items }
+    {
+        let Sources {
+            mut ports,
+            mut outcomes,
+            mut stops,
+        } = self;
+        for one in done {
+            ports.push_reserved(one.port);
+            outcomes.push_reserved(one.outcomes);
+            stops.push_reserved(one.stop);
+        }
+        Sources {
+            ports,
+            outcomes,
+            stops,
+        }
+    }
+}
+
+/// The ports out with the copies that were taken there, by port.
+#[derive(Drop)]
+pub(super) struct Sinks {
+    pub ports: Vec<PortOut>,
+    pub out: Vec<Vec<FrameCopy>>,
+}
+
+impl Sinks {
+    ghost use Rattle.std.specs.Prelude.{◌≡◌, ◌≤◌, [], map, vec_capacity, vec_len};
+
+    pub fn gather(self, taken: Vec<Taking>) -> Sinks
+        requires empty { (self.ports.items ≡ []) × (self.out.items ≡ []) }
+        requires room { (vec_len taken ≤ vec_capacity self.ports) × (vec_len taken ≤ vec_capacity self.out) }
+        ensures ports { result.ports.items ≡ map (λ one. one.port) taken.items }
+        ensures out { result.out.items ≡ map (λ one. one.out) taken.items }
+    {
+        let Sinks { mut ports, mut out } = self;
+        for one in taken {
+            ports.push_reserved(one.port);
+            out.push_reserved(one.out);
+        }
+        Sinks { ports, out }
+    }
+}

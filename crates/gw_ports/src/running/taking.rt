@@ -1,0 +1,186 @@
+//! One thread per port takes copies out.
+
+ghost use Rattle.std.specs.Prelude.{◌≡◌, ◌≤◌, ◌++◌, ◌∷◌, [], ℕ, All, IfSome, MatchBool, min, vec_capacity, vec_len};
+ghost use Rattle.std.specs.Iterator.{IsFinite, size};
+ghost use Rattle.gw_ports.specs.Running.{HasTaken, IsDone, IsReady, Pairwise, Publishes};
+ghost use Rattle.gw_ports.specs.Ends.{end_out};
+ghost use Rattle.gw_ports.specs.Sending.{Sends};
+
+use super::offering::{Done, Offering, start_offering};
+use super::publishing::{Published, Publishing};
+use crate::{Gate, PortOut};
+use gw_frame::Frame;
+use gw_ledger::FrameCopy;
+use std::marker::{Send, Sync};
+use std::snapshot::Snapshot;
+use std::sync::Wait;
+use std::sync::atomic::{AtomicBool, Ordering};
+use std::thread::{Promise, Scope, Threads, scope, scope_env, yield_now};
+
+/// A port that takes copies out, with room for all that may come.
+#[derive(Drop)]
+pub(super) struct Taking {
+    pub port: PortOut,
+    pub out: Vec<FrameCopy>,
+}
+
+impl Taking {
+    ghost use Rattle.std.specs.Prelude.{◌≡◌, []};
+    ghost use Rattle.gw_ports.specs.Running.{HasTaken};
+
+    // Takes copies until a round over the lanes that began after the last offer gave none.
+    fn take_all<R: Wait>(self, rt: &R, is_over: &AtomicBool) -> Taking
+        requires { self.out.items ≡ [] }
+        ensures { HasTaken self.port result }
+    {
+        let Taking { mut port, mut out } = self;
+        for _ in rt.forever() {
+            let is_last = is_over.load(Ordering::SeqCst);
+            if !take_one(&mut port, &mut out) {
+                if is_last {
+                    break;
+                }
+                yield_now();
+            }
+        }
+        Taking { port, out }
+    }
+}
+
+// Takes the next copy, if there is one and room for it. There is room for all that the other ports may place.
+fn take_one(port: &mut PortOut, out: &mut Vec<FrameCopy>) -> bool
+    ensures end { end_out port.new ≡ end_out port.old }
+    ensures taken { MatchBool result
+        ((copy : FrameCopy) × (source : ℕ) × Sends source port.old copy port.new × (out.new.items ≡ out.old.items ++ copy ∷ []))
+        ((port.new ≡ port.old) × (out.new.items ≡ out.old.items)) }
+{
+    if out.len() >= out.capacity() {
+        return false;
+    }
+    match port.next() {
+        Some(copy) => {
+            out.push_reserved(copy);
+            true
+        }
+        None => false,
+    }
+}
+
+// What is known of a port that has taken copies out.
+#[derive(Drop)]
+struct Takes(Snapshot<Taking>);
+
+impl Promise<Taking> for Takes {
+    ghost use Rattle.gw_ports.specs.Running.{HasTaken};
+
+    ghost kept_by = { λ p taken. HasTaken p.0.value.port taken };
+}
+
+/// What the ports in and the operator are to do in a run.
+#[derive(Drop)]
+pub(super) struct Feeding<I> {
+    pub ports: Vec<Offering<I>>,
+    pub all: Vec<Done>,
+    pub publishing: Publishing,
+}
+
+// Starts a thread for each of the ports, from the last one down, feeds the gateway, and joins them. None where no thread could
+// be made.
+fn take_out<'s, E, R, G, I>(
+    threads: &'s Scope<'s, E>,
+    rt: &'s R,
+    gate: &G,
+    is_over: &'s AtomicBool,
+    mut ports: Vec<Taking>,
+    all: Vec<Taking>,
+    feeding: Feeding<I>,
+) -> Option<(Vec<Taking>, Vec<Done>, Published)>
+where
+    R: Threads + Wait + Sync,
+    G: Gate,
+    I: Iterator<Item = Frame> + Send,
+    requires inputs { All (λ o. I.can_next o.input × IsFinite (I.remaining o.input)) feeding.ports.items }
+    requires room { All (λ o. min (size (I.remaining o.input)) o.port.frames ≤ vec_capacity o.outcomes) feeding.ports.items }
+    requires new { All (λ o. IsReady o.port × (o.outcomes.items ≡ [])) feeding.ports.items }
+    requires gathered { (feeding.all.items ≡ []) × (vec_len feeding.ports ≤ vec_capacity feeding.all) }
+    requires fronts { (feeding.publishing.fronts.items ≡ [])
+        × (vec_len feeding.publishing.batches ≤ vec_capacity feeding.publishing.fronts) }
+    requires empty { All (λ t. t.out.items ≡ []) ports.items }
+    requires takings { (all.items ≡ []) × (vec_len ports ≤ vec_capacity all) }
+    ensures taken { IfSome result (λ r. Pairwise (λ t taken. HasTaken t.port taken) ports.items r.0.items
+        × (vec_capacity r.0 ≡ vec_capacity all)) }
+    ensures done { IfSome result (λ r. Pairwise (λ o one. IsDone I.next_gives o.port o.input one)
+        feeding.ports.items r.1.items) }
+    ensures published { IfSome result (λ r. Publishes feeding.publishing.operator feeding.publishing.batches.items
+        r.2.fronts.items r.2.refused r.2.operator) }
+{
+    match ports.pop() {
+        None => {
+            let fed = start_offering(rt, gate, feeding.ports, feeding.all, feeding.publishing);
+            is_over.store(true, Ordering::SeqCst);
+            let (done, published) = fed?;
+            Some((all, done, published))
+        }
+        Some(port) => {
+            let promise = Takes(Snapshot::of(&port));
+            let Ok(thread) = threads.spawn_with(
+                promise,
+                move || -> Taking
+                    requires { port.out.items ≡ [] }
+                { port.take_all(rt, is_over) },
+            ) else {
+                is_over.store(true, Ordering::SeqCst);
+                return None;
+            };
+            let others = take_out(threads, rt, gate, is_over, ports, all, feeding);
+            let taken = thread.join(rt);
+            let (mut all, done, published) = others?;
+            all.push_reserved(taken);
+            Some((all, done, published))
+        }
+    }
+}
+
+/// Starts all threads of a run, and joins them. None where no thread could be made.
+pub(super) fn start_taking<R, G, I>(
+    rt: &R,
+    gate: &G,
+    ports: Vec<Taking>,
+    all: Vec<Taking>,
+    feeding: Feeding<I>,
+) -> Option<(Vec<Taking>, Vec<Done>, Published)>
+where
+    R: Threads + Wait + Sync,
+    G: Gate,
+    I: Iterator<Item = Frame> + Send,
+    requires inputs { All (λ o. I.can_next o.input × IsFinite (I.remaining o.input)) feeding.ports.items }
+    requires room { All (λ o. min (size (I.remaining o.input)) o.port.frames ≤ vec_capacity o.outcomes) feeding.ports.items }
+    requires new { All (λ o. IsReady o.port × (o.outcomes.items ≡ [])) feeding.ports.items }
+    requires gathered { (feeding.all.items ≡ []) × (vec_len feeding.ports ≤ vec_capacity feeding.all) }
+    requires fronts { (feeding.publishing.fronts.items ≡ [])
+        × (vec_len feeding.publishing.batches ≤ vec_capacity feeding.publishing.fronts) }
+    requires empty { All (λ t. t.out.items ≡ []) ports.items }
+    requires takings { (all.items ≡ []) × (vec_len ports ≤ vec_capacity all) }
+    ensures taken { IfSome result (λ r. Pairwise (λ t taken. HasTaken t.port taken) ports.items r.0.items) }
+    ensures done { IfSome result (λ r. Pairwise (λ o one. IsDone I.next_gives o.port o.input one)
+        feeding.ports.items r.1.items) }
+    ensures published { IfSome result (λ r. Publishes feeding.publishing.operator feeding.publishing.batches.items
+        r.2.fronts.items r.2.refused r.2.operator) }
+{
+    let is_over = AtomicBool::new(false);
+    let over = &is_over;
+    scope(
+        scope_env(),
+        rt,
+        move |threads| -> Option<(Vec<Taking>, Vec<Done>, Published)>
+            requires { All (λ o. I.can_next o.input × IsFinite (I.remaining o.input)) feeding.ports.items
+                × All (λ o. min (size (I.remaining o.input)) o.port.frames ≤ vec_capacity o.outcomes) feeding.ports.items
+                × All (λ o. IsReady o.port × (o.outcomes.items ≡ [])) feeding.ports.items
+                × (feeding.all.items ≡ []) × (vec_len feeding.ports ≤ vec_capacity feeding.all)
+                × (feeding.publishing.fronts.items ≡ [])
+                × (vec_len feeding.publishing.batches ≤ vec_capacity feeding.publishing.fronts)
+                × All (λ t. t.out.items ≡ []) ports.items
+                × (all.items ≡ []) × (vec_len ports ≤ vec_capacity all) }
+        { take_out(threads, rt, gate, over, ports, all, feeding) },
+    )
+}
