@@ -1,0 +1,11 @@
+mod ScriptExamples
+pub mod HexDigits
+pub mod Pieces
+pub mod Numbers
+pub mod PortLists
+pub mod Sessions
+pub mod CutLines
+pub mod KeptLines
+pub mod Reaching
+pub mod Streams
+pub mod Answering

@@ -1,0 +1,13 @@
+use Rattle.std.proofs.Common.{◌≡◌, false}
+use Rattle.gw_trace.specs.Tries.{inner_of, has_failed, reads_of}
+use Rattle.gw_replay.specs.Reached.{IsUnderWay}
+use Rattle.gw_replay.proofs.whole.replay_told.Given as goal
+
+abbrev pub invariant-pieces : goal.invariant-pieces
+invariant-pieces g l = record {
+  whole : has_failed l.reader ≡ false;
+  counted : reads_of l.reader ≡ l._read;
+  writes : has_failed l.writer ≡ false;
+  way : IsUnderWay (g.R.Read.remaining (inner_of l.fn.reader)) (g.R.Read.remaining (inner_of l.reader))
+      (g.W.Write.contents (inner_of l.fn.writer)) (g.W.Write.contents (inner_of l.writer)) l.progress;
+}

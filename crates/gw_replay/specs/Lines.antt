@@ -1,0 +1,29 @@
+-- The lines of a script. A line feed ends a line, and a carriage return right before that line feed belongs to the line's end.
+-- What stands behind the last line feed is a line without an end.
+use Rattle.std.specs.Prelude.{ℕ, ◌==◌, ◌-◌, Bool, if◌then◌else◌, List, [], ◌∷◌, length, take, slice_index}
+use Rattle.std.specs.List.{slice_split}
+
+-- an octet of this value, and a line feed
+abbrev pub is_octet : ℕ → ℕ → Bool
+is_octet octet c = c == octet
+
+abbrev pub is_line_feed : ℕ → Bool
+is_line_feed = is_octet 10
+
+-- a line that a line feed ended, without a carriage return there
+abbrev pub without_return : List ℕ → List ℕ
+without_return line = if slice_index line (length line - 1) == 13 then take (length line - 1) line else line
+
+-- a line without its end, where a line feed ended it
+abbrev pub ended_line : Bool → List ℕ → List ℕ
+ended_line ended line = if ended then without_return line else line
+
+-- lines without their ends: the last one has none
+abbrev pub without_ends : List (List ℕ) → List (List ℕ)
+without_ends [] = []
+without_ends (last ∷ []) = last ∷ []
+without_ends (line ∷ next ∷ more) = without_return line ∷ without_ends (next ∷ more)
+
+-- the lines of a text, without their ends
+abbrev pub lines_of : List ℕ → List (List ℕ)
+lines_of text = without_ends (slice_split is_line_feed text)

@@ -1,0 +1,106 @@
+-- The answers of a script: each line is judged after the lines before it.
+use Rattle.std.specs.Prelude.{◌≡◌, ℕ, ◌==◌, Bool, true, not, ◌&&◌, nat_le, nat_lt, if◌then◌else◌, List, [], ◌∷◌, ◌++◌}
+use Rattle.std.specs.Prelude.{length, reverse, codes, Option, Some, None, Result, Err}
+use Rattle.std.specs.List.{list_all}
+use Rattle.std.specs.Option.{option_map_or}
+use Rattle.gw_ledger.specs.Bounds.{Bounds}
+use Rattle.gw_replay.specs.declared.fault.Fault.{Fault}
+use Rattle.gw_replay.specs.declared.fault.Fault.TheVariants as fault
+use Rattle.gw_replay.specs.Faults.{line_of}
+use Rattle.gw_replay.specs.Lines.{lines_of}
+use Rattle.gw_replay.specs.Requests.{Request, limits_of, request_of}
+use Rattle.gw_replay.specs.Replies.{Session, Reply, Replies}
+
+-- what a line says by itself: nothing, no command, or a command
+pub data Meaning : Type 0 where
+  silent : Meaning
+  wrong : Fault → Meaning
+  asks : Request → Meaning
+
+-- an empty line and one that begins with `#` have no answer
+abbrev pub is_silent : List ℕ → Bool
+is_silent [] = true
+is_silent (c ∷ cs) = c == 35
+
+-- the most octets of a line
+abbrev pub most_octets : ℕ
+most_octets = 1048576
+
+-- no octet is above 127
+abbrev pub is_ascii : List ℕ → Bool
+is_ascii line = list_all (λ c. nat_lt c 128) line
+
+-- what a line says
+abbrev pub meaning_of : List ℕ → Meaning
+meaning_of line =
+    if is_silent line then silent
+    else if nat_lt most_octets (length line) then wrong fault.LongLine
+    else if not (is_ascii line) then wrong fault.NoAscii
+    else option_map_or asks (request_of line) (wrong fault.NoCommand)
+
+-- the answer of a line, and the gateway that stands afterwards, if limits were accepted
+pub record Told : Type 0 where
+  pub text : List ℕ
+  pub session : Option Session
+
+-- from one number to another
+abbrev pub is_within : ℕ → ℕ → ℕ → Bool
+is_within low high n = nat_le low n && nat_le n high
+
+-- 2 to 16 ports, lanes of 1 to 1024 copies, 1 to 65535 versions, and 1 to 4294967295 frames
+abbrev pub limits_fit : Bounds → Bool
+limits_fit limits =
+    (is_within 2 16 limits.ports && is_within 1 1024 limits.lane)
+    && (is_within 1 65535 limits.versions && is_within 1 4294967295 limits.frames)
+
+-- a new gateway
+abbrev pub new_session : Bounds → Session
+new_session limits = record { limits = limits; batch = []; history = [] }
+
+-- a line while there is no gateway
+abbrev pub told_without : Result (List ℕ) Fault → Told
+told_without said = record { text = line_of said; session = None }
+
+-- limits make a gateway where they are within their ranges
+abbrev pub after_limits : Bounds → Told
+after_limits limits =
+    if limits_fit limits then record { text = codes "limits\n"; session = Some (new_session limits) }
+    else told_without (Err (fault.BadLimits))
+
+-- before limits were accepted no other command is
+abbrev pub first_told : Request → Told
+first_told (limits_of ports lane versions frames) =
+    after_limits (record { ports = ports; lane = lane; versions = versions; frames = frames })
+first_told _ = told_without (Err fault.NoLimits)
+
+-- the answer of a command, and what stands afterwards
+abbrev pub Obeys : Option Session → Request → Told → Type 0
+Obeys None request told = told ≡ first_told request
+Obeys (Some s) request told =
+    (reply : Reply) × Replies s request reply × (told ≡ record { text = line_of reply.said; session = Some reply.session })
+
+-- the answer of a line by its meaning
+abbrev pub Answers : Option Session → Meaning → Told → Type 0
+Answers s silent told = told ≡ record { text = []; session = s }
+Answers s (wrong fault) told = told ≡ record { text = line_of (Err fault); session = s }
+Answers s (asks request) told = Obeys s request told
+
+-- the answers of lines, of which the last stands first here, and the gateway that stands after them
+abbrev pub AreAnswers : List (List ℕ) → Told → Type 0
+AreAnswers [] told = told ≡ record { text = []; session = None }
+AreAnswers (line ∷ before) told =
+    (earlier : Told) × (one : Told) × AreAnswers before earlier × Answers earlier.session (meaning_of line) one
+    × (told ≡ record { text = earlier.text ++ one.text; session = one.session })
+
+-- the answers of a script
+pub record IsAnswer (script text : List ℕ) : Type 0 where
+  pub session : Option Session
+  pub answers : AreAnswers (reverse (lines_of script)) (record { text = text; session = session })
+
+-- the answers of a script's first lines
+pub record BeginsAnswer (script text : List ℕ) : Type 0 where
+  pub first : List (List ℕ)
+  pub later : List (List ℕ)
+  pub lines : lines_of script ≡ first ++ later
+  pub session : Option Session
+  pub answers : AreAnswers (reverse first) (record { text = text; session = session })

@@ -1,0 +1,179 @@
+//! How far a script was read and answered.
+
+ghost use Rattle.std.specs.Prelude.{◌≡◌, ◌<◌, ◌+◌, ◌++◌, [], ℕ, List, Option, None, length, true, false};
+ghost use Rattle.std.specs.Prelude.{OnOk, OnErr, IfOk, IfErr, option_copied};
+ghost use Rattle.std.specs.Io.KnownBytes.{Appends};
+ghost use Rattle.gw_trace.specs.Tries.{inner_of, has_failed};
+ghost use Rattle.gw_replay.specs.Written.{WritesPart};
+
+use crate::lines::{line_in, place_of};
+use crate::script::{MOST, Said, Script};
+use crate::whole::ReplayFault;
+use crate::writing::write_all;
+use gw_trace::Tried;
+use std::alloc::{AllocError, Global};
+use std::io::Write;
+
+/// How many octets of an unfinished line are kept: one with more is too long, whatever follows.
+const KEPT: usize = MOST + 2;
+
+/// How far a script was read and answered.
+#[derive(Drop)]
+pub struct Progress {
+    pub script: Script,
+    // the line that is unfinished, or its beginning where it is too long
+    pub kept: Vec<u8>,
+    // answers that are to be written
+    pub answers: Vec<u8>,
+    // how many lines were ended, for a person
+    pub lines: u64,
+}
+
+impl Progress {
+    ghost use Rattle.std.specs.Prelude.{take, ◌-◌};
+    ghost use Rattle.gw_replay.specs.Replies.{Session};
+    ghost use Rattle.gw_replay.specs.Lines.{ended_line};
+    ghost use Rattle.gw_replay.specs.Standing.{StandsIn};
+    ghost use Rattle.gw_replay.specs.Reached.{HasReached, HasFed, FeedsLine, AnswersKept, EndsWith, IsEndFault};
+    ghost use Rattle.gw_replay.specs.Reached.{most_kept, left_behind};
+
+    /// Before the first octet.
+    pub fn new(alloc: Global) -> Progress
+        ensures reached { HasReached [] result [] }
+        ensures empty { result.answers.items ≡ [] }
+    {
+        Progress {
+            script: Script::new(),
+            kept: Vec::new(alloc),
+            answers: Vec::new(alloc),
+            lines: 0,
+        }
+    }
+
+    /// Answers the lines that end in a piece, and keeps what stands behind the last of them.
+    pub fn feed<F: Write>(
+        &mut self,
+        alloc: Global,
+        piece: &[u8],
+        faults: &mut Tried<F>,
+    ) -> Result<(), AllocError>
+        ensures fed { (octets text : List ℕ) → HasReached octets self.old (text ++ self.old.answers.items)
+            → HasFed octets piece.now text result self.new }
+    {
+        let mut rest = Some(piece);
+        while let Some(text) = rest {
+            match self.feed_line(alloc, text, faults) {
+                Ok(behind) => rest = behind,
+                Err(AllocError) => return Err(AllocError),
+            }
+        }
+        Ok(())
+    }
+
+    /// Answers the line that ends in a text, and gives what stands behind it; keeps the text where none does.
+    fn feed_line<'a, F: Write>(
+        &mut self,
+        alloc: Global,
+        text: &'a [u8],
+        faults: &mut Tried<F>,
+    ) -> Result<Option<&'a [u8]>, AllocError>
+        ensures fed { (octets before : List ℕ) → HasReached octets self.old (before ++ self.old.answers.items)
+            → FeedsLine octets text.now before result self.new }
+        ensures shorter { IfOk result (λ rest. left_behind (option_copied rest) < length text.now + 1) }
+    {
+        let end = place_of(b'\n', text);
+        if self.keep(&text[..end]).is_err() {
+            return Err(AllocError);
+        }
+        if end == text.len() {
+            return Ok(None);
+        }
+        match self.answer_kept(alloc, true, faults) {
+            Ok(()) => self.kept.clear(),
+            Err(AllocError) => return Err(AllocError),
+        }
+        Ok(Some(&text[end + 1..]))
+    }
+
+    /// Keeps more of the unfinished line.
+    fn keep(&mut self, part: &[u8]) -> Result<(), AllocError>
+        ensures kept { OnOk result (self.new.kept.items ≡ self.old.kept.items
+            ++ take (most_kept - length self.old.kept.items) part.now) }
+        ensures script { self.new.script ≡ self.old.script }
+        ensures answers { self.new.answers ≡ self.old.answers }
+    {
+        let room = KEPT.saturating_sub(self.kept.len()).min(part.len());
+        self.kept.extend_from_slice(&part[..room])
+    }
+
+    /// Answers the line that is kept, which a line feed ended or the script's end.
+    fn answer_kept<F: Write>(
+        &mut self,
+        alloc: Global,
+        ended: bool,
+        faults: &mut Tried<F>,
+    ) -> Result<(), AllocError>
+        ensures answered { (s : Option Session) → StandsIn self.old.script.running s
+            → OnOk result (AnswersKept s (ended_line ended self.old.kept.items) self.old self.new) }
+        ensures kept { self.new.kept ≡ self.old.kept }
+        ensures refused { OnErr result (self.new.answers.items ≡ self.old.answers.items) }
+    {
+        let line = line_in(self.kept.as_slice(), ended);
+        self.lines = self.lines.saturating_add(1);
+        match self.script.answer(alloc, line)? {
+            Said::Nothing => Ok(()),
+            Said::Line(line) => self.answers.extend_from_slice(line.as_bytes()),
+            Said::Refused(fault) => {
+                let number = self.lines;
+                let _ = writeln!(faults, "gw: line {number}: {fault}");
+                self.answers.extend_from_slice(fault.line().as_bytes())
+            }
+        }
+    }
+
+    /// Writes the answers that are to be written.
+    pub fn write<W: Write>(&mut self, writer: &mut Tried<W>) -> Result<(), ReplayFault>
+        requires { has_failed writer.old ≡ false }
+        ensures written { OnOk result (Appends (W.contents (inner_of writer.old)) (W.contents (inner_of writer.new))
+            self.old.answers.items) }
+        ensures part { OnErr result (WritesPart (W.contents (inner_of writer.old)) (W.contents (inner_of writer.new))
+            self.old.answers.items) }
+        ensures whole { OnOk result (has_failed writer.new ≡ false) }
+        ensures failed { OnErr result (has_failed writer.new ≡ true) }
+        ensures fault { IfErr result (λ e. e ≡ ReplayFault.WriteFault) }
+        ensures script { self.new.script ≡ self.old.script }
+        ensures kept { self.new.kept ≡ self.old.kept }
+        ensures empty { OnOk result (self.new.answers.items ≡ []) }
+    {
+        match write_all(writer, self.answers.as_slice()) {
+            Ok(()) => {
+                self.answers.clear();
+                Ok(())
+            }
+            Err(_) => Err(ReplayFault::WriteFault),
+        }
+    }
+
+    /// Answers the last line, which no line feed ended, and writes its answer.
+    pub fn end<W: Write, F: Write>(
+        &mut self,
+        alloc: Global,
+        writer: &mut Tried<W>,
+        faults: &mut Tried<F>,
+    ) -> Result<(), ReplayFault>
+        requires { has_failed writer.old ≡ false }
+        ensures ended { (octets text : List ℕ) → HasReached octets self.old (text ++ self.old.answers.items)
+            → EndsWith octets text (W.contents (inner_of writer.old)) (W.contents (inner_of writer.new)) result }
+        ensures whole { OnOk result (has_failed writer.new ≡ false) }
+        ensures failed { IfErr result (IsEndFault (has_failed writer.new)) }
+    {
+        let answered = self.answer_kept(alloc, false, faults);
+        if self.write(writer).is_err() {
+            return Err(ReplayFault::WriteFault);
+        }
+        match answered {
+            Ok(()) => Ok(()),
+            Err(AllocError) => Err(ReplayFault::OutOfMemory),
+        }
+    }
+}

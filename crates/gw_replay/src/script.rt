@@ -1,0 +1,126 @@
+//! A script's state, and what each line does to it.
+
+ghost use Rattle.std.specs.Prelude.{◌≡◌, IfOk, IfErr};
+ghost use Rattle.gw_replay.specs.Commands.{command_view, meaning_view};
+ghost use Rattle.gw_replay.specs.Scripts.{is_ascii, meaning_of};
+ghost use Rattle.gw_replay.specs.Standing.{Begins, IsFirstFault};
+
+use crate::command::{Command, command_of};
+use crate::fault::Fault;
+use crate::line::Line;
+use crate::running::Running;
+use std::alloc::{AllocError, Global};
+
+/// The most octets of a line.
+pub const MOST: usize = 1_048_576;
+
+/// What a line says by itself.
+#[derive(Drop)]
+pub enum Meaning<'a> {
+    /// An empty line or a comment.
+    Silent,
+    /// A line that is no command.
+    Wrong(Fault),
+    Asks(Command<'a>),
+}
+
+/// What a line says by itself.
+pub fn meaning_of(line: &[u8]) -> Meaning<'_>
+    ensures { meaning_view result ≡ meaning_of line.now }
+{
+    if line.is_empty() || line[0] == b'#' {
+        return Meaning::Silent;
+    }
+    if line.len() > MOST {
+        return Meaning::Wrong(Fault::LongLine);
+    }
+    if !is_ascii(line) {
+        return Meaning::Wrong(Fault::NoAscii);
+    }
+    match command_of(line) {
+        Some(command) => Meaning::Asks(command),
+        None => Meaning::Wrong(Fault::NoCommand),
+    }
+}
+
+/// Whether no octet is above 127.
+fn is_ascii(line: &[u8]) -> bool
+    ensures { result ≡ is_ascii line.now }
+{
+    line.iter().all(|c| *c < 128)
+}
+
+/// What a line is answered.
+#[derive(Drop)]
+pub enum Said {
+    Nothing,
+    Line(Line),
+    Refused(Fault),
+}
+
+/// What the lines of a script have made so far: a gateway, once limits were accepted.
+#[derive(Drop)]
+pub struct Script {
+    pub running: Option<Running>,
+}
+
+impl Script {
+    ghost use Rattle.std.specs.Prelude.{Option, None};
+    ghost use Rattle.gw_replay.specs.Faults.{UnlessMemory};
+    ghost use Rattle.gw_replay.specs.Replies.{Session};
+    ghost use Rattle.gw_replay.specs.Said.{said_text};
+    ghost use Rattle.gw_replay.specs.Standing.{StandsIn, IsObeyed, IsAnswered};
+
+    /// Before the first line.
+    pub fn new() -> Script
+        ensures { result.running ≡ None }
+    {
+        Script { running: None }
+    }
+
+    /// What a line is answered, unless the memory that it needs was refused.
+    pub fn answer(&mut self, alloc: Global, line: &[u8]) -> Result<Said, AllocError>
+        ensures { (s : Option Session) → StandsIn self.old.running s
+            → IfOk result (λ said. IsAnswered s line.now (said_text said) self.new.running) }
+    {
+        let asked = match meaning_of(line) {
+            Meaning::Silent => return Ok(Said::Nothing),
+            Meaning::Wrong(fault) => return Ok(Said::Refused(fault)),
+            Meaning::Asks(command) => command,
+        };
+        match self.obey(alloc, asked) {
+            Ok(line) => Ok(Said::Line(line)),
+            Err(Fault::OutOfMemory) => Err(AllocError),
+            Err(fault) => Ok(Said::Refused(fault)),
+        }
+    }
+
+    fn obey(&mut self, alloc: Global, asked: Command<'_>) -> Result<Line, Fault>
+        ensures { (s : Option Session) → StandsIn self.old.running s
+            → UnlessMemory result (λ said. IsObeyed s (command_view asked.entry) said self.new.running) }
+    {
+        match &mut self.running {
+            Some(running) => running.obey(alloc, asked),
+            None => {
+                self.running = Some(begin(alloc, asked)?);
+                Ok(Line::new().text("limits\n"))
+            }
+        }
+    }
+}
+
+/// Makes the gateway: before that no other command is accepted.
+fn begin(alloc: Global, asked: Command<'_>) -> Result<Running, Fault>
+    ensures made { IfOk result (Begins (command_view asked.entry)) }
+    ensures refused { IfErr result (IsFirstFault (command_view asked.entry)) }
+{
+    match asked {
+        Command::Limits {
+            ports,
+            lane,
+            versions,
+            frames,
+        } => Running::new(alloc, ports, lane, versions, frames),
+        _ => Err(Fault::NoLimits),
+    }
+}

@@ -1,0 +1,106 @@
+//! Whole scripts, from a reader to a writer.
+
+ghost use Rattle.std.specs.Prelude.{◌≡◌, ◌≤◌, false, IfErr, OnOk, OnErr};
+ghost use Rattle.gw_trace.specs.Tries.{inner_of, has_failed, reads_of};
+ghost use Rattle.gw_replay.specs.Written.{IsReplayed, IsPartlyReplayed, IsReplayFault, most_reads};
+
+use crate::progress::Progress;
+use gw_trace::Tried;
+use std::alloc::Global;
+use std::io;
+use std::io::{Read, Write};
+use thiserror::Error;
+
+/// The most reads of a script.
+const MOST_READS: u32 = 16_777_216;
+
+/// How many octets are asked of the reader at once.
+const PIECE: usize = 65536;
+
+/// Why a replay ended before the end of its script.
+#[derive(Clone, Copy, PartialEq, Eq, Debug, Error)]
+pub enum ReplayFault {
+    /// 96: a read failed, or 16777216 reads did not reach the end.
+    #[error("the script could not be read to its end")]
+    ReadFault,
+    /// 99: a write failed.
+    #[error("the answers could not be written")]
+    WriteFault,
+    /// 100: the memory that a line needs was refused.
+    #[error("memory was refused")]
+    OutOfMemory,
+}
+
+impl ReplayFault {
+    ghost use Rattle.gw_replay.specs.Written.{fault_number};
+
+    /// The number of the fault: 96, 99 or 100.
+    pub fn number(self) -> u32
+        ensures { result ≡ fault_number self }
+    {
+        match self {
+            ReplayFault::ReadFault => 96,
+            ReplayFault::WriteFault => 99,
+            ReplayFault::OutOfMemory => 100,
+        }
+    }
+}
+
+/// Runs a script, and writes a line for each of its commands, as soon as the piece that ends it was read. Answers that
+/// stand before a fault are written.
+pub fn replay<R: Read, W: Write>(
+    alloc: Global,
+    reader: &mut Tried<R>,
+    writer: &mut Tried<W>,
+) -> Result<(), ReplayFault>
+    requires reader { has_failed reader.old ≡ false }
+    requires unread { reads_of reader.old ≡ 0 }
+    requires writer { has_failed writer.old ≡ false }
+    ensures replayed { OnOk result (IsReplayed (R.remaining (inner_of reader.old)) (R.remaining (inner_of reader.new))
+        (W.contents (inner_of writer.old)) (W.contents (inner_of writer.new))) }
+    ensures part { OnErr result (IsPartlyReplayed (R.remaining (inner_of reader.old)) (R.remaining (inner_of reader.new))
+        (W.contents (inner_of writer.old)) (W.contents (inner_of writer.new))) }
+    ensures fault { IfErr result (IsReplayFault (has_failed reader.new) (reads_of reader.new) (has_failed writer.new)) }
+    ensures read { OnOk result (has_failed reader.new ≡ false) }
+    ensures written { OnOk result (has_failed writer.new ≡ false) }
+    ensures reads { reads_of reader.new ≤ most_reads }
+{
+    replay_told(alloc, reader, writer, &mut Tried::new(io::sink()))
+}
+
+/// The same, and tells a person on the fault stream why lines are refused.
+pub fn replay_told<R: Read, W: Write, F: Write>(
+    alloc: Global,
+    reader: &mut Tried<R>,
+    writer: &mut Tried<W>,
+    faults: &mut Tried<F>,
+) -> Result<(), ReplayFault>
+    requires reader { has_failed reader.old ≡ false }
+    requires unread { reads_of reader.old ≡ 0 }
+    requires writer { has_failed writer.old ≡ false }
+    ensures replayed { OnOk result (IsReplayed (R.remaining (inner_of reader.old)) (R.remaining (inner_of reader.new))
+        (W.contents (inner_of writer.old)) (W.contents (inner_of writer.new))) }
+    ensures part { OnErr result (IsPartlyReplayed (R.remaining (inner_of reader.old)) (R.remaining (inner_of reader.new))
+        (W.contents (inner_of writer.old)) (W.contents (inner_of writer.new))) }
+    ensures fault { IfErr result (IsReplayFault (has_failed reader.new) (reads_of reader.new) (has_failed writer.new)) }
+    ensures read { OnOk result (has_failed reader.new ≡ false) }
+    ensures written { OnOk result (has_failed writer.new ≡ false) }
+    ensures reads { reads_of reader.new ≤ most_reads }
+{
+    let mut progress = Progress::new(alloc);
+    let mut piece = [0; PIECE];
+    'pieces: for _read in 0..MOST_READS {
+        let fed = match reader.read(&mut piece) {
+            Ok(0) => return progress.end(alloc, writer, faults),
+            Ok(n) => progress.feed(alloc, &piece[..n], faults),
+            Err(_) => return Err(ReplayFault::ReadFault),
+        };
+        if progress.write(writer).is_err() {
+            return Err(ReplayFault::WriteFault);
+        }
+        if fed.is_err() {
+            return Err(ReplayFault::OutOfMemory);
+        }
+    }
+    Err(ReplayFault::ReadFault)
+}
