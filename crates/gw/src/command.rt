@@ -2,20 +2,13 @@
 
 ghost use Rattle.std.specs.Prelude.{◌≡◌, length, false, None};
 ghost use Rattle.gw_trace.specs.Tries.{inner_of, has_failed, reads_of};
-ghost use Rattle.gw.specs.Commands.{Does};
-ghost use Rattle.gw.specs.Verdicts.{AnswersVerdict, RefusesVerdict};
+ghost use Rattle.gw_commands.specs.Commands.{Does};
+ghost use Rattle.gw_commands.specs.Verdicts.{AnswersVerdict, RefusesVerdict};
 
-use crate::asm::{asm, list};
-use crate::check::check;
-use crate::claims::claims;
-use crate::refusal::Refusal;
-use crate::respond::respond;
-use crate::streams::write_all;
-use crate::tables::table;
-use crate::verdict::verdict;
 use crate::words::{Request, read_words};
 use clap::Error;
 use clap::error::ErrorKind;
+use gw_commands::{Refusal, asm, check, claims, list, replay, respond, table, verdict, write_all};
 use gw_trace::Tried;
 use std::alloc::Global;
 use std::convert::AsStr;
@@ -51,6 +44,7 @@ pub fn command<S: AsStr, R: Read, W: Write, F: Write>(
         Ok(Request::Asm) => asm(alloc, input, output, faults),
         Ok(Request::List) => list(alloc, input, output, faults),
         Ok(Request::Claims) => claims(alloc, input, output, faults),
+        Ok(Request::Replay) => replay(alloc, input, output, faults),
         Ok(Request::Table { port, frame, why }) => {
             table(alloc, port, frame, why, input, output, faults)
         }

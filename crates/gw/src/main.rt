@@ -1,21 +1,7 @@
 //! The gateway's program.
 #![tactic(auto)]
 
-mod answer;
-mod asm;
-mod check;
-mod claims;
 mod command;
-mod explanation;
-mod line;
-mod lines;
-mod notes;
-mod record;
-mod refusal;
-mod respond;
-mod streams;
-mod tables;
-mod verdict;
 mod words;
 
 use command::command;
@@ -47,5 +33,7 @@ fn main(rt: HostRuntime) -> ExitCode {
 
 #[cfg(test)]
 mod stream_tests;
+#[cfg(test)]
+mod tell_tests;
 #[cfg(test)]
 mod tests;

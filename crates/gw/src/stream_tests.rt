@@ -1,7 +1,7 @@
 //! Streams that fail, under `command`.
 
 use crate::command::command;
-use crate::tests::{FIRST_RUN, R};
+use crate::tests::{EMPTY_TABLE, FIRST_RUN, R};
 use gw_trace::Tried;
 use std::io;
 use std::io::{ErrorKind, Read, Write};
@@ -64,10 +64,6 @@ const WHOLE_RUNS: [(&[&str], &str, &str); 6] = [
     (&["verdict", R], "1,6 0 0 7,", "pass 7\n"),
     (&["table"], "", EMPTY_TABLE),
 ];
-
-/// The listing of the empty table.
-const EMPTY_TABLE: &str =
-    "22,32 0 0 0,84 0 0 3758096384,21 1 0 2147483648,6 0 0 0,48 0 0 3,2 0 0 1,48 0 0 1,53 7 0 240,48 0 0 2,2 0 0 2,32 0 0 0,116 0 0 8,84 0 0 261888,2 0 0 0,5 0 0 6,0 0 0 255,2 0 0 2,32 0 0 0,116 0 0 8,84 0 0 262143,2 0 0 0,6 0 0 0,\n";
 
 #[test]
 fn breaking_readers(rt: HostRuntime) {

@@ -11,15 +11,21 @@ pub const R: &str = "8CF0040008000000FFFFFFFFFFFFFFFF";
 pub const FIRST_RUN: &str =
     "8CF0040008000000FFFFFFFFFFFFFFFF\n4,48 0 0 1,21 0 1 240,6 0 0 1,6 0 0 0,\n";
 
+/// The listing of the empty table.
+pub const EMPTY_TABLE: &str =
+    "22,32 0 0 0,84 0 0 3758096384,21 1 0 2147483648,6 0 0 0,48 0 0 3,2 0 0 1,48 0 0 1,53 7 0 240,48 0 0 2,2 0 0 2,\
+    32 0 0 0,116 0 0 8,84 0 0 261888,2 0 0 0,5 0 0 6,0 0 0 255,2 0 0 2,32 0 0 0,116 0 0 8,84 0 0 262143,2 0 0 0,\
+    6 0 0 0,\n";
+
 /// What a command did: its status, and what it wrote to the output and to the fault stream.
 #[derive(Drop)]
-struct Outcome {
-    status: u8,
-    output: Vec<u8>,
-    faults: Vec<u8>,
+pub struct Outcome {
+    pub status: u8,
+    pub output: Vec<u8>,
+    pub faults: Vec<u8>,
 }
 
-fn outcome_of(alloc: Global, words: &[&str], input: &[u8]) -> Outcome {
+pub fn outcome_of(alloc: Global, words: &[&str], input: &[u8]) -> Outcome {
     let mut output = Vec::new(alloc);
     let mut faults = Vec::new(alloc);
     let mut reader = input;
@@ -38,7 +44,7 @@ fn outcome_of(alloc: Global, words: &[&str], input: &[u8]) -> Outcome {
 }
 
 /// Whether each input under the words gives the status and the output of its row.
-fn answers(rt: &(impl Abort), alloc: Global, words: &[&str], rows: &[(&str, u8, &str)]) {
+pub fn answers(rt: &(impl Abort), alloc: Global, words: &[&str], rows: &[(&str, u8, &str)]) {
     for &(input, status, output) in rows {
         let outcome = outcome_of(alloc, words, input.as_bytes());
         assert_eq!(rt; outcome.status, status, "on {input}");
@@ -216,11 +222,7 @@ fn claims(rt: HostRuntime) {
 fn tables(rt: HostRuntime) {
     let alloc = rt.alloc();
     let rows = [
-        (
-            "",
-            0,
-            "22,32 0 0 0,84 0 0 3758096384,21 1 0 2147483648,6 0 0 0,48 0 0 3,2 0 0 1,48 0 0 1,53 7 0 240,48 0 0 2,2 0 0 2,32 0 0 0,116 0 0 8,84 0 0 261888,2 0 0 0,5 0 0 6,0 0 0 255,2 0 0 2,32 0 0 0,116 0 0 8,84 0 0 262143,2 0 0 0,6 0 0 0,\n",
-        ),
+        ("", 0, EMPTY_TABLE),
         ("x = 1", 1, "refused 51\n"),
         ("rule = 3", 1, "refused 51\n"),
         ("default = \"drop\"", 1, "refused 52\n"),
@@ -306,46 +308,6 @@ fn greatest_input(rt: HostRuntime) -> Result<(), Fail> {
     Ok(())
 }
 
-/// Whether each input under the words is told on the fault stream by the text of its row.
-fn tells(rt: &(impl Abort), alloc: Global, words: &[&str], rows: &[(&str, &str)]) {
-    for &(input, text) in rows {
-        let outcome = outcome_of(alloc, words, input.as_bytes());
-        assert_eq!(rt; outcome.faults.as_slice(), text.as_bytes(), "on {input}");
-    }
-}
-
-#[test]
-fn tells_of_listings(rt: HostRuntime) {
-    let rows = [
-        (
-            "6 0 0 1",
-            "gw: the listing does not begin with the number of its instructions, at most 65535, and a comma, as `1,6 0 0 1,` does (for `tcpdump -ddd`, make each line end a comma)\n",
-        ),
-        (
-            "2,6 0 0 1,",
-            "gw: instruction 1, counted from 0, is not there as `code jt jf k` and a comma, as `21 0 1 2054,` is: decimal numbers, at most 65535, 255, 255 and 4294967295, with one space between\n",
-        ),
-        (
-            "1,6 0 0 1,6 0 0 1,",
-            "gw: something other than white space follows the last of the instructions that the count tells\n",
-        ),
-        (
-            "4,21 0 1 0,2 0 0 3,96 0 0 3,22 0 0 0,",
-            "gw: instruction 2 loads M[3], which the path 0 2 leaves unset\n",
-        ),
-        (
-            "1,7 0 0 0,",
-            "gw: instruction 0, the last, is no return, as `6 0 0 1` is\n",
-        ),
-        (
-            "2,5 0 0 1,6 0 0 0,",
-            "gw: instruction 0 jumps out of the code, which has 2 instructions\n",
-        ),
-    ];
-    tells(&rt, rt.alloc(), &["check"], &rows);
-    tells(&rt, rt.alloc(), &["verdict", R], &rows);
-}
-
 /// The worked examples of assembler texts and of programs' texts.
 #[test]
 fn assembles_and_lists(rt: HostRuntime) {
@@ -379,158 +341,6 @@ fn assembles_and_lists(rt: HostRuntime) {
     answers(&rt, alloc, &["list"], &listings);
 }
 
-/// The usual mistakes in a record: copied from a bus monitor, or a part of it forgotten.
-#[test]
-fn tells_of_records(rt: HostRuntime) {
-    let rows = [
-        (
-            "18FEF100#2A36",
-            "gw: `#` at place 8 of the record is no hexadecimal digit; a record is written 98FEF100 08 000000 and the payload, without spaces\n",
-        ),
-        (
-            "98 FE F1",
-            "gw: ` ` at place 2 of the record is no hexadecimal digit; a record is written 98FEF100 08 000000 and the payload, without spaces\n",
-        ),
-        (
-            "can0  18FEF100   [8]  2A 36 FF FF FF FF FF FF",
-            "gw: `n` at place 2 of the record is no hexadecimal digit; a record is written 98FEF100 08 000000 and the payload, without spaces\n",
-        ),
-        (
-            "98FEF10008F",
-            "gw: the record has 11 hexadecimal digits, an odd number; two make an octet\n",
-        ),
-        (
-            "98FEF100",
-            "gw: a record has at least 8 octets, and this one has 4; a record is written 98FEF100 08 000000 and the payload, without spaces\n",
-        ),
-        (
-            "98FEF1002A36FFFFFFFFFFFF",
-            "gw: a payload has at most 8 octets, and octet 4 says 42; a record is written 98FEF100 08 000000 and the payload, without spaces\n",
-        ),
-        (
-            "8CF0040008000000FFFFFFFFFFFFFFFF00",
-            "gw: a record has at most 16 octets, and this one has 17; a record is written 98FEF100 08 000000 and the payload, without spaces\n",
-        ),
-        (
-            "8CF0040008000000FFFF",
-            "gw: the payload has 2 of the 8 octets that octet 4 says; a record is written 98FEF100 08 000000 and the payload, without spaces\n",
-        ),
-    ];
-    tells(&rt, rt.alloc(), &[], &rows);
-    for (record, text) in rows {
-        tells(
-            &rt,
-            rt.alloc(),
-            &["table", "--frame", record],
-            &[("", text)],
-        );
-    }
-    let lines = [(
-        "\n98FEF100\n",
-        "gw: line 2: a record has at least 8 octets, and this one has 4; a record is written 98FEF100 08 000000 and the payload, without spaces\n",
-    )];
-    tells(&rt, rt.alloc(), &["claims"], &lines);
-}
-
-/// A record without the flag of an extended frame is judged as it is, and a person is told.
-#[test]
-fn tells_of_a_flag_that_lacks(rt: HostRuntime) {
-    let alloc = rt.alloc();
-    let rows = [(
-        "other = \"pass\"",
-        "gw: the identifier 18FEF100 has more than 11 bits and lacks the flag 80000000, so this is no extended frame and a table judges it by `other`; 98FEF100 may be meant\n",
-    )];
-    let words = ["table", "--frame", "18FEF10000000000"];
-    tells(&rt, alloc, &words, &rows);
-    answers(&rt, alloc, &words, &[(rows[0].0, 0, "pass\n")]);
-    let rows = [(
-        "18EEFF80080000000500000000000000",
-        "gw: line 1: the identifier 18EEFF80 has more than 11 bits and lacks the flag 80000000, so it does not count; 98EEFF80 may be meant\n",
-    )];
-    tells(&rt, alloc, &["claims"], &rows);
-    answers(&rt, alloc, &["claims"], &[(rows[0].0, 0, "")]);
-    let standard = [("other = \"pass\"", "")];
-    tells(
-        &rt,
-        alloc,
-        &["table", "--frame", "000007FF00000000"],
-        &standard,
-    );
-}
-
-/// The usual mistakes in a table, each told with its rule, its key and how it is written right.
-#[test]
-fn tells_of_tables(rt: HostRuntime) {
-    let rows = [
-        (
-            "defualt = \"pass\"",
-            "gw: the key \"defualt\" is unknown (`default`?); a table has `default`, `other` and `[[rule]]`\n",
-        ),
-        (
-            "[[rule]]\naction = \"pass\"\n[[rule]]\naction = \"pass\"\nsoruce = 3",
-            "gw: rule 1 has the unknown key \"soruce\" (`source`?); a rule has `action`, `pgn`, `source`, `destination` and `from`\n",
-        ),
-        (
-            "[rule]\naction = \"pass\"",
-            "gw: `rule` is no array of tables; write `[[rule]]`, with two brackets, above each rule\n",
-        ),
-        (
-            "[[rule]]\naction = \"pass\"\ndefault = \"pass\"",
-            "gw: rule 0 has \"default\": behind a `[[rule]]` TOML puts it into that rule; write it above the first `[[rule]]`\n",
-        ),
-        (
-            "[[rule]]\naction = \"allow\"",
-            "gw: the `action` of rule 0 is neither \"pass\" nor \"block\"\n",
-        ),
-        (
-            "[[rule]]\naction = \"pass\"\npgn = [65280, 65000]",
-            "gw: `pgn` of rule 0 runs downwards; write `[lo, hi]` with the lower number first\n",
-        ),
-        (
-            "[[rule]]\naction = \"pass\"\nsource = \"0\"",
-            "gw: `source` of rule 0 is no range; write a number from 0 to 255, or two as `[lo, hi]`, without quotes\n",
-        ),
-    ];
-    tells(&rt, rt.alloc(), &["table"], &rows);
-}
-
-/// Which rule decides a frame, and which rules never can.
-#[test]
-fn tells_of_rules(rt: HostRuntime) {
-    let alloc = rt.alloc();
-    let table =
-        "[[rule]]\naction = \"pass\"\nsource = 0\n[[rule]]\naction = \"block\"\nsource = 0\npgn = 61444\n";
-    let words = ["table", "--why", "--frame", R];
-    tells(
-        &rt,
-        alloc,
-        &words,
-        &[
-            (table, "gw: rule 0 decides\n"),
-            ("", "gw: `default` decides\n"),
-        ],
-    );
-    tells(
-        &rt,
-        alloc,
-        &["table", "--why", "--frame", "0000012300000000"],
-        &[(table, "gw: `other` decides\n")],
-    );
-    answers(&rt, alloc, &words, &[(table, 0, "pass\n")]);
-}
-
-#[test]
-fn tells_of_inputs(rt: HostRuntime) {
-    let alloc = rt.alloc();
-    let latin = outcome_of(alloc, &["table"], &[255]);
-    assert_eq!(rt;
-        latin.faults.as_slice(),
-        b"gw: the input is no text: it is not UTF-8\n".as_slice()
-    );
-    let latin = outcome_of(alloc, &["table"], &[35, 255]);
-    assert_eq!(rt; latin.output.as_slice(), b"refused 98\n".as_slice());
-}
-
 /// A carriage return is dropped before a line feed alone.
 #[test]
 fn returns_without_line_feeds(rt: HostRuntime) {
@@ -549,6 +359,25 @@ fn returns_without_line_feeds(rt: HostRuntime) {
     );
 }
 
+/// A script that is answered, and one whose second line is refused, which ends nothing.
+#[test]
+fn replays_scripts(rt: HostRuntime) {
+    let rows = [
+        (
+            "limits 2 1 1 1\nprogram 1 1,6 0 0 1,\npublish\ntake 0 8CF0040008000000FFFFFFFFFFFFFFFF\nstep 0\nstep 0\n",
+            0,
+            "limits\nprogram 1\npublished 1\ntaken 0 1\nstepped\nfinished 0 1 1 1\n",
+        ),
+        (
+            "# a script\r\nlimits 2 1 1 1\nbogus\nstep 0",
+            0,
+            "limits\nrefused 98\nrefused 74\n",
+        ),
+        ("", 0, ""),
+    ];
+    answers(&rt, rt.alloc(), &["replay"], &rows);
+}
+
 #[test]
 fn words(rt: HostRuntime) {
     let alloc = rt.alloc();
@@ -558,12 +387,13 @@ fn words(rt: HostRuntime) {
     let version = outcome_of(alloc, &["--version"], b"");
     assert_eq!(rt; version.status, 0);
     assert_eq!(rt; version.output.as_slice(), b"gw 0.1.0\n".as_slice());
-    let wrong: [&[&str]; 6] = [
+    let wrong: [&[&str]; 7] = [
         &["bogus"],
         &["verdict", "--port", "16", R],
         &["verdict", R, R],
         &["check", "now"],
-        &["replay"],
+        &["run"],
+        &["replay", "now"],
         &["--"],
     ];
     for words in wrong {

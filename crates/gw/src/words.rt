@@ -20,6 +20,8 @@ pub enum Request<'a> {
     List,
     /// `claims`.
     Claims,
+    /// `replay`.
+    Replay,
     /// `table [--why] [--frame HEX] [--port P]`.
     Table {
         port: u8,
@@ -84,6 +86,13 @@ fn claims_command<'a>(alloc: Global) -> Command<'a> {
         .after_help("Example: gw claims <<< 98EEFF80080000000500000000000000")
 }
 
+fn replay_command<'a>(alloc: Global) -> Command<'a> {
+    Command::new(alloc, "replay")
+        .about("Runs a script of a gateway's events, and writes the answer of each line")
+        .override_usage("gw replay < SCRIPT")
+        .after_help("Example: gw replay < examples/replay/full-lane.script")
+}
+
 fn table_command<'a>(alloc: Global) -> Result<Command<'a>, AllocError> {
     let frame = Arg::new(alloc, "frame")
         .long("frame")
@@ -114,7 +123,8 @@ fn commands<'a>(alloc: Global) -> Result<Command<'a>, AllocError> {
         .version(VERSION)
         .override_usage("gw [COMMAND] < FILE")
         .after_help(
-            "Each command reads the standard input. Without a command the first line of the input is a record and a listing follows.\nA record is written 98FEF100 08 000000 and the payload, without spaces.",
+            "Each command reads the standard input. Without a command the first line of the input is a record and a listing \
+            follows.\nA record is written 98FEF100 08 000000 and the payload, without spaces.",
         )
         .no_binary_name(true)
         .subcommand_required(true)
@@ -123,6 +133,7 @@ fn commands<'a>(alloc: Global) -> Result<Command<'a>, AllocError> {
         .subcommand(asm_command(alloc))?
         .subcommand(list_command(alloc))?
         .subcommand(claims_command(alloc))?
+        .subcommand(replay_command(alloc))?
         .subcommand(table_command(alloc)?)
 }
 
@@ -137,6 +148,7 @@ pub fn read_words<'a, S: AsStr>(alloc: Global, words: &'a [S]) -> Result<Request
         Some(("asm", _)) => Request::Asm,
         Some(("list", _)) => Request::List,
         Some(("claims", _)) => Request::Claims,
+        Some(("replay", _)) => Request::Replay,
         Some(("table", table)) => Request::Table {
             port: table.get_one::<u8>("port").unwrap_or(0),
             frame: table.get_str("frame"),

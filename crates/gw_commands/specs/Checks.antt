@@ -1,0 +1,51 @@
+-- What the command `check` answers, and how it explains a refusal.
+use Rattle.std.specs.Prelude.{◌≡◌, ℕ, List, [], ◌∷◌, ◌++◌, length, codes, decimal}
+use Rattle.std.specs.List.{flat_map}
+use Rattle.gw_insn.specs.declared.insn.Insn.{Insn}
+use Rattle.gw_insn.specs.Listing.{IsListing}
+use Rattle.gw_verify.specs.declared.cause.Cause.{Cause}
+use Rattle.gw_verify.specs.declared.cause.Cause.TheVariants.{UnsetWord}
+use Rattle.gw_verify.specs.declared.refused.Refused.{Refused}
+use Rattle.gw_verify.specs.Cause.{cause_number}
+use Rattle.gw_verify.specs.Flow.{Forms, forms_of, IsBarePathTo}
+use Rattle.gw_verify.specs.Accepted.{IsRefusal}
+use Rattle.gw_commands.specs.declared.answer.Answer.{Answer}
+use Rattle.gw_commands.specs.declared.answer.Answer.TheVariants.{Accepted}
+use Rattle.gw_commands.specs.declared.refusal.Refusal.{Refusal}
+use Rattle.gw_commands.specs.declared.refusal.Refusal.TheVariants.{Listing, Program, Unset, OutOfMemory}
+use Rattle.gw_commands.specs.Refusals.{refused_line, cause_details}
+use Rattle.gw_commands.specs.Verdicts.{NamesProgram, IsProgramRefusal}
+
+-- the number of instructions of the accepted program
+abbrev pub AnswersCheck : List ℕ → Answer → Type 0
+AnswersCheck input (Accepted count) = (program : List Insn) × NamesProgram input program × (count ≡ length program)
+AnswersCheck input _ = ⊥
+
+-- `path` and the places
+abbrev pub path_line : List ℕ → List ℕ
+path_line places = codes "path" ++ flat_map (λ n. 32 ∷ decimal n) places ++ 10 ∷ []
+
+-- a scratch word that may be unset
+abbrev pub IsUnset : Cause → Type 0
+IsUnset (UnsetWord word) = Unit {0}
+IsUnset _ = ⊥
+
+-- the path leads to the place and leaves the word unset
+abbrev pub LeavesUnset : Cause → Forms → ℕ → List ℕ → Type 0
+LeavesUnset (UnsetWord word) forms place places = IsBarePathTo forms places place word
+LeavesUnset _ forms place places = ⊥
+
+-- the listing is that of code which is refused for this
+abbrev pub Refuses : List ℕ → Refused → Type 0
+Refuses input refused = IsListing input refused.code.items × IsRefusal (forms_of refused.code.items) refused.why refused.place
+
+-- an unset word is told with a path before it, and for that memory may be wanting; no other refusal has a path
+abbrev pub RefusesCheck : List ℕ → Refusal → Type 0
+RefusesCheck input (Listing why) = IsProgramRefusal input (Listing why)
+RefusesCheck input (Program refused path) = Refuses input refused × (IsUnset refused.why → ⊥)
+RefusesCheck input (Unset refused path output) =
+    Refuses input refused × LeavesUnset refused.why (forms_of refused.code.items) refused.place path.places.items
+    × (output.items ≡ path_line path.places.items
+    ++ refused_line (cause_number refused.why) (cause_details refused.why refused.place))
+RefusesCheck input OutOfMemory = (refused : Refused) × Refuses input refused × IsUnset refused.why
+RefusesCheck input _ = ⊥

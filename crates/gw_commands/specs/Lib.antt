@@ -1,0 +1,12 @@
+-- All of it is public meaning: what the command line promises of its input, its output and its status.
+pub mod Answers
+pub mod Assemblies
+pub mod Checks
+pub mod ClaimLines
+pub mod Commands
+pub mod Lines
+pub mod Records
+pub mod Refusals
+pub mod Replays
+pub mod Tables
+pub mod Verdicts

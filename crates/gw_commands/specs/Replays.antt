@@ -1,0 +1,29 @@
+-- What the command `replay` reads and writes: `before` and `after` are what its reader has left, `old` and `new` what its writer
+-- took.
+use Rattle.std.specs.Prelude.{◌≡◌, ◌⊎◌, ℕ, Bool, false, List, [], Option}
+use Rattle.std.specs.Io.KnownBytes.{Appends}
+use Rattle.gw_replay.specs.declared.whole.ReplayFault.{ReplayFault}
+use Rattle.gw_replay.specs.Written.{IsReplayed, IsPartlyReplayed, IsReplayFault, fault_number}
+use Rattle.gw_commands.specs.Commands.{WritesPart}
+use Rattle.gw_commands.specs.Refusals.{refused_line}
+
+-- the line of what ends a script early
+abbrev pub fault_line : ReplayFault → List ℕ
+fault_line fault = refused_line (fault_number fault) []
+
+-- the script ended early: behind a beginning of the answers to what was read stands the line that says why, or a beginning of it
+-- where a write failed
+pub record EndsEarly (before after : Option (List ℕ)) (read_failed : Bool) (reads : ℕ) (old new : Option (List ℕ))
+    (write_failed : Bool) : Type 0 where
+  pub fault : ReplayFault
+  pub why : IsReplayFault read_failed reads write_failed fault
+  pub middle : Option (List ℕ)
+  pub answers : IsPartlyReplayed before after old middle
+  pub line : WritesPart middle new (fault_line fault)
+  pub whole : write_failed ≡ false → Appends middle new (fault_line fault)
+
+-- all of the script's answers and status 0, or what was answered before it ended early and status 1
+abbrev pub Replays : Option (List ℕ) → Option (List ℕ) → Bool → ℕ → Option (List ℕ) → Option (List ℕ) → Bool → ℕ → Type 0
+Replays before after read_failed reads old new write_failed status =
+    ((status ≡ 0) × IsReplayed before after old new)
+    ⊎ ((status ≡ 1) × EndsEarly before after read_failed reads old new write_failed)

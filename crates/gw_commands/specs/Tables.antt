@@ -1,0 +1,45 @@
+-- What the command `table` answers and refuses.
+use Rattle.std.specs.Prelude.{◌≡◌, ℕ, ◌⊎◌, List, [], ◌∷◌, ◌++◌, map, Option, Some, None}
+use Rattle.std.specs.Str.{IsUtf8}
+use Rattle.gw_insn.specs.Table.{raw_of}
+use Rattle.gw_insn.specs.Spelling.{plain_listing}
+use Rattle.gw_table.specs.Table.{Meaning, table_passes}
+use Rattle.gw_table.specs.TableText.{IsTableText, IsTableRefusal}
+use Rattle.gw_table.specs.Emission.{emission}
+use Rattle.gw_commands.specs.declared.answer.Answer.{Answer}
+use Rattle.gw_commands.specs.declared.answer.Answer.TheVariants.{Passes, Text}
+use Rattle.gw_commands.specs.declared.record.RecordFault.{RecordFault}
+use Rattle.gw_commands.specs.declared.refusal.Refusal.{Refusal}
+use Rattle.gw_commands.specs.declared.refusal.Refusal.TheVariants.{Record, NotUtf8, Table, OutOfMemory}
+use Rattle.gw_commands.specs.Records.{NamesRecord, IsRecordFault}
+
+-- the listing of a table's program, and a line feed
+abbrev pub compiled_line : Meaning → List ℕ
+compiled_line table = plain_listing (map raw_of (emission table)) ++ 10 ∷ []
+
+-- the input is UTF-8, and the text of this table
+pub record IsTable (input : List ℕ) (table : Meaning) : Type 0 where
+  pub utf8 : IsUtf8 input
+  pub text : IsTableText input table
+
+-- the program's listing, or with the text of a frame whether the table passes it
+abbrev pub AnswersTable : Option (List ℕ) → ℕ → List ℕ → Answer → Type 0
+AnswersTable None port input (Text line) = (table : Meaning) × IsTable input table × (line.items ≡ compiled_line table)
+AnswersTable (Some frame) port input (Passes passes) =
+    (table : Meaning) × (octets : List ℕ) × NamesRecord frame octets × IsTable input table
+    × (passes ≡ table_passes table octets port)
+AnswersTable _ port input _ = ⊥
+
+-- what refuses a table's text; memory may be wanting for the listing of a table
+abbrev pub RefusesText : List ℕ → Refusal → Type 0
+RefusesText input NotUtf8 = IsUtf8 input → ⊥
+RefusesText input (Table why) = IsUtf8 input × IsTableRefusal input why
+RefusesText input OutOfMemory = (table : Meaning) × IsTable input table
+RefusesText input _ = ⊥
+
+-- the first refusal: the frame's, or with a frame the table's
+abbrev pub RefusesTable : Option (List ℕ) → List ℕ → Refusal → Type 0
+RefusesTable None input refusal = RefusesText input refusal
+RefusesTable (Some frame) input refusal =
+    ((fault : RecordFault) × (refusal ≡ Record fault) × IsRecordFault frame fault)
+    ⊎ ((octets : List ℕ) × NamesRecord frame octets × RefusesText input refusal)

@@ -1,0 +1,70 @@
+//! What commands write where they refuse nothing.
+
+ghost use Rattle.std.specs.Prelude.{◌≡◌, OnOk, OnErr, false, true};
+ghost use Rattle.std.specs.Io.KnownBytes.{Appends};
+ghost use Rattle.gw_trace.specs.Tries.{inner_of, has_failed};
+ghost use Rattle.gw_commands.specs.Answers.{answer_text, verdict_line, accepted_line};
+ghost use Rattle.gw_commands.specs.Commands.{WritesPart};
+
+use crate::line::Line;
+use crate::streams::{WriteFault, write_all};
+use gw_trace::Tried;
+use std::io::Write;
+
+/// What a command answers.
+#[derive(Drop)]
+pub enum Answer {
+    /// A program's answer on a record.
+    Verdict(u32),
+    /// How many instructions an accepted program has.
+    Accepted(usize),
+    /// Whether a table passes a record.
+    Passes(bool),
+    /// A text of its own.
+    Text(Vec<u8>),
+}
+
+impl Answer {
+    /// Writes the answer.
+    pub(crate) fn write<W: Write>(&self, output: &mut Tried<W>) -> Result<(), WriteFault>
+        requires { has_failed output.old ≡ false }
+        ensures written { OnOk result (Appends (W.contents (inner_of output.old)) (W.contents (inner_of output.new))
+            (answer_text self.now)) }
+        ensures part { OnErr result (WritesPart (W.contents (inner_of output.old)) (W.contents (inner_of output.new))
+            (answer_text self.now)) }
+        ensures whole { OnOk result (has_failed output.new ≡ false) }
+        ensures failed { OnErr result (has_failed output.new ≡ true) }
+    {
+        match self {
+            Answer::Verdict(answer) => write_all(output, verdict_line(*answer).as_bytes()),
+            Answer::Accepted(count) => write_all(output, accepted_line(*count).as_bytes()),
+            Answer::Passes(true) => write_all(output, b"pass\n"),
+            Answer::Passes(false) => write_all(output, b"block\n"),
+            Answer::Text(octets) => write_all(output, octets.as_slice()),
+        }
+    }
+}
+
+/// The line of a program's answer: `block` for 0, else `pass` and the answer.
+fn verdict_line(answer: u32) -> Line
+    ensures { result ≡ verdict_line answer }
+{
+    if answer == 0 {
+        Line::new().text("block\n")
+    } else {
+        Line::new()
+            .text("pass ")
+            .number(u64::from(answer))
+            .text("\n")
+    }
+}
+
+/// The line of an accepted program with so many instructions.
+fn accepted_line(count: usize) -> Line
+    ensures { result ≡ accepted_line count }
+{
+    Line::new()
+        .text("accepted ")
+        .number(count as u64)
+        .text("\n")
+}

@@ -1,0 +1,30 @@
+#![tactic(auto)]
+//! The commands of the program `gw`, each over a reader and two writers, without the words of the command line.
+
+mod answer;
+mod assembling;
+mod checking;
+mod claiming;
+mod explanation;
+mod judging;
+mod line;
+mod lines;
+mod notes;
+mod record;
+mod refusal;
+mod replaying;
+mod responding;
+mod streams;
+mod tables;
+
+pub use answer::Answer;
+pub use assembling::{asm, list};
+pub use checking::check;
+pub use claiming::claims;
+pub use judging::verdict;
+pub use record::RecordFault;
+pub use refusal::Refusal;
+pub use replaying::replay;
+pub use responding::respond;
+pub use streams::{WriteFault, write_all};
+pub use tables::table;

@@ -1,0 +1,63 @@
+//! What a person should know of an input that is not refused.
+
+use gw_frame::Frame;
+use gw_table::Table;
+use gw_trace::Tried;
+use std::io::Write;
+
+/// The greatest identifier of a standard frame, eleven bits.
+const GREATEST_STANDARD: u32 = 0x7ff;
+
+/// The flag of an extended frame in the identifier word.
+const EXTENDED: u32 = 0x8000_0000;
+
+/// The bits of an identifier.
+const IDENTIFIER: u32 = 0x1fff_ffff;
+
+/// Whether the identifier word has bits above the eleven of a standard frame and no flag of an extended one: mostly an
+/// identifier that was copied from a bus monitor without the flag.
+fn lacks_flag(frame: &Frame) -> bool {
+    let word = frame.id().word();
+    word & EXTENDED == 0 && word & IDENTIFIER > GREATEST_STANDARD
+}
+
+/// Tells that a record is that of no extended frame though its identifier is as long as one's.
+pub fn note_standard_identifier<F: Write>(frame: &Frame, faults: &mut Tried<F>) {
+    if lacks_flag(frame) {
+        let word = frame.id().word();
+        let meant = word | EXTENDED;
+        let _ = writeln!(
+            faults,
+            "gw: the identifier {word:08X} has more than 11 bits and lacks the flag 80000000, so this is no extended frame and a \
+            table judges it by `other`; {meant:08X} may be meant"
+        );
+    }
+}
+
+/// The same of a line of claims.
+pub fn note_uncounted<F: Write>(frame: &Frame, line: usize, faults: &mut Tried<F>) {
+    if lacks_flag(frame) {
+        let word = frame.id().word();
+        let meant = word | EXTENDED;
+        let _ = writeln!(
+            faults,
+            "gw: line {line}: the identifier {word:08X} has more than 11 bits and lacks the flag 80000000, so it does not count; \
+            {meant:08X} may be meant"
+        );
+    }
+}
+
+/// Tells which rule of a table decides a frame that was taken at a port, or that `default` or `other` does.
+pub fn note_decision<F: Write>(table: &Table, frame: &Frame, port: u8, faults: &mut Tried<F>) {
+    let part = table.decides(frame, port);
+    let _ = writeln!(faults, "gw: {part} decides");
+}
+
+/// Tells of each rule of a table that can never decide.
+pub fn note_dead_rules<F: Write>(table: &Table, faults: &mut Tried<F>) {
+    for rule in 0..table.rules().len() {
+        if let Some(why) = table.why_dead(rule) {
+            let _ = writeln!(faults, "gw: rule {rule} never decides: {why}");
+        }
+    }
+}

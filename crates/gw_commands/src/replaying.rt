@@ -1,0 +1,40 @@
+//! The command `replay`: the lines of a script, each with its answer.
+
+ghost use Rattle.std.specs.Prelude.{◌≡◌, false};
+ghost use Rattle.gw_trace.specs.Tries.{inner_of, has_failed, reads_of};
+ghost use Rattle.gw_commands.specs.Replays.{Replays};
+
+use crate::refusal::Refusal;
+use crate::responding::respond;
+use gw_replay::{ReplayFault, replay_told};
+use gw_trace::Tried;
+use std::alloc::Global;
+use std::io::{Read, Write};
+
+/// Runs a script, and writes the answer of each of its lines as soon as the line was read. Where the script could not be read
+/// to its end (96), or memory was wanting (100), the line of that refusal stands behind the answers.
+pub fn replay<R: Read, W: Write, F: Write>(
+    alloc: Global,
+    input: &mut Tried<R>,
+    output: &mut Tried<W>,
+    faults: &mut Tried<F>,
+) -> u8
+    requires unread { reads_of input.old ≡ 0 }
+    requires input { has_failed input.old ≡ false }
+    requires output { has_failed output.old ≡ false }
+    ensures { Replays (R.remaining (inner_of input.old)) (R.remaining (inner_of input.new)) (has_failed input.new)
+        (reads_of input.new)
+        (W.contents (inner_of output.old)) (W.contents (inner_of output.new)) (has_failed output.new) result }
+{
+    let Err(fault) = replay_told(alloc, input, output, faults) else {
+        return 0;
+    };
+    if output.failed() {
+        let _ = writeln!(faults, "gw: {fault}");
+        return 1;
+    }
+    match fault {
+        ReplayFault::OutOfMemory => respond(&Err(Refusal::OutOfMemory), output, faults),
+        _ => respond(&Err(Refusal::ReadFault), output, faults),
+    }
+}

@@ -1,0 +1,60 @@
+//! Whole inputs and whole lines.
+
+ghost use Rattle.std.specs.Prelude.{◌≡◌, ◌≤◌, ℕ, List, true, false, length, IfOk, IfErr, OnOk, OnErr};
+ghost use Rattle.std.specs.Io.KnownBytes.{Appends};
+ghost use Rattle.gw_trace.specs.Tries.{inner_of, has_failed};
+ghost use Rattle.gw_commands.specs.Commands.{IsInput, IsInputRefusal, WritesPart};
+
+use crate::refusal::Refusal;
+use gw_trace::Tried;
+use std::alloc::Global;
+use std::io::{Read, Write};
+
+/// The most octets of an input.
+pub const MOST_INPUT: usize = 1_048_576;
+
+/// A write failed.
+#[derive(Clone, Copy, PartialEq, Eq, Debug)]
+pub struct WriteFault;
+
+/// Reads to the end: 96 where a read failed, 98 for more than 1048576 octets, 100 for want of memory.
+pub fn read_input<R: Read>(alloc: Global, reader: &mut Tried<R>) -> Result<Vec<u8>, Refusal>
+    requires { has_failed reader.old ≡ false }
+    ensures input { IfOk result (λ octets. IsInput (R.remaining (inner_of reader.old)) (R.remaining (inner_of reader.new))
+        (has_failed reader.new) octets.items) }
+    ensures refused { IfErr result (IsInputRefusal (R.remaining (inner_of reader.old)) (R.remaining (inner_of reader.new))
+        (has_failed reader.new)) }
+{
+    let mut input = Vec::new(alloc);
+    let mut piece = [0; 4096];
+    'pieces: while input.len() <= MOST_INPUT {
+        match reader.read(&mut piece) {
+            Ok(0) => return Ok(input),
+            Ok(n) => {
+                if input.extend_from_slice(&piece[..n]).is_err() {
+                    return Err(Refusal::OutOfMemory);
+                }
+            }
+            Err(_) => return Err(Refusal::ReadFault),
+        }
+    }
+    Err(Refusal::TooMuchInput)
+}
+
+/// Writes the octets, one piece after another. Where a write failed, a beginning of them was written.
+pub fn write_all<W: Write>(writer: &mut Tried<W>, octets: &[u8]) -> Result<(), WriteFault>
+    requires { has_failed writer.old ≡ false }
+    ensures written { OnOk result (Appends (W.contents (inner_of writer.old)) (W.contents (inner_of writer.new)) octets.now) }
+    ensures part { OnErr result (WritesPart (W.contents (inner_of writer.old)) (W.contents (inner_of writer.new)) octets.now) }
+    ensures whole { OnOk result (has_failed writer.new ≡ false) }
+    ensures failed { OnErr result (has_failed writer.new ≡ true) }
+{
+    let mut at = 0;
+    while at < octets.len() {
+        match writer.write(&octets[at..]) {
+            Ok(0) | Err(_) => return Err(WriteFault),
+            Ok(n) => at += n,
+        }
+    }
+    Ok(())
+}
