@@ -1,7 +1,9 @@
 -- A NAME holds at most one address, and an address is held by at most one NAME.
-use Rattle.std.proofs.Common.{◌≡◌, ◌⊎◌, inl, inr, ℕ, Bool, true, false, not, ◌==◌, if◌then◌else◌, List, [], ◌∷◌, sym, ◌∙◌, subst, refl}
+use Rattle.std.proofs.Common.{◌≡◌, ◌⊎◌, inl, inr, ℕ, Bool, true, false, not, ◌==◌, if◌then◌else◌, List, [], ◌∷◌, sym, ◌∙◌, subst}
+use Rattle.std.proofs.Common.{refl}
 use Rattle.std.proofs.lemmas.Bool.{eqb-true, eqb-false, and_parts, or_cases, false≢true, not-true}
-use Rattle.gw_claims.specs.Claims.{Claim, AreApart, is_held_by, is_claim, claimed_address, claimed_name, without_name, without_address, claims_taken, claims_after, may_take}
+use Rattle.gw_claims.specs.Claims.{Claim, AreApart, is_held_by, is_claim, claimed_address, claimed_name, without_name}
+use Rattle.gw_claims.specs.Claims.{without_address, claims_taken, claims_after, may_take}
 use Rattle.gw_claims.proofs.ClaimSets.{claim, keeps}
 
 -- no claim, no two apart

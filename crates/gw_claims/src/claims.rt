@@ -113,6 +113,3 @@ impl Claims {
         }
     }
 }
-
-#[cfg(test)]
-mod tests;

@@ -1,6 +1,7 @@
 -- Records of LINKTYPE_CAN_SOCKETCAN (link type 227): four octets of the identifier word, the payload
 -- length, three octets that are carried unchanged, and the payload.
-use Rattle.std.specs.Prelude.{ℕ, ◌+◌, ◌-◌, ◌<◌, ◌≤◌, nat_lt, if◌then◌else◌, List, length, take, drop, slice_index, Option, Some, None}
+use Rattle.std.specs.Prelude.{ℕ, ◌+◌, ◌-◌, ◌<◌, ◌≤◌, nat_lt, if◌then◌else◌, List, length, take, drop, slice_index, Option, Some}
+use Rattle.std.specs.Prelude.{None}
 use Rattle.byteorder.specs.Endian.{big_number}
 use Rattle.gw_frame.specs.declared.refusal.FrameRefusal.{FrameRefusal}
 use Rattle.gw_frame.specs.declared.refusal.FrameRefusal.TheVariants.{TooShort, TooLong, BadLength, PayloadCut}

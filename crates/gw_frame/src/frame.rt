@@ -99,6 +99,3 @@ impl Frame {
         &octets[PAYLOAD..PAYLOAD + usize::from(octets[4])]
     }
 }
-
-#[cfg(test)]
-mod tests;

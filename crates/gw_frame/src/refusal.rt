@@ -80,6 +80,3 @@ impl Display for FrameRefusal {
 }
 
 impl Error for FrameRefusal {}
-
-#[cfg(test)]
-mod tests;

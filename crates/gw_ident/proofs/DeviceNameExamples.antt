@@ -1,6 +1,7 @@
 -- Worked examples of the fields of a NAME.
 use Rattle.std.proofs.Common.{◌≡◌, ◌^◌, ◌-◌, ℕ, List, [], ◌∷◌, true, false, refl}
-use Rattle.gw_ident.specs.DeviceName.{name_value, identity, manufacturer, ecu_instance, function_instance, function, reserved, vehicle_system, vehicle_system_instance, industry_group, arbitrary_capable}
+use Rattle.gw_ident.specs.DeviceName.{name_value, identity, manufacturer, ecu_instance, function_instance, function, reserved}
+use Rattle.gw_ident.specs.DeviceName.{vehicle_system, vehicle_system_instance, industry_group, arbitrary_capable}
 
 abbrev octets : List ℕ
 octets = 0x01 ∷ 0x00 ∷ 0x40 ∷ 0x00 ∷ 0x00 ∷ 0x00 ∷ 0x00 ∷ 0x80 ∷ []

@@ -1,6 +1,7 @@
 -- Worked examples of 'Identifier'.
 use Rattle.std.proofs.Common.{◌≡◌, Some, None, true, false, refl}
-use Rattle.gw_ident.specs.Identifier.{priority, extended_data_page, data_page, pdu_format, pdu_specific, is_pdu1, parameter_group, destination, source_address, is_extended_data}
+use Rattle.gw_ident.specs.Identifier.{priority, extended_data_page, data_page, pdu_format, pdu_specific, is_pdu1, parameter_group}
+use Rattle.gw_ident.specs.Identifier.{destination, source_address, is_extended_data}
 
 -- a PDU1 and a PDU2 identifier
 pdu1 : (parameter_group 0x98EF1234 ≡ 61184) × (destination 0x98EF1234 ≡ Some 18) × (source_address 0x98EF1234 ≡ 52)

@@ -1,7 +1,20 @@
 //! The identifier of a CAN frame and its fields: SAE J1939-21, protocol data unit.
 
 ghost use Rattle.std.specs.Prelude.{◌≡◌};
-ghost use Rattle.gw_ident.specs.Identifier.{identifier, priority, page, extended_data_page, data_page, pdu_format, pdu_specific, is_pdu1, source_address, parameter_group, is_extended_data, destination};
+ghost use Rattle.gw_ident.specs.Identifier.{
+  identifier,
+  priority,
+  page,
+  extended_data_page,
+  data_page,
+  pdu_format,
+  pdu_specific,
+  is_pdu1,
+  source_address,
+  parameter_group,
+  is_extended_data,
+  destination,
+};
 
 use std::marker::Model;
 
@@ -137,6 +150,3 @@ impl CanId {
         self.pf() < PDU2
     }
 }
-
-#[cfg(test)]
-mod tests;

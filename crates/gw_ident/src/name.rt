@@ -1,7 +1,19 @@
 //! The NAME of a device and its fields: SAE J1939-81, NAME.
 
 ghost use Rattle.std.specs.Prelude.{◌≡◌};
-ghost use Rattle.gw_ident.specs.DeviceName.{name_value, identity, manufacturer, ecu_instance, function_instance, function, reserved, vehicle_system, vehicle_system_instance, industry_group, arbitrary_capable};
+ghost use Rattle.gw_ident.specs.DeviceName.{
+  name_value,
+  identity,
+  manufacturer,
+  ecu_instance,
+  function_instance,
+  function,
+  reserved,
+  vehicle_system,
+  vehicle_system_instance,
+  industry_group,
+  arbitrary_capable,
+};
 
 use byteorder::{ByteOrder, LittleEndian};
 use std::marker::Model;
@@ -111,6 +123,3 @@ impl Name {
         self.value >> 63 == 1
     }
 }
-
-#[cfg(test)]
-mod tests;

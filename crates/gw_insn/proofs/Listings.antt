@@ -1,5 +1,6 @@
 -- A text read as far as some item, and what it is where it ends.
-use Rattle.std.proofs.Common.{ℕ, ◌≡◌, ◌+◌, ◌<◌, eqb, List, [], ◌∷◌, ◌++◌, length, subst, sym, ◌∙◌, arith, Option, Some, None, Vec, vec_capacity, Global, ap, length-append}
+use Rattle.std.proofs.Common.{ℕ, ◌≡◌, ◌+◌, ◌<◌, eqb, List, [], ◌∷◌, ◌++◌, length, subst, sym, ◌∙◌, arith, Option, Some, None, Vec}
+use Rattle.std.proofs.Common.{vec_capacity, Global, ap, length-append}
 use Rattle.std.specs.Prelude.{All, IfSome, IfOk, IfErr}
 use Rattle.std.specs.Option.{ok_or}
 use Rattle.std.proofs.lemmas.Bool.Decides.{nat_tests}

@@ -1,5 +1,6 @@
 -- The one spelling is a listing.
-use Rattle.std.proofs.Common.{◌≡◌, ℕ, ◌-◌, ◌^◌, ◌<◌, ◌≤◌, ◌==◌, Bool, List, [], ◌∷◌, ◌++◌, All, length, flat_map, refl, inl, arith, append_assoc}
+use Rattle.std.proofs.Common.{◌≡◌, ℕ, ◌-◌, ◌^◌, ◌<◌, ◌≤◌, ◌==◌, Bool, List, [], ◌∷◌, ◌++◌, All, length, flat_map, refl, inl}
+use Rattle.std.proofs.Common.{arith, append_assoc}
 use Rattle.std.proofs.lemmas.List.Elements.{All-nil, All-head, All-tail}
 use Rattle.gw_insn.specs.declared.insn.Raw.{Raw}
 use Rattle.gw_insn.specs.Listing.{comma, space, HasNumber, HasItem, HasItems, IsListing, IsWhite}

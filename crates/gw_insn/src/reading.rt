@@ -1,10 +1,37 @@
 //! Listings of instructions, read.
 
-ghost use Rattle.std.specs.Prelude.{◌≡◌, ℕ, ◌≤◌, ◌↔◌, List, [], ◌∷◌, ◌++◌, length, All, IsTrue, IfSome, IfNone, IfOk, IfErr, IsSomeAnd, MatchResult};
+ghost use Rattle.std.specs.Prelude.{
+  ◌≡◌,
+  ℕ,
+  ◌≤◌,
+  ◌↔◌,
+  List,
+  [],
+  ◌∷◌,
+  ◌++◌,
+  length,
+  All,
+  IsTrue,
+  IfSome,
+  IfNone,
+  IfOk,
+  IfErr,
+  IsSomeAnd,
+  MatchResult,
+};
 ghost use Rattle.std.specs.Char.{IsAsciiDigit, is_ascii_digit};
 ghost use Rattle.std.specs.List.{prefix_len};
 ghost use Rattle.gw_insn.specs.declared.insn.Raw.{Raw};
-ghost use Rattle.gw_insn.specs.Listing.{IsWhite, decimal, StartsWithDigit, HasNumber, HasInstruction, HasItem, IsListing, IsListRefusal};
+ghost use Rattle.gw_insn.specs.Listing.{
+  IsWhite,
+  decimal,
+  StartsWithDigit,
+  HasNumber,
+  HasInstruction,
+  HasItem,
+  IsListing,
+  IsListRefusal,
+};
 
 use crate::insn::Raw;
 use std::alloc::Global;
@@ -214,6 +241,3 @@ fn is_white(octet: u8) -> bool
 {
     matches!(octet, b' ' | b'\t' | b'\n' | b'\r')
 }
-
-#[cfg(test)]
-mod tests;

@@ -23,6 +23,3 @@ pub fn write_listing(alloc: Global, code: &[Raw]) -> Result<Vec<u8>, AllocError>
     }
     Ok(text.into_bytes())
 }
-
-#[cfg(test)]
-mod tests;

@@ -55,6 +55,3 @@ fn sent_by(ledger: &OutLedger) -> u128
     }
     sent
 }
-
-#[cfg(test)]
-mod tests;

@@ -74,6 +74,3 @@ impl OutLedger {
         *sent = sent.saturating_add(1);
     }
 }
-
-#[cfg(test)]
-mod tests;

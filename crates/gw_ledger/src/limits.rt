@@ -110,6 +110,3 @@ impl Limits {
         self.frames
     }
 }
-
-#[cfg(test)]
-mod tests;

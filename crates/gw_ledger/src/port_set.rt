@@ -65,6 +65,3 @@ impl PortSet {
         self.word.count_ones()
     }
 }
-
-#[cfg(test)]
-mod tests;

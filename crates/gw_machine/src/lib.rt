@@ -11,6 +11,3 @@ mod state;
 pub use law::{one_answer, soundness};
 pub use running::run;
 pub use state::State;
-
-#[cfg(test)]
-mod tests;

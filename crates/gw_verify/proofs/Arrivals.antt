@@ -1,5 +1,6 @@
 -- The arrivals that the pass of `explain` notes, and the path that they tell of.
-use Rattle.std.proofs.Common.{◌≡◌, ◌≢◌, ℕ, zero, suc, ◌+◌, ◌<◌, ◌≤◌, ◌⊎◌, inl, inr, List, [], ◌∷◌, ◌++◌, length, get_or, set, reverse, Some, refl, sym, ap, ◌∙◌, subst, arith, length-set}
+use Rattle.std.proofs.Common.{◌≡◌, ◌≢◌, ℕ, zero, suc, ◌+◌, ◌<◌, ◌≤◌, ◌⊎◌, inl, inr, List, [], ◌∷◌, ◌++◌, length, get_or, set}
+use Rattle.std.proofs.Common.{reverse, Some, refl, sym, ap, ◌∙◌, subst, arith, length-set}
 use Rattle.std.specs.Prelude.{slice_get}
 use Rattle.std.proofs.lemmas.List.{append-nil, append_assoc, reverse-append}
 use Rattle.std.proofs.lemmas.Option.{slice_get_within, slice_get-get_or, same_Some, none-some}
@@ -10,7 +11,8 @@ use Rattle.gw_verify.specs.Arrivals.{IsArrival, AreArrivals, ComeFromBefore, wit
 use Rattle.gw_verify.specs.Flow.{Forms, HasAt, LeadsTo, Stores, PassesBy, IsBare, IsBarePathTo}
 use Rattle.gw_verify.specs.FlowLaws.{bare_start, bare_on, bare_path_start, bare_path_on}
 use Rattle.gw_verify.specs.Next.{next_of, at_next}
-use Rattle.gw_verify.proofs.Bare.{Reached, reached_more, reached_cases, reached_from_bare, next_forward, bare_inside, step, step_leads}
+use Rattle.gw_verify.proofs.Bare.{Reached, reached_more, reached_cases, reached_from_bare, next_forward, bare_inside, step}
+use Rattle.gw_verify.proofs.Bare.{step_leads}
 
 -- what an arrival says of place j, where `never` is what it says if no path comes
 abbrev Tells : Forms → ℕ → Type 0 → ℕ → Arrival → Type 0

@@ -1,11 +1,13 @@
 -- What a value of `Refused` says: its code is refused for its cause at its place.
-use Rattle.std.proofs.Common.{◌≡◌, ℕ, ◌<◌, ◌≤◌, List, length, Option, Some, None, Result, Ok, Err, IfOk, IfSome, IfNone, subst, arith}
+use Rattle.std.proofs.Common.{◌≡◌, ℕ, ◌<◌, ◌≤◌, List, length, Option, Some, None, Result, Ok, Err, IfOk, IfSome, IfNone, subst}
+use Rattle.std.proofs.Common.{arith}
 use Rattle.std.proofs.Math.Logic.{∥∥₁_elim}
 use Rattle.std.proofs.lemmas.Option.{slice_get_within}
 use Rattle.std.specs.Coded.{×_prop, le_prop}
 use Rattle.gw_insn.specs.declared.insn.Raw.{Raw}
 use Rattle.gw_verify.specs.declared.cause.Cause.{Cause}
-use Rattle.gw_verify.specs.declared.cause.Cause.TheVariants.{UnknownCode, DivideByZero, ShiftTooFar, NoSuchWord, JumpOut, Ancillary, UnsetWord}
+use Rattle.gw_verify.specs.declared.cause.Cause.TheVariants.{UnknownCode, DivideByZero, ShiftTooFar, NoSuchWord, JumpOut}
+use Rattle.gw_verify.specs.declared.cause.Cause.TheVariants.{Ancillary, UnsetWord}
 use Rattle.gw_verify.specs.declared.path.Path.{Path}
 use Rattle.gw_verify.specs.Accepted.{IsRefusal}
 use Rattle.gw_verify.specs.Cause.{rank}

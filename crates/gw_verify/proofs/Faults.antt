@@ -1,12 +1,15 @@
 -- Faults in the order of their causes: which comes first, and that no other is left in accepted code.
-use Rattle.std.proofs.Common.{◌≡◌, ℕ, zero, suc, ◌+◌, ◌<◌, ◌≤◌, Bool, true, false, inl, inr, length, Option, Some, None, refl, ap, ◌∙◌, subst, arith}
+use Rattle.std.proofs.Common.{◌≡◌, ℕ, zero, suc, ◌+◌, ◌<◌, ◌≤◌, Bool, true, false, inl, inr, length, Option, Some, None, refl, ap}
+use Rattle.std.proofs.Common.{◌∙◌, subst, arith}
 use Rattle.std.specs.Prelude.{slice_get, MatchBool}
 use Rattle.std.proofs.lemmas.Bool.{cases_lt, cases_eq}
 use Rattle.std.proofs.lemmas.List.{nil_from_length}
 use Rattle.std.proofs.lemmas.Option.{slice_get_within}
-use Rattle.gw_insn.specs.Form.{Form, Load, LoadIndexed, LoadLength, LoadConstant, LoadScratch, Store, LoadNibble, Alu, Negate, Jump, Branch, ReturnConstant, ReturnA, Tax, Txa}
+use Rattle.gw_insn.specs.Form.{Form, Load, LoadIndexed, LoadLength, LoadConstant, LoadScratch, Store, LoadNibble, Alu, Negate}
+use Rattle.gw_insn.specs.Form.{Jump, Branch, ReturnConstant, ReturnA, Tax, Txa}
 use Rattle.gw_verify.specs.declared.cause.Cause.{Cause}
-use Rattle.gw_verify.specs.declared.cause.Cause.TheVariants.{Empty, TooLong, UnknownCode, DivideByZero, ShiftTooFar, NoSuchWord, JumpOut, Ancillary, NoReturnAtEnd, UnsetWord, OutOfMemory}
+use Rattle.gw_verify.specs.declared.cause.Cause.TheVariants.{Empty, TooLong, UnknownCode, DivideByZero, ShiftTooFar, NoSuchWord}
+use Rattle.gw_verify.specs.declared.cause.Cause.TheVariants.{JumpOut, Ancillary, NoReturnAtEnd, UnsetWord, OutOfMemory}
 use Rattle.gw_verify.specs.Accepted.{At, IsFault, IsAccepted, IsFirstFault, IsNoReturn}
 use Rattle.gw_verify.specs.Cause.{rank}
 use Rattle.gw_verify.specs.Flow.{Forms, HasAt}

@@ -1,17 +1,20 @@
 -- The masks of the pass over the code: a word's bit in the mask of a place says that the place is bare of it.
-use Rattle.std.proofs.Common.{◌≡◌, ℕ, zero, suc, ◌+◌, ◌<◌, ◌≤◌, ◌⊎◌, ◌↔◌, inl, inr, List, length, get_or, set, max, replicate, Some, None, refl, sym, ap, ◌∙◌, subst, arith, get_or-set_other, get_or-set_same, length-set}
+use Rattle.std.proofs.Common.{◌≡◌, ℕ, zero, suc, ◌+◌, ◌<◌, ◌≤◌, ◌⊎◌, ◌↔◌, inl, inr, List, length, get_or, set, max, replicate}
+use Rattle.std.proofs.Common.{Some, None, refl, sym, ap, ◌∙◌, subst, arith, get_or-set_other, get_or-set_same, length-set}
 use Rattle.std.specs.Prelude.{slice_get, slice_index, bit_or}
 use Rattle.std.specs.Int.{bit_at}
 use Rattle.std.proofs.lemmas.Nat.Bits.{bit_at_or, bit_at-lt, bit_at_ones, bit_at-zero}
 use Rattle.std.proofs.lemmas.Bool.{cases_eq}
-use Rattle.gw_insn.specs.Form.{Load, LoadIndexed, LoadLength, LoadConstant, LoadScratch, Store, LoadNibble, Alu, Negate, Jump, Branch, ReturnConstant, ReturnA, Tax, Txa, Form}
+use Rattle.gw_insn.specs.Form.{Load, LoadIndexed, LoadLength, LoadConstant, LoadScratch, Store, LoadNibble, Alu, Negate, Jump}
+use Rattle.gw_insn.specs.Form.{Branch, ReturnConstant, ReturnA, Tax, Txa, Form}
 use Rattle.gw_verify.specs.Accepted.{At}
 use Rattle.gw_verify.specs.Flow.{Forms, HasAt, LeadsTo, Loads, IsBare}
 use Rattle.gw_verify.specs.Next.{next_of, at_next}
 use Rattle.gw_verify.specs.Orderly.{IsOrderly, NamesWord, StaysBelow}
 use Rattle.gw_verify.specs.FlowLaws.{leads_below}
 use Rattle.gw_verify.specs.UnsetLoad.{marked, IsLeft, IsUnsetLoad, NoUnsetLoadBelow}
-use Rattle.gw_verify.proofs.Bare.{Reached, at_start, from, reached_more, reached_cases, bare_from_reached, reached_from_bare, step, step_leads, step_unset, no_step}
+use Rattle.gw_verify.proofs.Bare.{Reached, at_start, from, reached_more, reached_cases, bare_from_reached, reached_from_bare}
+use Rattle.gw_verify.proofs.Bare.{step, step_leads, step_unset, no_step}
 use Rattle.gw_verify.proofs.Decoding.{one_form, no_form}
 
 -- the word's bit in the mask of place j is set

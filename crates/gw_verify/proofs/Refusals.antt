@@ -1,11 +1,14 @@
 -- What a refusal says: one cause with one place, and of an unset word what its explanation asks.
-use Rattle.std.proofs.Common.{◌≡◌, ℕ, zero, suc, ◌<◌, ◌≤◌, ◌⊎◌, inl, inr, List, length, Option, Some, None, refl, sym, ap, ◌∙◌, subst, arith}
+use Rattle.std.proofs.Common.{◌≡◌, ℕ, zero, suc, ◌<◌, ◌≤◌, ◌⊎◌, inl, inr, List, length, Option, Some, None, refl, sym, ap, ◌∙◌}
+use Rattle.std.proofs.Common.{subst, arith}
 use Rattle.std.proofs.lemmas.Bool.{cases_lt}
 use Rattle.gw_insn.specs.declared.insn.Raw.{Raw}
 use Rattle.gw_insn.specs.Form.{Form, Load, LoadScratch, Store, Alu, Jump, Branch, Div, Mod, Lsh, Rsh}
 use Rattle.gw_verify.specs.declared.cause.Cause.{Cause}
-use Rattle.gw_verify.specs.declared.cause.Cause.TheVariants.{TooLong, UnknownCode, DivideByZero, ShiftTooFar, NoSuchWord, JumpOut, Ancillary, UnsetWord, OutOfMemory}
-use Rattle.gw_verify.specs.Accepted.{At, DividesByZero, ShiftsTooFar, NamesNoWord, JumpsOut, IsAncillary, IsFirstFault, IsAccepted, IsRefusal, IsExplainable}
+use Rattle.gw_verify.specs.declared.cause.Cause.TheVariants.{TooLong, UnknownCode, DivideByZero, ShiftTooFar, NoSuchWord, JumpOut}
+use Rattle.gw_verify.specs.declared.cause.Cause.TheVariants.{Ancillary, UnsetWord, OutOfMemory}
+use Rattle.gw_verify.specs.Accepted.{At, DividesByZero, ShiftsTooFar, NamesNoWord, JumpsOut, IsAncillary, IsFirstFault}
+use Rattle.gw_verify.specs.Accepted.{IsAccepted, IsRefusal, IsExplainable}
 use Rattle.gw_verify.specs.Cause.{rank}
 use Rattle.gw_verify.specs.Flow.{Forms, forms_of, Loads}
 use Rattle.gw_verify.specs.OwnFault.{IsOwnFault}

@@ -3,9 +3,11 @@
 use Rattle.std.specs.Prelude.{ℕ, ◌≡◌, ◌≢◌, ◌+◌, ◌<◌, ◌≤◌, ◌⊎◌, List, [], ◌∷◌, ◌++◌, length, Some, None, slice_get}
 use Rattle.gw_insn.specs.declared.bounds.TheConstants.{SCRATCH_WORDS, MAX_INSNS, NEGATIVE_OFFSETS, INTERFACE}
 use Rattle.gw_insn.specs.declared.insn.Raw.{Raw}
-use Rattle.gw_insn.specs.Form.{Form, Load, LoadScratch, Store, Alu, Jump, Branch, ReturnConstant, ReturnA, Word, Constant, Div, Mod, Lsh, Rsh}
+use Rattle.gw_insn.specs.Form.{Form, Load, LoadScratch, Store, Alu, Jump, Branch, ReturnConstant, ReturnA, Word, Constant, Div}
+use Rattle.gw_insn.specs.Form.{Mod, Lsh, Rsh}
 use Rattle.gw_verify.specs.declared.cause.Cause.{Cause}
-use Rattle.gw_verify.specs.declared.cause.Cause.TheVariants.{Empty, TooLong, UnknownCode, DivideByZero, ShiftTooFar, NoSuchWord, JumpOut, Ancillary, NoReturnAtEnd, UnsetWord, OutOfMemory}
+use Rattle.gw_verify.specs.declared.cause.Cause.TheVariants.{Empty, TooLong, UnknownCode, DivideByZero, ShiftTooFar, NoSuchWord}
+use Rattle.gw_verify.specs.declared.cause.Cause.TheVariants.{JumpOut, Ancillary, NoReturnAtEnd, UnsetWord, OutOfMemory}
 use Rattle.gw_verify.specs.Cause.{rank}
 use Rattle.gw_verify.specs.Flow.{Forms, HasAt, Loads, IsBare}
 

@@ -1,7 +1,8 @@
 -- The causes of a refusal: their numbers, and their order.
 use Rattle.std.specs.Prelude.{ℕ}
 use Rattle.gw_verify.specs.declared.cause.Cause.{Cause}
-use Rattle.gw_verify.specs.declared.cause.Cause.TheVariants.{Empty, TooLong, UnknownCode, DivideByZero, ShiftTooFar, NoSuchWord, JumpOut, Ancillary, NoReturnAtEnd, UnsetWord, OutOfMemory}
+use Rattle.gw_verify.specs.declared.cause.Cause.TheVariants.{Empty, TooLong, UnknownCode, DivideByZero, ShiftTooFar, NoSuchWord}
+use Rattle.gw_verify.specs.declared.cause.Cause.TheVariants.{JumpOut, Ancillary, NoReturnAtEnd, UnsetWord, OutOfMemory}
 
 -- the number that a cause has for users
 abbrev pub cause_number : Cause → ℕ

@@ -2,7 +2,8 @@
 use Rattle.std.specs.Prelude.{ℕ, ◌+◌, ◌≡◌, ◌<◌, length, Option, Some, None, slice_get}
 use Rattle.gw_insn.specs.Form.{Form}
 use Rattle.gw_verify.specs.declared.cause.Cause.{Cause}
-use Rattle.gw_verify.specs.declared.cause.Cause.TheVariants.{UnknownCode, DivideByZero, ShiftTooFar, NoSuchWord, JumpOut, Ancillary}
+use Rattle.gw_verify.specs.declared.cause.Cause.TheVariants.{UnknownCode, DivideByZero, ShiftTooFar, NoSuchWord, JumpOut}
+use Rattle.gw_verify.specs.declared.cause.Cause.TheVariants.{Ancillary}
 use Rattle.gw_verify.specs.Accepted.{DividesByZero, ShiftsTooFar, NamesNoWord, JumpsOut, IsAncillary, IsNoReturn}
 use Rattle.gw_verify.specs.Flow.{Forms, HasAt}
 

@@ -17,6 +17,3 @@ pub use law::{accepted_is_orderly, one_refusal};
 pub use path::{Path, explain, holds};
 pub use program::Program;
 pub use refused::Refused;
-
-#[cfg(test)]
-mod tests;

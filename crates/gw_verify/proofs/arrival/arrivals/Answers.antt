@@ -8,7 +8,9 @@ use Rattle.gw_verify.proofs.Arrivals.{bare_told, never_told, noted_more, noted_s
 use Rattle.gw_verify.proofs.Bare.{reached_from_bare, step_unset, no_step}
 use Rattle.gw_verify.proofs.Decoding.{form_at_front, length_forms}
 use Rattle.gw_verify.proofs.arrival.arrivals.Goals as goal
-use Rattle.gw_verify.proofs.arrival.arrivals.Goals.{in-Some+then-comes+then-not-stores, in-Some+else-comes, else-comes-via-then-comes+else-not-stores, else-comes-via-else-comes, in_default}
+use Rattle.gw_verify.proofs.arrival.arrivals.Goals.{in-Some+then-comes+then-not-stores, in-Some+else-comes}
+use Rattle.gw_verify.proofs.arrival.arrivals.Goals.{else-comes-via-then-comes+else-not-stores, else-comes-via-else-comes}
+use Rattle.gw_verify.proofs.arrival.arrivals.Goals.{in_default}
 
 pub loop-place-preserved : goal.loop-place-preserved
 loop-place-preserved c =

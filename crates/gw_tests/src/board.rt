@@ -1,0 +1,113 @@
+//! The worked example, and that a reading enters the board, which no contract says.
+
+ghost use Rattle.std.specs.Prelude.{◌≡◌};
+
+use crate::made::{ENGINE_SPEED, batch, returning};
+use gw_board::{NoReading, Operator, ReplaceRefusal, Told, Watch, board};
+use gw_frame::Frame;
+use gw_ledger::Limits;
+use gw_policy::{Batch, PolicySet};
+use std::sync::Wait;
+use std::test::Fail;
+use std::thread::{Threads, join, spawn};
+
+/// The front, and whether port 1 passes the frame.
+type Reading = Result<(u32, bool), NoReading>;
+
+fn read(watch: &mut Watch, frame: Frame) -> Reading {
+    watch.with(|set: &PolicySet| (set.front(), set.verdict(1, &frame, 0)))
+}
+
+/// What a watch reads that was told.
+fn read_told(mut watch: Watch, told: Told, frame: Frame) -> Reading
+    requires { told.board ≡ watch.board }
+{
+    watch.learn(&told);
+    read(&mut watch, frame)
+}
+
+/// The front that a batch was published with, and what a watch reads in another thread that is told of it.
+fn publish_and_read<R: Threads + Wait>(
+    rt: &R,
+    operator: &mut Operator,
+    batch: Batch,
+    watch: Watch,
+    frame: Frame,
+) -> (Option<u32>, Option<Reading>)
+    requires { operator.old.board ≡ watch.board }
+{
+    let front = operator.replace(rt, batch).ok();
+    let told = operator.tell();
+    let reader = spawn(
+        rt,
+        move || -> Reading
+            requires { told.board ≡ watch.board }
+        { read_told(watch, told, frame) },
+    );
+    match reader {
+        Ok(reader) => (front, Some(reader.join(rt))),
+        Err(_) => (front, None),
+    }
+}
+
+#[test]
+fn a_told_watch_reads_in_another_thread(rt: HostRuntime) -> Result<(), Fail> {
+    let frame = Frame::read(&ENGINE_SPEED)?;
+    let no_port = batch(rt.alloc(), &[2], &returning(1))?;
+    let pass = batch(rt.alloc(), &[1], &returning(1))?;
+    let too_many = batch(rt.alloc(), &[1], &returning(0))?;
+    let (mut operator, mut watches) = board(rt.alloc(), Limits::new(2, 4, 1, 2)?)?;
+    let Err(ReplaceRefusal::NoSuchPort(back)) = operator.replace(&rt, no_port) else {
+        return Err("port 2 of 2 is there".into());
+    };
+    assert_eq!(rt; back.pair(0).map(|pair| pair.0), Some(2));
+    let Some(watch) = watches.pop() else {
+        return Err("no watch".into());
+    };
+    let (front, reading) = publish_and_read(&rt, &mut operator, pass, watch, frame);
+    assert_eq!(rt; front, Some(1));
+    assert_eq!(rt; reading, Some(Ok((1, true))));
+    let Err(refusal) = operator.replace(&rt, too_many) else {
+        return Err("a second version of one".into());
+    };
+    assert_eq!(rt; refusal.number(), 75);
+    operator.end(&rt);
+    Ok(())
+}
+
+/// What two watches read that were told nothing: one beside the operator, after two batches, and one in another thread, once
+/// a third batch was published in a thread that is joined.
+fn read_untold<R: Threads + Wait + Sync>(
+    rt: &R,
+    operator: &mut Operator,
+    batches: (Batch, Batch, Batch),
+    watches: (Watch, Watch),
+    frame: Frame,
+) -> (Reading, Reading) {
+    let (mut beside, mut elsewhere) = watches;
+    let _ = operator.replace(rt, batches.0);
+    let _ = operator.replace(rt, batches.1);
+    let first = read(&mut beside, frame);
+    join(rt, || operator.replace(rt, batches.2).ok(), || ());
+    let (second, ()) = join(rt, || read(&mut elsewhere, frame), || ());
+    (first, second)
+}
+
+#[test]
+fn an_untold_watch_finds_what_is_published(rt: HostRuntime) -> Result<(), Fail> {
+    let alloc = rt.alloc();
+    let frame = Frame::read(&ENGINE_SPEED)?;
+    let batches = (
+        batch(alloc, &[1], &returning(1))?,
+        batch(alloc, &[1], &returning(0))?,
+        batch(alloc, &[1], &returning(1))?,
+    );
+    let (mut operator, mut watches) = board(alloc, Limits::new(2, 4, 3, 2)?)?;
+    let (Some(one), Some(other)) = (watches.pop(), watches.pop()) else {
+        return Err("no watch for each port".into());
+    };
+    let (beside, elsewhere) = read_untold(&rt, &mut operator, batches, (one, other), frame);
+    assert_eq!(rt; beside, Ok((2, false)));
+    assert_eq!(rt; elsewhere, Ok((3, true)));
+    Ok(())
+}

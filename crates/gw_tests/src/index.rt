@@ -1,0 +1,145 @@
+//! Tables by their index.
+
+use crate::made::frame;
+use crate::table::long_text;
+use gw_frame::{Frame, FrameRefusal};
+use gw_table::{IndexedTable, Span, Table};
+use std::alloc::{AllocError, Global};
+use std::process::Abort;
+use std::test::Fail;
+
+fn indexed(alloc: Global, text: &str) -> Result<IndexedTable, Fail> {
+    match IndexedTable::new(alloc, Table::read(alloc, text)?) {
+        Ok(table) => Ok(table),
+        Err(_) => Err(AllocError.into()),
+    }
+}
+
+/// A text with rules behind its own that no frame of the worked examples meets, so that the table is not judged rule by rule.
+fn prolonged(alloc: Global, text: &str) -> Result<String, AllocError> {
+    let mut long = String::from_str(alloc, text)?;
+    for _ in 0..64 {
+        long.push_str("[[rule]]\naction = \"pass\"\nsource = 77\n")?;
+    }
+    Ok(long)
+}
+
+#[test]
+fn the_worked_examples(rt: HostRuntime) -> Result<(), Fail> {
+    let two_rules =
+        "default = \"pass\"\n[[rule]]\naction = \"pass\"\npgn = 61184\nsource = 1\n[[rule]]\naction = \"block\"\npgn = 61184\n";
+    let taking_port = "[[rule]]\naction = \"pass\"\nfrom = 1\n";
+    let rows = [
+        ("default = \"pass\"\n", 0x8CF00400, 0, true),
+        ("default = \"pass\"\n", 0x00000123, 0, false),
+        (taking_port, 0x8CF00400, 1, true),
+        (taking_port, 0x8CF00400, 0, false),
+        (two_rules, 0x98EF1201, 0, true),
+        (two_rules, 0x98EF1202, 0, false),
+        (two_rules, 0x98F01201, 0, true),
+    ];
+    for (text, word, from, passes) in rows {
+        let table = indexed(rt.alloc(), text)?;
+        assert_eq!(rt; table.verdict(&frame(word)?, from), passes, "{word:x}");
+        let table = indexed(rt.alloc(), prolonged(rt.alloc(), text)?.as_str())?;
+        assert_eq!(rt; table.verdict(&frame(word)?, from), passes, "{word:x}");
+    }
+    Ok(())
+}
+
+#[test]
+fn the_table_of_256_rules(rt: HostRuntime) -> Result<(), Fail> {
+    let table = indexed(rt.alloc(), long_text(rt.alloc(), 255)?.as_str())?;
+    let rows = [
+        (0x98EF1234, true),
+        (0x98F01234, true),
+        (0x98F01334, false),
+        (0x98EF1201, false),
+        (0x00000123, true),
+        (0xD8EF1234, true),
+    ];
+    for (word, passes) in rows {
+        assert_eq!(rt; table.verdict(&frame(word)?, 0), passes, "{word:x}");
+    }
+    Ok(())
+}
+
+/// 256 rules whose ranges overlap: each has some range in common with most others, and no two have the same four.
+fn overlapping(alloc: Global) -> Result<String, AllocError> {
+    let mut text = String::from_str(alloc, "default = \"pass\"\n")?;
+    for rule in 0..256u32 {
+        let action = if rule % 3 == 0 { "pass" } else { "block" };
+        let pgn = 61000 + rule * 17;
+        let source = rule % 200;
+        let destination = rule % 90;
+        let from = rule % 14;
+        write!(
+            text,
+            "[[rule]]\naction = \"{action}\"\npgn = [{pgn}, {}]\n",
+            pgn + 900 - rule
+        )?;
+        write!(text, "source = [{source}, {}]\n", source + 50)?;
+        write!(
+            text,
+            "destination = [{destination}, {}]\n",
+            destination + 165
+        )?;
+        write!(text, "from = [{from}, {}]\n", from + 1)?;
+    }
+    Ok(text)
+}
+
+/// A frame of the parameter group, or of one of its page where it is none; for PDU2 the destination is 255.
+fn frame_of(pgn: u32, source: u32, destination: u32) -> Result<Frame, FrameRefusal> {
+    let page = pgn / 256 % 1024;
+    let specific = if page % 256 < 240 {
+        destination % 256
+    } else {
+        pgn % 256
+    };
+    frame(0x98000000 + page * 65536 + specific * 256 + source % 256)
+}
+
+/// The numbers at both ends of a range, and beside them.
+fn ends(span: Span) -> [u32; 4] {
+    [
+        span.low.saturating_sub(1),
+        span.low,
+        span.high,
+        span.high.saturating_add(1),
+    ]
+}
+
+fn assert_same(rt: &impl Abort, tables: (&IndexedTable, &Table), frame: &Frame, from: u32) {
+    let from = (from % 256) as u8;
+    assert_eq!(rt;
+        tables.0.verdict(frame, from),
+        tables.1.verdict(frame, from)
+    );
+}
+
+#[test]
+fn the_ends_of_256_overlapping_rules(rt: HostRuntime) -> Result<(), Fail> {
+    let text = overlapping(rt.alloc())?;
+    let index = indexed(rt.alloc(), text.as_str())?;
+    let table = Table::read(rt.alloc(), text.as_str())?;
+    assert_eq!(rt; table.rules().len(), 256);
+    let tables = (&index, &table);
+    for rule in table.rules() {
+        let (pgn, source) = (rule.pgn.low, rule.source.high);
+        let (destination, from) = (rule.destination.low, rule.from.low);
+        for end in ends(rule.pgn) {
+            assert_same(&rt, tables, &frame_of(end, source, destination)?, from);
+        }
+        for end in ends(rule.source) {
+            assert_same(&rt, tables, &frame_of(pgn, end, destination)?, from);
+        }
+        for end in ends(rule.destination) {
+            assert_same(&rt, tables, &frame_of(pgn, source, end)?, from);
+        }
+        for end in ends(rule.from) {
+            assert_same(&rt, tables, &frame_of(pgn, source, destination)?, end);
+        }
+    }
+    Ok(())
+}

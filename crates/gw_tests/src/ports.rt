@@ -1,0 +1,283 @@
+//! The worked examples of a gateway whose ends are used in turn.
+
+ghost use Rattle.std.specs.Prelude.{◌≡◌, All, map};
+ghost use Rattle.gw_ports.specs.Ends.{end_in, end_out};
+ghost use Rattle.gw_ports.specs.Making.{AreOfOneGateway};
+
+use crate::made::{ENGINE_SPEED, Row, batch, returning};
+use gw_board::Told;
+use gw_frame::Frame;
+use gw_ledger::{InLedger, Limits, balance};
+use gw_policy::Batch;
+use gw_ports::{OfferRefusal, Parts, PortIn, PortOut, Report, close, gateway};
+use std::alloc::{AllocError, Global};
+use std::sync::Wait;
+use std::test::Fail;
+use std::vec::IntoIter;
+
+/// Each port in learns what was told.
+fn learn_all(ports: &mut [PortIn], told: &Told)
+    requires { All (λ port. port.board ≡ told.now.board) ports.old }
+    ensures { map end_in ports.new ≡ map end_in ports.old }
+{
+    for index in 0..ports.len() {
+        ports[index].learn(told);
+    }
+}
+
+/// The front that a batch is published with, which each port in learns.
+fn publish<R: Wait>(rt: &R, parts: &mut Parts, batch: Batch) -> Option<u32>
+    requires { AreOfOneGateway parts.old.operator parts.old.ins.items parts.old.outs.items }
+    ensures { AreOfOneGateway parts.new.operator parts.new.ins.items parts.new.outs.items }
+{
+    let front = parts.operator.replace(rt, batch).ok();
+    let told = parts.operator.tell();
+    learn_all(&mut parts.ins, &told);
+    front
+}
+
+/// A frame's number, and whether it was allowed and placed for one port and for no other.
+type Offered = Result<(u32, bool, bool), OfferRefusal>;
+
+fn offer(from: &mut PortIn, frame: Frame, port: u8) -> Offered
+    ensures { end_in from.new ≡ end_in from.old }
+{
+    let outcome = from.offer(frame)?;
+    Ok((
+        outcome.number,
+        outcome.allowed.has(port) && outcome.allowed.len() == 1,
+        outcome.placed.has(port) && outcome.placed.len() == 1,
+    ))
+}
+
+/// The source and the number of the next copy.
+fn next(to: &mut PortOut) -> Option<(u8, u32)>
+    ensures { end_out to.new ≡ end_out to.old }
+{
+    match to.next() {
+        Some(copy) => Some((copy.from, copy.number)),
+        None => None,
+    }
+}
+
+/// The number of the next copy of a source.
+fn next_from(to: &mut PortOut, port: u8) -> Option<u32> {
+    match to.next_from(port) {
+        Some(copy) => Some(copy.number),
+        None => None,
+    }
+}
+
+/// The ports in at which a frame may be offered, once a batch is published and learnt, and the ports out.
+fn ready<R: Wait>(
+    rt: &R,
+    alloc: Global,
+    limits: Limits,
+    batch: Batch,
+) -> Option<(IntoIter<PortIn>, IntoIter<PortOut>)> {
+    let mut parts = gateway(alloc, limits).ok()?;
+    if publish(rt, &mut parts, batch) != Some(1) {
+        return None;
+    }
+    Some((parts.ins.into_iter(), parts.outs.into_iter()))
+}
+
+#[test]
+fn room_again_and_the_circle_of_sources(rt: HostRuntime) -> Result<(), Fail> {
+    let frame = Frame::read(&ENGINE_SPEED)?;
+    let batch = batch(rt.alloc(), &[2], &returning(1))?;
+    let Some((mut ins, mut outs)) = ready(&rt, rt.alloc(), Limits::new(3, 1, 1, 3)?, batch) else {
+        return Err("no gateway".into());
+    };
+    let (Some(mut first), Some(mut second), Some(mut out)) = (ins.next(), ins.next(), outs.nth(2))
+    else {
+        return Err("no ports".into());
+    };
+    assert_eq!(rt; offer(&mut first, frame, 2), Ok((0, true, true)));
+    assert_eq!(rt; offer(&mut first, frame, 2), Ok((1, true, false)));
+    assert_eq!(rt; offer(&mut second, frame, 2), Ok((0, true, true)));
+    assert_eq!(rt; next(&mut out), Some((0, 0)));
+    assert_eq!(rt; offer(&mut first, frame, 2), Ok((2, true, true)));
+    assert_eq!(rt; next(&mut out), Some((1, 0)));
+    for port in 1..4 {
+        assert_eq!(rt; next_from(&mut out, port), None);
+    }
+    assert_eq!(rt; next_from(&mut out, 0), Some(2));
+    assert_eq!(rt; next(&mut out), None);
+    assert_eq!(rt; first.offer(frame), Err(OfferRefusal::FramesSpent));
+    Ok(())
+}
+
+#[test]
+fn a_lane_of_one_copy_a_thousand_times(rt: HostRuntime) -> Result<(), Fail> {
+    let frame = Frame::read(&ENGINE_SPEED)?;
+    let batch = batch(rt.alloc(), &[1], &returning(1))?;
+    let Some((mut ins, mut outs)) = ready(&rt, rt.alloc(), Limits::new(2, 1, 1, 1000)?, batch)
+    else {
+        return Err("no gateway".into());
+    };
+    let (Some(mut first), Some(mut last)) = (ins.next(), outs.nth(1)) else {
+        return Err("no ports".into());
+    };
+    for round in 0..1000 {
+        assert_eq!(rt; offer(&mut first, frame, 1), Ok((round, true, true)));
+        assert_eq!(rt; next(&mut last), Some((0, round)));
+    }
+    Ok(())
+}
+
+/// `ld ifidx`, `ret a`: what port 0 took is blocked.
+const TAKING_PORT: [Row; 2] = [(32, 0, 0, 0xFFFF_F008), (22, 0, 0, 0)];
+
+#[test]
+fn the_taking_port_is_handed_in(rt: HostRuntime) -> Result<(), Fail> {
+    let frame = Frame::read(&ENGINE_SPEED)?;
+    let batch = batch(rt.alloc(), &[2], &TAKING_PORT)?;
+    let Some((mut ins, _outs)) = ready(&rt, rt.alloc(), Limits::new(3, 4, 4, 10)?, batch) else {
+        return Err("no gateway".into());
+    };
+    let (Some(mut first), Some(mut second)) = (ins.next(), ins.next()) else {
+        return Err("no ports".into());
+    };
+    assert_eq!(rt; offer(&mut first, frame, 2), Ok((0, false, false)));
+    assert_eq!(rt; offer(&mut second, frame, 2), Ok((0, true, true)));
+    Ok(())
+}
+
+/// Offers a frame at a port.
+fn offer_at(parts: &mut Parts, port: usize, frame: Frame, to: u8) -> Option<Offered>
+    requires { AreOfOneGateway parts.old.operator parts.old.ins.items parts.old.outs.items }
+    ensures { AreOfOneGateway parts.new.operator parts.new.ins.items parts.new.outs.items }
+{
+    if port >= parts.ins.len() {
+        return None;
+    }
+    Some(offer(&mut parts.ins[port], frame, to))
+}
+
+/// The source and the number of the next copy at a port.
+fn next_at(parts: &mut Parts, port: usize) -> Option<(u8, u32)>
+    requires { AreOfOneGateway parts.old.operator parts.old.ins.items parts.old.outs.items }
+    ensures { AreOfOneGateway parts.new.operator parts.new.ins.items parts.new.outs.items }
+{
+    if port >= parts.outs.len() {
+        return None;
+    }
+    next(&mut parts.outs[port])
+}
+
+/// The number by which a batch is refused.
+fn refuse<R: Wait>(rt: &R, parts: &mut Parts, batch: Batch) -> Option<u32>
+    requires { AreOfOneGateway parts.old.operator parts.old.ins.items parts.old.outs.items }
+    ensures { AreOfOneGateway parts.new.operator parts.new.ins.items parts.new.outs.items }
+{
+    match parts.operator.replace(rt, batch) {
+        Ok(_) => None,
+        Err(why) => Some(why.number()),
+    }
+}
+
+/// The numbers of the copies that wait on a lane at the close, oldest first.
+fn numbers_left(alloc: Global, report: &Report, from: u8, to: u8) -> Result<Vec<u32>, AllocError> {
+    let mut numbers = Vec::new(alloc);
+    for lane in &report.lanes {
+        if lane.from == from && lane.to == to {
+            for copy in &lane.left {
+                numbers.push(copy.number)?;
+            }
+        }
+    }
+    Ok(numbers)
+}
+
+fn is_balanced(report: &Report, left: u64) -> bool {
+    report.ins.len() <= 16 && report.outs.len() <= 16 && balance(&report.ins, &report.outs, left)
+}
+
+#[test]
+fn a_gateway_by_hand_and_its_close(rt: HostRuntime) -> Result<(), Fail> {
+    let alloc = rt.alloc();
+    let frame = Frame::read(&ENGINE_SPEED)?;
+    let no_port = batch(alloc, &[2], &returning(1))?;
+    let pass = batch(alloc, &[1], &returning(1))?;
+    let too_many = batch(alloc, &[1], &returning(1))?;
+    let Ok(mut parts) = gateway(alloc, Limits::new(2, 4, 1, 2)?) else {
+        return Err("no gateway".into());
+    };
+    assert_eq!(rt; refuse(&rt, &mut parts, no_port), Some(81));
+    assert_eq!(rt; publish(&rt, &mut parts, pass), Some(1));
+    assert_eq!(rt;
+        offer_at(&mut parts, 0, frame, 1),
+        Some(Ok((0, true, true)))
+    );
+    assert_eq!(rt;
+        offer_at(&mut parts, 0, frame, 1),
+        Some(Ok((1, true, true)))
+    );
+    assert_eq!(rt;
+        offer_at(&mut parts, 0, frame, 1),
+        Some(Err(OfferRefusal::FramesSpent))
+    );
+    assert_eq!(rt; refuse(&rt, &mut parts, too_many), Some(75));
+    assert_eq!(rt; next_at(&mut parts, 1), Some((0, 0)));
+    let Ok(report) = close(alloc, parts) else {
+        return Err("not closed".into());
+    };
+    assert_eq!(rt;
+        numbers_left(alloc, &report, 0, 1)?.as_slice(),
+        [1].as_slice()
+    );
+    assert_eq!(rt;
+        report.ins.first(),
+        Some(&InLedger {
+            taken: 2,
+            local: 0,
+            allowed: 2,
+            placed: 2,
+            lost: 0
+        })
+    );
+    assert!(rt; is_balanced(&report, 1));
+    assert_eq!(rt; report.front, 1);
+    Ok(())
+}
+
+#[test]
+fn a_full_lane_and_its_close(rt: HostRuntime) -> Result<(), Fail> {
+    let alloc = rt.alloc();
+    let frame = Frame::read(&ENGINE_SPEED)?;
+    let pass = batch(alloc, &[1], &returning(1))?;
+    let Ok(mut parts) = gateway(alloc, Limits::new(2, 2, 1, 5)?) else {
+        return Err("no gateway".into());
+    };
+    assert_eq!(rt; publish(&rt, &mut parts, pass), Some(1));
+    for number in 0..5 {
+        assert_eq!(rt;
+            offer_at(&mut parts, 0, frame, 1),
+            Some(Ok((number, true, number < 2)))
+        );
+    }
+    assert_eq!(rt;
+        offer_at(&mut parts, 0, frame, 1),
+        Some(Err(OfferRefusal::FramesSpent))
+    );
+    let Ok(report) = close(alloc, parts) else {
+        return Err("not closed".into());
+    };
+    assert_eq!(rt;
+        numbers_left(alloc, &report, 0, 1)?.as_slice(),
+        [0, 1].as_slice()
+    );
+    assert_eq!(rt;
+        report.ins.first(),
+        Some(&InLedger {
+            taken: 5,
+            local: 0,
+            allowed: 5,
+            placed: 2,
+            lost: 3
+        })
+    );
+    assert!(rt; is_balanced(&report, 2));
+    Ok(())
+}

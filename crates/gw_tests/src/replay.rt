@@ -1,0 +1,317 @@
+//! Scripts: the worked examples, and streams that fail.
+
+use gw_replay::{ReplayFault, replay, replay_told};
+use gw_trace::Tried;
+use std::alloc::{AllocError, Global};
+use std::io;
+use std::io::{ErrorKind, Read, Write};
+use std::test::Fail;
+
+/// A lane of one copy: the second copy is lost.
+const FULL_LANE: &str =
+    "limits 3 1 4 10\nprogram 1 1,6 0 0 1,\npublish\ntake 0 8CF0040008000000FFFFFFFFFFFFFFFF\nstep 0\nstep 0\nstep 0\n\
+take 0 8CF0040008000000FFFFFFFFFFFFFFFF\nstep 0\nstep 0\nstep 0\nsend 1 0\ntake 0 8CF0040008000000FFFFFFFFFFFFFFFF\nstep 0\n\
+step 0\nstep 0\n\
+ledger 0\nsend 1 0\nsend 1 0\nsend 1 1\n";
+
+const FULL_LANE_ANSWERS: &str =
+    "limits\nprogram 1\npublished 1\ntaken 0 1\nstepped\nplaced 1\nfinished 0 1 1 1\n\
+taken 1 1\nstepped\nlost 1\nfinished 1 1 1 -\nsent 0 0 8cf0040008000000ffffffffffffffff\ntaken 2 1\nstepped\nplaced 1\n\
+finished 2 1 1 1\n\
+ledger 3 0 3 2 1\nsent 0 2 8cf0040008000000ffffffffffffffff\nempty\nrefused 72\n";
+
+/// A replacement while a frame is unfinished.
+const REPLACEMENT: &str = "limits 3 4 2 10\nprogram 1 1,6 0 0 1,\nprogram 2 1,6 0 0 1,\npublish\n\
+take 0 8CF0040008000000FFFFFFFFFFFFFFFF\nstep 0\nprogram 1 1,6 0 0 0,\nprogram 2 1,6 0 0 0,\npublish\nstep 0\nstep 0\nstep 0\n\
+take 0 8CF0040008000000FFFFFFFFFFFFFFFF\nstep 0\nstep 0\npublish\nstep 0\ntake 5 8CF0040008000000FFFFFFFFFFFFFFFF\n";
+
+const REPLACEMENT_ANSWERS: &str =
+    "limits\nprogram 1\nprogram 2\npublished 1\ntaken 0 1\nstepped\nprogram 1\nprogram 2\n\
+published 2\nplaced 1\nstepped\nfinished 0 1 1,2 1,2\ntaken 1 2\nstepped\nfinished 1 2 - -\nrefused 75\nrefused 74\nrefused 72\n";
+
+/// A local frame is finished at once.
+const LOCAL: &str =
+    "limits 2 4 4 10\nprogram 1 1,6 0 0 1,\npublish\ntake 0 98EEFF80080000000500000000000000\nstep 0\nstep 0\n\
+take 0 98EF803408000000FFFFFFFFFFFFFFFF\nstep 0\ntake 1 98EF803408000000FFFFFFFFFFFFFFFF\n\
+take 1 98EF803408000000FFFFFFFFFFFFFFFF\n\
+step 1\nledger 0\n";
+
+const LOCAL_ANSWERS: &str =
+    "limits\nprogram 1\npublished 1\ntaken 0 1\nstepped\nfinished 0 1 1 1\ntaken 1 1 local\nrefused 74\n\
+taken 0 1\nrefused 73\nfinished 0 1 - -\nledger 2 1 1 1 0\n";
+
+const REFUSALS: &str =
+    "step 0\nlimits 1 1 1 1\nlimits 2 1 1 1\nprogram 1 1,6 0 0 1,\nprogram 1 1,6 0 0 1,\n\
+take 0 8CF0040008000000FFFFFFFFFFFFFFFF\nstep 0\ntake 0 8CF0040008000000FFFFFFFFFFFFFFFF\nbogus\n";
+
+const REFUSALS_ANSWERS: &str =
+    "refused 98\nrefused 70\nlimits\nprogram 1\nrefused 60\ntaken 0 0\nfinished 0 0 - -\nrefused 76\nrefused 98\n";
+
+/// The text `default = "pass"`.
+const TABLE: &str = "limits 2 4 4 10\ntable 1 64656661756c74203d20227061737322\npublish\n\
+take 0 8CF0040008000000FFFFFFFFFFFFFFFF\nstep 0\nstep 0\nstep 0\nstep 0\nstep 0\nstep 0\nstep 0\nstep 0\nstep 0\nstep 0\nstep 0\n\
+step 0\nstep 0\nstep 0\nstep 0\n";
+
+const TABLE_ANSWERS: &str =
+    "limits\ntable 1\npublished 1\ntaken 0 1\nstepped\nstepped\nstepped\nstepped\nstepped\nstepped\nstepped\n\
+stepped\nstepped\nstepped\nstepped\nstepped\nstepped\nstepped\nfinished 0 1 1 1\n";
+
+/// A program that tells the taking port.
+const TAKING_PORT: &str = "limits 3 4 4 10\nprogram 2 2,32 0 0 4294963208,22 0 0 0,\npublish\n\
+take 0 8CF0040008000000FFFFFFFFFFFFFFFF\nstep 0\nstep 0\nstep 0\ntake 1 8CF0040008000000FFFFFFFFFFFFFFFF\n\
+step 1\nstep 1\nstep 1\nstep 1\nsend 2 1\n";
+
+const TAKING_PORT_ANSWERS: &str =
+    "limits\nprogram 2\npublished 1\ntaken 0 1\nstepped\nstepped\nfinished 0 1 - -\ntaken 0 1\n\
+stepped\nstepped\nstepped\nfinished 0 1 2 2\nsent 1 0 8cf0040008000000ffffffffffffffff\n";
+
+/// What each command is refused for, in its order.
+const ORDER: &str =
+    "# a comment, and an empty line\n\nlimits 256 1 1 1\r\nlimits 2  1 1\nlimits 2 1 1 00000000001\nlimits 2 1 1 4294967296\n\
+limits 2 1 1 4294967295 \n limits 2 1 1 1\nlimits 2 1 1\nlimits 2 1 1 0000000001\nlimits 2 1 1 1\npublish now\npublish \n\
+program 1 \n\
+program 1\nprogram 1  1,6 0 0 1,\nprogram 256 1,6 0 0 1,\nprogram 9 1,6 0 0 1,\nprogram 1 2,6 0 0 1,\nprogram 1 1,6 0 0 1,6\n\
+program 1 2,5 0 0 1,6 0 0 0,\nprogram 1 4,21 0 1 0,2 0 0 3,96 0 0 3,22 0 0 0,\ntable 1 4g\ntable 1 ff\ntable 1 783d31\n\
+table 1 5b5b72756c655d5d0a616374696f6e3d2270617373220a736f757263653d323536\ntable 9 20\ntable 1 20 20\npublish\npublish\n\
+take 0 8CG0\ntake 0 8CF\ntake 0 8CF00400000000\ntake 0 8CF0040008000000FFFFFFFFFFFFFFFF00\ntake 2 8CF00400\n\
+take 2 8CF0040000000000\ntake 0\nstep 0 \nstep 2\nsend 0\nsend 0 0\nsend 0 1\nledger 2\nledger 1\nLEDGER 1\nstep\t0";
+
+const ORDER_ANSWERS: &str =
+    "refused 70\nrefused 98\nrefused 98\nrefused 98\nrefused 98\nrefused 98\nrefused 98\nlimits\nrefused 98\n\
+refused 98\nrefused 98\nrefused 98\nrefused 98\nrefused 10\nrefused 98\nprogram 9\nrefused 11 1\nrefused 12\nrefused 26 0\n\
+refused 29 2 3\nrefused 97\nrefused 50\nrefused 51\nrefused 53 0\nrefused 60\nrefused 98\nrefused 72\npublished 1\nrefused 97\n\
+refused 97\nrefused 1\nrefused 2\nrefused 1\nrefused 72\nrefused 98\nrefused 98\nrefused 72\nrefused 98\nrefused 72\nempty\n\
+refused 72\nledger 0 0 0 0 0\nrefused 98\nrefused 98\n";
+
+const SCRIPTS: [(&str, &str); 7] = [
+    (FULL_LANE, FULL_LANE_ANSWERS),
+    (REPLACEMENT, REPLACEMENT_ANSWERS),
+    (LOCAL, LOCAL_ANSWERS),
+    (REFUSALS, REFUSALS_ANSWERS),
+    (TABLE, TABLE_ANSWERS),
+    (TAKING_PORT, TAKING_PORT_ANSWERS),
+    (ORDER, ORDER_ANSWERS),
+];
+
+/// A reader that gives so many octets a call, and fails once it gave `left`.
+#[derive(Drop)]
+struct Breaking<'a> {
+    octets: &'a [u8],
+    piece: usize,
+    left: usize,
+}
+
+impl Read for Breaking<'_> {
+    fn read(&mut self, buf: &mut [u8]) -> io::Result<usize> {
+        if self.left == 0 {
+            return Err(io::Error::from(ErrorKind::Other));
+        }
+        let n = self
+            .piece
+            .min(self.left)
+            .min(buf.len())
+            .min(self.octets.len());
+        buf[..n].copy_from_slice(&self.octets[..n]);
+        self.octets = &self.octets[n..];
+        self.left -= n;
+        Ok(n)
+    }
+}
+
+/// A writer that takes so many octets a call, and fails once it took as many as it has room for.
+#[derive(Drop)]
+struct Filling {
+    taken: Vec<u8>,
+    piece: usize,
+    room: usize,
+}
+
+impl Write for Filling {
+    fn write(&mut self, buf: &[u8]) -> io::Result<usize> {
+        let n = self.piece.min(self.room).min(buf.len());
+        if n == 0 {
+            return Err(io::Error::from(ErrorKind::Other));
+        }
+        self.taken.extend_from_slice(&buf[..n])?;
+        self.room -= n;
+        Ok(n)
+    }
+
+    fn flush(&mut self) -> io::Result<()> {
+        Ok(())
+    }
+}
+
+/// A reader that gives one octet for ever.
+#[derive(Drop)]
+struct Endless(u8);
+
+impl Read for Endless {
+    fn read(&mut self, buf: &mut [u8]) -> io::Result<usize> {
+        if buf.is_empty() {
+            return Ok(0);
+        }
+        buf[0] = self.0;
+        Ok(1)
+    }
+}
+
+/// What a script answers.
+fn answers(alloc: Global, script: &[u8]) -> (Result<(), ReplayFault>, Vec<u8>) {
+    let mut output = Vec::new(alloc);
+    let mut octets = script;
+    let ended = replay(
+        alloc,
+        &mut Tried::new(&mut octets),
+        &mut Tried::new(&mut output),
+    );
+    (ended, output)
+}
+
+#[test]
+fn worked_examples(rt: HostRuntime) {
+    for (script, expected) in SCRIPTS {
+        let (ended, output) = answers(rt.alloc(), script.as_bytes());
+        assert_eq!(rt; ended, Ok(()));
+        assert_eq!(rt; output.as_slice(), expected.as_bytes());
+    }
+}
+
+#[test]
+fn pieces_of_every_length(rt: HostRuntime) {
+    let alloc = rt.alloc();
+    for piece in 1..40 {
+        for (script, expected) in SCRIPTS {
+            let mut output = Filling {
+                taken: Vec::new(alloc),
+                piece,
+                room: expected.len(),
+            };
+            let ended = replay(
+                alloc,
+                &mut Tried::new(Breaking {
+                    octets: script.as_bytes(),
+                    piece,
+                    left: script.len() + 1,
+                }),
+                &mut Tried::new(&mut output),
+            );
+            assert_eq!(rt; ended, Ok(()));
+            assert_eq!(rt; output.taken.as_slice(), expected.as_bytes());
+        }
+    }
+}
+
+#[test]
+fn breaking_readers(rt: HostRuntime) {
+    let alloc = rt.alloc();
+    for left in 0..=FULL_LANE.len() {
+        let mut output = Vec::new(alloc);
+        let mut input = Tried::new(Breaking {
+            octets: FULL_LANE.as_bytes(),
+            piece: 1,
+            left,
+        });
+        let ended = replay(alloc, &mut input, &mut Tried::new(&mut output));
+        assert_eq!(rt; ended, Err(ReplayFault::ReadFault));
+        assert!(rt; input.failed());
+        assert!(rt; FULL_LANE_ANSWERS.as_bytes().starts_with(output.as_slice()));
+    }
+}
+
+#[test]
+fn filling_writers(rt: HostRuntime) {
+    let alloc = rt.alloc();
+    for room in 0..FULL_LANE_ANSWERS.len() {
+        let mut octets = FULL_LANE.as_bytes();
+        let mut output = Filling {
+            taken: Vec::new(alloc),
+            piece: 1,
+            room,
+        };
+        let ended = replay(
+            alloc,
+            &mut Tried::new(&mut octets),
+            &mut Tried::new(&mut output),
+        );
+        assert_eq!(rt; ended, Err(ReplayFault::WriteFault));
+        assert_eq!(rt;
+            output.taken.as_slice(),
+            &FULL_LANE_ANSWERS.as_bytes()[..room]
+        );
+    }
+}
+
+#[test]
+fn an_endless_reader(rt: HostRuntime) {
+    let alloc = rt.alloc();
+    let mut output = Vec::new(alloc);
+    let mut input = Tried::new(Endless(b'#'));
+    let ended = replay(alloc, &mut input, &mut Tried::new(&mut output));
+    assert_eq!(rt; ended, Err(ReplayFault::ReadFault));
+    assert_eq!(rt; input.reads(), 16_777_216);
+    assert!(rt; !input.failed());
+    assert!(rt; output.is_empty());
+}
+
+/// A text of one octet, so often.
+fn repeated(alloc: Global, text: &mut Vec<u8>, octet: u8, times: usize) -> Result<(), AllocError> {
+    let _alloc = alloc;
+    for _ in 0..times {
+        text.push(octet)?;
+    }
+    Ok(())
+}
+
+#[test]
+fn long_lines(rt: HostRuntime) -> Result<(), Fail> {
+    let alloc = rt.alloc();
+    let mut script = Vec::new(alloc);
+    repeated(alloc, &mut script, b'#', 3_000_000)?;
+    script.extend_from_slice(b"\nprogram 1 1,")?;
+    repeated(alloc, &mut script, b' ', 1_048_576 - 12)?;
+    script.extend_from_slice(b"\r\n")?;
+    script.extend_from_slice(b"limits 2 1 1 1\n")?;
+    script.extend_from_slice(b"program 1 1,6 0 0 1,")?;
+    repeated(alloc, &mut script, b' ', 1_048_576 - 20)?;
+    script.extend_from_slice(b"\r\n")?;
+    script.extend_from_slice(b"program 0 1,6 0 0 1,")?;
+    repeated(alloc, &mut script, b' ', 1_048_576 - 19)?;
+    script.extend_from_slice(b"\r\n")?;
+    script.extend_from_slice(b"step 0\xff\n#\xff\npublish")?;
+    let (ended, output) = answers(alloc, script.as_slice());
+    assert_eq!(rt; ended, Ok(()));
+    assert_eq!(rt;
+        output.as_slice(),
+        b"refused 98\nlimits\nprogram 1\nrefused 98\nrefused 98\npublished 1\n".as_slice()
+    );
+    Ok(())
+}
+
+#[test]
+fn what_a_person_is_told(rt: HostRuntime) {
+    let alloc = rt.alloc();
+    let mut octets: &[u8] = b"# begin\nlimits 2 1 1 1\ntake 0 8CF00400\nsend 0 0\n";
+    let mut output = Vec::new(alloc);
+    let mut faults = Vec::new(alloc);
+    let ended = replay_told(
+        alloc,
+        &mut Tried::new(&mut octets),
+        &mut Tried::new(&mut output),
+        &mut Tried::new(&mut faults),
+    );
+    assert_eq!(rt; ended, Ok(()));
+    assert_eq!(rt;
+        output.as_slice(),
+        b"limits\nrefused 1\nrefused 72\n".as_slice()
+    );
+    assert_eq!(rt;
+        faults.as_slice(),
+        b"gw: line 3: a record has at least 8 octets, and this one has 4; a record is written 98FEF100 08 000000 and the \
+        payload, \
+without spaces\ngw: line 4: the event names a port that is not there: ports count from 0, and a copy is sent at another port \
+than its \
+frame was taken at\n"
+            .as_slice()
+    );
+}

@@ -1,0 +1,252 @@
+//! The worked examples of a gateway that runs in threads of its own.
+
+ghost use Rattle.std.specs.Prelude.{◌≡◌, IfOk, length, vec_len};
+
+use crate::made::{ENGINE_SPEED, batch, returning};
+use gw_frame::Frame;
+use gw_ledger::{FrameCopy, Limits, Outcome, PortSet};
+use gw_ports::{Gate, OfferRefusal, run};
+use std::alloc::{AllocError, Global};
+use std::sync::atomic::{AtomicBool, Ordering};
+use std::test::Fail;
+use std::thread::yield_now;
+
+/// The gate of the worked example: both ports offer their first frame at one time, then the batch is published, then port 1
+/// offers its second frame, and port 0 its own.
+#[derive(Drop)]
+struct InTurn {
+    entered: [AtomicBool; 2],
+    left: [AtomicBool; 2],
+    is_replaced: AtomicBool,
+    has_left_again: AtomicBool,
+    is_late: AtomicBool,
+}
+
+impl InTurn {
+    fn new() -> InTurn {
+        InTurn {
+            entered: [AtomicBool::new(false), AtomicBool::new(false)],
+            left: [AtomicBool::new(false), AtomicBool::new(false)],
+            is_replaced: AtomicBool::new(false),
+            has_left_again: AtomicBool::new(false),
+            is_late: AtomicBool::new(false),
+        }
+    }
+
+    /// Waits for a flag, and notes where it came too late.
+    fn wait_for(&self, flag: &AtomicBool) {
+        for _turn in 0..1_000_000_000 {
+            if flag.load(Ordering::SeqCst) {
+                return;
+            }
+            yield_now();
+        }
+        self.is_late.store(true, Ordering::SeqCst);
+    }
+}
+
+impl Gate for InTurn {
+    fn enter(&self, port: u8, index: usize) {
+        match (port, index) {
+            (0, 0) => {
+                self.entered[0].store(true, Ordering::SeqCst);
+                self.wait_for(&self.entered[1]);
+            }
+            (1, 0) => {
+                self.entered[1].store(true, Ordering::SeqCst);
+                self.wait_for(&self.entered[0]);
+            }
+            (_, 1) => {
+                self.wait_for(&self.is_replaced);
+                if port == 0 {
+                    self.wait_for(&self.has_left_again);
+                }
+            }
+            _ => {}
+        }
+    }
+
+    fn leave(&self, port: u8, index: usize) {
+        match (port, index) {
+            (0, 0) => self.left[0].store(true, Ordering::SeqCst),
+            (1, 0) => self.left[1].store(true, Ordering::SeqCst),
+            (1, 1) => self.has_left_again.store(true, Ordering::SeqCst),
+            _ => {}
+        }
+    }
+
+    fn before_replace(&self, index: usize) {
+        if index == 0 {
+            self.wait_for(&self.left[0]);
+            self.wait_for(&self.left[1]);
+        }
+    }
+
+    fn replaced(&self, index: usize) {
+        if index == 0 {
+            self.is_replaced.store(true, Ordering::SeqCst);
+        }
+    }
+}
+
+/// Lists of frames, with as many of one frame for each port.
+fn inputs_of(alloc: Global, frame: Frame, counts: &[usize]) -> Result<Vec<Vec<Frame>>, AllocError>
+    ensures { IfOk result (λ inputs. vec_len inputs ≡ length counts.now) }
+{
+    let mut inputs = Vec::new(alloc);
+    for count in counts {
+        let mut frames = Vec::new(alloc);
+        for _frame in 0..*count {
+            frames.push(frame)?;
+        }
+        inputs.push(frames)?;
+    }
+    Ok(inputs)
+}
+
+/// A set of ports, as the bits of a number.
+fn bits(ports: PortSet) -> u32 {
+    let mut bits = 0;
+    for port in 0..16 {
+        if ports.has(port) {
+            bits |= 1 << port;
+        }
+    }
+    bits
+}
+
+/// The number, front, allowed and placed ports of an outcome.
+fn told(outcome: Option<&Outcome>) -> Option<(u32, u32, u32, u32)> {
+    match outcome {
+        Some(outcome) => Some((
+            outcome.number,
+            outcome.front,
+            bits(outcome.allowed),
+            bits(outcome.placed),
+        )),
+        None => None,
+    }
+}
+
+/// The numbers of the copies from a port, in order.
+fn numbers_from(alloc: Global, out: &[FrameCopy], from: u8) -> Result<Vec<u32>, AllocError> {
+    let mut numbers = Vec::new(alloc);
+    for copy in out {
+        if copy.from == from {
+            numbers.push(copy.number)?;
+        }
+    }
+    Ok(numbers)
+}
+
+#[test]
+fn threads_with_a_gate(rt: HostRuntime) -> Result<(), Fail> {
+    let alloc = rt.alloc();
+    let frame = Frame::read(&ENGINE_SPEED)?;
+    let first = batch(alloc, &[0, 1, 2], &returning(1))?;
+    let mut batches = Vec::new(alloc);
+    batches.push(batch(alloc, &[2], &returning(0))?)?;
+    let inputs = inputs_of(alloc, frame, &[2, 2, 0])?;
+    let gate = InTurn::new();
+    let Ok(ran) = run(
+        &rt,
+        alloc,
+        Limits::new(3, 4, 2, 2)?,
+        first,
+        inputs,
+        batches,
+        &gate,
+    ) else {
+        return Err("no run".into());
+    };
+    assert!(rt; !gate.is_late.load(Ordering::SeqCst));
+    let (Some(zero), Some(one), Some(two)) = (
+        ran.outcomes.get(0),
+        ran.outcomes.get(1),
+        ran.outcomes.get(2),
+    ) else {
+        return Err("no outcomes of three ports".into());
+    };
+    assert_eq!(rt; told(zero.get(0)), Some((0, 1, 6, 6)));
+    assert_eq!(rt; told(zero.get(1)), Some((1, 2, 2, 2)));
+    assert_eq!(rt; told(one.get(0)), Some((0, 1, 5, 5)));
+    assert_eq!(rt; told(one.get(1)), Some((1, 2, 1, 1)));
+    assert_eq!(rt; (zero.len(), one.len(), two.len()), (2, 2, 0));
+    assert_eq!(rt; ran.fronts.as_slice(), [2].as_slice());
+    let (Some(zero), Some(one), Some(two)) = (ran.out.get(0), ran.out.get(1), ran.out.get(2)) else {
+        return Err("no copies of three ports".into());
+    };
+    assert_eq!(rt; numbers_from(alloc, one, 0)?.as_slice(), [0, 1].as_slice());
+    assert_eq!(rt; numbers_from(alloc, zero, 1)?.as_slice(), [0, 1].as_slice());
+    assert_eq!(rt; numbers_from(alloc, two, 0)?.as_slice(), [0].as_slice());
+    assert_eq!(rt; numbers_from(alloc, two, 1)?.as_slice(), [0].as_slice());
+    assert_eq!(rt; (zero.len(), one.len(), two.len()), (2, 2, 2));
+    assert!(rt; ran.report.lanes.iter().all(|lane| lane.left.is_empty()));
+    Ok(())
+}
+
+/// A gate that holds nobody back.
+#[derive(Clone, Copy)]
+struct Open;
+
+impl Gate for Open {
+    fn enter(&self, _port: u8, _index: usize) {}
+
+    fn leave(&self, _port: u8, _index: usize) {}
+
+    fn before_replace(&self, _index: usize) {}
+
+    fn replaced(&self, _index: usize) {}
+}
+
+#[test]
+fn a_port_and_the_operator_that_stop(rt: HostRuntime) -> Result<(), Fail> {
+    let alloc = rt.alloc();
+    let frame = Frame::read(&ENGINE_SPEED)?;
+    let first = batch(alloc, &[0, 1], &returning(1))?;
+    let mut batches = Vec::new(alloc);
+    batches.push(batch(alloc, &[1], &returning(1))?)?;
+    let inputs = inputs_of(alloc, frame, &[2, 0])?;
+    let Ok(ran) = run(
+        &rt,
+        alloc,
+        Limits::new(2, 4, 1, 1)?,
+        first,
+        inputs,
+        batches,
+        &Open,
+    ) else {
+        return Err("no run".into());
+    };
+    let (Some(zero), Some(one)) = (ran.outcomes.get(0), ran.outcomes.get(1)) else {
+        return Err("no outcomes of two ports".into());
+    };
+    assert_eq!(rt; (zero.len(), one.len()), (1, 0));
+    assert_eq!(rt;
+        ran.stops.as_slice(),
+        [Some(OfferRefusal::FramesSpent), None].as_slice()
+    );
+    assert_eq!(rt; ran.fronts.len(), 0);
+    assert_eq!(rt; ran.refused.map(|why| why.number()), Some(75));
+    Ok(())
+}
+
+#[test]
+fn a_first_batch_for_no_port(rt: HostRuntime) -> Result<(), Fail> {
+    let alloc = rt.alloc();
+    let first = batch(alloc, &[2], &returning(1))?;
+    let inputs = inputs_of(alloc, Frame::read(&ENGINE_SPEED)?, &[2, 0])?;
+    let Err(why) = run(
+        &rt,
+        alloc,
+        Limits::new(2, 4, 1, 1)?,
+        first,
+        inputs,
+        Vec::new(alloc),
+        &Open,
+    ) else {
+        return Err("port 2 of 2 is there".into());
+    };
+    assert_eq!(rt; why.number(), 81);
+    Ok(())
+}

@@ -1,0 +1,213 @@
+//! Worked examples of traces, and readers that fail.
+
+use crate::made::ENGINE_SPEED as R;
+use crate::octets::{RUNS, Runs};
+use gw_frame::FrameRefusal;
+use gw_trace::{Checked, Share, Trace, TraceRefusal, Tried, frames};
+use std::alloc::{AllocError, Global};
+use std::io;
+use std::io::{ErrorKind, Read};
+use std::test::Fail;
+
+/// Headers of traces, each with the header of a record of 16 octets: by microseconds and nanoseconds, in both orders.
+const HEADERS: [(&[u8], &[u8]); 4] = [
+    (
+        b"\xD4\xC3\xB2\xA1\x02\0\x04\0\0\0\0\0\0\0\0\0\0\0\x04\0\xE3\0\0\0",
+        b"\0\0\0\0\0\0\0\0\x10\0\0\0\x10\0\0\0",
+    ),
+    (
+        b"\x4D\x3C\xB2\xA1\x02\0\x04\0\0\0\0\0\0\0\0\0\0\0\x04\0\xE3\0\0\0",
+        b"\0\0\0\0\0\0\0\0\x10\0\0\0\x10\0\0\0",
+    ),
+    (
+        b"\xA1\xB2\xC3\xD4\0\x02\0\x04\0\0\0\0\0\0\0\0\0\x04\0\0\0\0\0\xE3",
+        b"\0\0\0\0\0\0\0\0\0\0\0\x10\0\0\0\x10",
+    ),
+    (
+        b"\xA1\xB2\x3C\x4D\0\x02\0\x04\0\0\0\0\0\0\0\0\0\x04\0\0\0\0\0\xE3",
+        b"\0\0\0\0\0\0\0\0\0\0\0\x10\0\0\0\x10",
+    ),
+];
+
+/// The first of the headers above, with link type 1.
+const OTHER_LINK: &[u8] = b"\xD4\xC3\xB2\xA1\x02\0\x04\0\0\0\0\0\0\0\0\0\0\0\x04\0\x01\0\0\0";
+
+/// The header of a record, in that byte order, with captured length 17.
+const TOO_LONG: &[u8] = b"\0\0\0\0\0\0\0\0\x11\0\0\0\x10\0\0\0";
+
+// A trace of R so many times.
+fn trace_of(
+    alloc: Global,
+    header: &[u8],
+    record: &[u8],
+    times: usize,
+) -> Result<Vec<u8>, AllocError> {
+    let mut trace = Vec::from_slice(alloc, header)?;
+    for _ in 0..times {
+        trace.extend_from_slice(record)?;
+        trace.extend_from_slice(&R)?;
+    }
+    Ok(trace)
+}
+
+// What `frames` says of these octets: how many there are.
+fn read(alloc: Global, mut octets: &[u8]) -> Result<usize, TraceRefusal> {
+    match frames(alloc, &mut Tried::new(&mut octets)) {
+        Ok(frames) => Ok(frames.len()),
+        Err(refusal) => Err(refusal),
+    }
+}
+
+// What `Checked` says of these octets: how many there are.
+fn check(octets: &[u8]) -> Result<usize, TraceRefusal> {
+    match Checked::new(octets) {
+        Ok(checked) => Ok(checked.len()),
+        Err(refusal) => Err(refusal),
+    }
+}
+
+// How many frames a share has.
+fn count(share: Share<'_>) -> usize {
+    let mut count: usize = 0;
+    for _frame in share {
+        count = count.saturating_add(1);
+    }
+    count
+}
+
+#[test]
+fn traces_of_four_magics(rt: HostRuntime) -> Result<(), Fail> {
+    for (header, record) in HEADERS {
+        let octets = trace_of(rt.alloc(), header, record, 1)?;
+        assert_eq!(rt; read(rt.alloc(), &octets), Ok(1));
+        let mut trace = Trace::new();
+        for (i, octet) in octets.iter().enumerate() {
+            let given = trace.feed(rt.alloc(), &[*octet])?;
+            assert_eq!(rt; given.len(), usize::from(i == 55));
+            for frame in &given {
+                assert_eq!(rt; frame.bytes(), R.as_slice());
+            }
+        }
+        assert!(rt; trace.end().is_ok());
+        let checked = Checked::new(&octets)?;
+        assert_eq!(rt; checked.len(), 1);
+        for frame in checked.share(0, 2) {
+            assert_eq!(rt; frame.bytes(), R.as_slice());
+        }
+        assert_eq!(rt; count(checked.share(0, 2)), 1);
+        assert_eq!(rt; count(checked.share(1, 2)), 0);
+    }
+    Ok(())
+}
+
+#[test]
+fn refused_traces(rt: HostRuntime) -> Result<(), Fail> {
+    let (header, record) = HEADERS[0];
+    let octets = trace_of(rt.alloc(), header, record, 1)?;
+    for len in 0..=octets.len() {
+        let wanted = match len {
+            24 => Ok(0),
+            56 => Ok(1),
+            _ => Err(TraceRefusal::Cut),
+        };
+        let front = &octets[..len];
+        assert_eq!(rt; read(rt.alloc(), front), wanted, "the first {len}");
+        assert_eq!(rt; check(front), wanted, "the first {len}");
+    }
+    let other_link = trace_of(rt.alloc(), OTHER_LINK, record, 1)?;
+    assert_eq!(rt; read(rt.alloc(), &other_link), Err(TraceRefusal::BadLink));
+    assert_eq!(rt; check(&other_link), Err(TraceRefusal::BadLink));
+    assert_eq!(rt; TraceRefusal::BadLink.number(), 92);
+    assert_eq!(rt; TraceRefusal::Cut.number(), 95);
+    Ok(())
+}
+
+#[test]
+fn a_captured_length_of_17(rt: HostRuntime) -> Result<(), Fail> {
+    let why = FrameRefusal::TooLong { len: 17 };
+    let refusal = TraceRefusal::BadRecord { index: 0, why };
+    assert_eq!(rt; refusal.number(), 93);
+    assert_eq!(rt; why.number(), 2);
+    let text = format!(in rt.alloc(); "{refusal}")?;
+    let wanted = "record 0 of the trace, counted from 0, is no frame: ";
+    assert!(rt; text.starts_with(wanted));
+    let (header, _) = HEADERS[0];
+    let octets = trace_of(rt.alloc(), header, TOO_LONG, 1)?;
+    assert_eq!(rt; read(rt.alloc(), &octets), Err(refusal));
+    assert_eq!(rt; check(&octets), Err(refusal));
+    let mut trace = Trace::new();
+    for (i, octet) in octets.iter().enumerate() {
+        let given = trace.feed(rt.alloc(), &[*octet]);
+        assert_eq!(rt; given.err(), (i >= 39).then_some(refusal), "at octet {i}");
+    }
+    assert_eq!(rt; trace.end(), Err(refusal));
+    Ok(())
+}
+
+#[test]
+fn three_frames_in_two_pieces(rt: HostRuntime) -> Result<(), Fail> {
+    let (header, record) = HEADERS[2];
+    let octets = trace_of(rt.alloc(), header, record, 3)?;
+    for at in 0..=octets.len() {
+        let (first, second) = octets.split_at(at);
+        let mut trace = Trace::new();
+        let mut given = trace.feed(rt.alloc(), first)?;
+        given.append(&mut trace.feed(rt.alloc(), second)?)?;
+        assert_eq!(rt; given.len(), 3, "divided at {at}");
+        for frame in &given {
+            assert_eq!(rt; frame.bytes(), R.as_slice());
+        }
+        assert!(rt; trace.end().is_ok());
+    }
+    Ok(())
+}
+
+/// A reader that gives one octet a call, and fails once it gave so many.
+#[derive(Drop)]
+struct Breaking<'a> {
+    octets: &'a [u8],
+    left: usize,
+}
+
+impl Read for Breaking<'_> {
+    fn read(&mut self, buf: &mut [u8]) -> io::Result<usize> {
+        if self.left == 0 {
+            return Err(io::Error::from(ErrorKind::Other));
+        }
+        self.left -= 1;
+        match self.octets.split_first() {
+            Some((first, rest)) if !buf.is_empty() => {
+                buf[0] = *first;
+                self.octets = rest;
+                Ok(1)
+            }
+            _ => Ok(0),
+        }
+    }
+}
+
+#[test]
+fn readers_that_fail(rt: HostRuntime) -> Result<(), Fail> {
+    let (header, record) = HEADERS[0];
+    let octets = trace_of(rt.alloc(), header, record, 1)?;
+    for left in 0..=octets.len() {
+        let octets = octets.as_slice();
+        let mut reader = Tried::new(Breaking { octets, left });
+        let refusal = frames(rt.alloc(), &mut reader);
+        assert!(rt;
+            refusal.is_err_and(|e| e == TraceRefusal::ReadFault),
+            "after {left} octets"
+        );
+        assert!(rt; reader.failed());
+    }
+    Ok(())
+}
+
+#[test]
+fn broken_input(rt: HostRuntime) {
+    let mut runs = Runs::new();
+    for number in 0..RUNS {
+        assert!(rt; read(rt.alloc(), runs.next()).is_err(), "run {number}");
+    }
+    assert_eq!(rt; runs.left(), 0);
+}
