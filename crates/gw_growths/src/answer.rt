@@ -45,6 +45,32 @@ pub enum Answer {
     NoAnswers {
         is_back: bool,
     },
+    /// A board with so many watches.
+    Watches(usize),
+    /// So many lanes.
+    Lanes(usize),
+    /// A gateway of so many ports.
+    Ports(usize),
+    /// So many batches are published.
+    Front(u32),
+    /// A batch that was not published, and whether it came back with nothing published.
+    NotPublished {
+        is_back: bool,
+    },
+    /// A gateway that was closed with so many copies left.
+    Closed {
+        left: usize,
+    },
+    /// A gateway that was not closed, and whether its parts came back with their copies.
+    NotClosed {
+        is_back: bool,
+    },
+    /// A refusal by its number alone.
+    Refused(u32),
+    /// A piece of a trace, or all of it, gave so many frames.
+    Frames(usize),
+    /// A piece was refused for want of memory, and gave so many frames when it was fed again.
+    FramesAgain(usize),
     /// Why a text is no listing.
     NoListing(ListRefusal),
     /// Why a text is refused by the assembler.
@@ -86,6 +112,24 @@ impl Display for Answer {
             } else {
                 "refused 71, other events are back"
             }),
+            Answer::Watches(count) => write!(f, "{count} watches"),
+            Answer::Lanes(count) => write!(f, "{count} lanes"),
+            Answer::Ports(count) => write!(f, "{count} ports"),
+            Answer::Front(front) => write!(f, "front {front}"),
+            Answer::NotPublished { is_back } => f.write_str(if *is_back {
+                "refused 82, the batch is back"
+            } else {
+                "refused 82, another batch is back"
+            }),
+            Answer::Closed { left } => write!(f, "closed, {left} copies left"),
+            Answer::NotClosed { is_back } => f.write_str(if *is_back {
+                "refused 85, the parts are back"
+            } else {
+                "refused 85, other parts are back"
+            }),
+            Answer::Refused(number) => write!(f, "refused {number}"),
+            Answer::Frames(count) => write!(f, "{count} frames"),
+            Answer::FramesAgain(count) => write!(f, "refused 94, fed again {count} frames"),
             Answer::NoListing(why) => no_listing(f, *why),
             Answer::NoAssembly(why) => {
                 let number = why.number();

@@ -3,8 +3,10 @@
 ghost use Rattle.std.specs.Prelude.{◌≤◌, length, IfOk};
 
 use crate::answer::Answer;
+use crate::ends::{make_board, make_close, make_gateway, make_lanes, make_replace};
 use crate::fault::Fault;
 use crate::gateway::{make_core, make_events, make_run};
+use crate::traces::{make_feed, make_frames};
 use gw_frame::Frame;
 use gw_insn::{Raw, read_listing, write_listing};
 use gw_policy::{Batch, Policy, PolicySet};
@@ -13,7 +15,7 @@ use gw_text::{assemble, disassemble};
 use gw_verify::{Program, explain};
 use std::alloc::Global;
 use std::io::Write;
-use std::sync::Arc;
+use std::sync::{Arc, Wait};
 
 /// `ldh [12]`, `jne #0x806, drop`, `ret #-1`, `drop: ret #0`.
 const LISTING: &str = "4,40 0 0 12,21 0 1 2054,6 0 0 4294967295,6 0 0 0,";
@@ -39,6 +41,58 @@ source = 1
 [[rule]]
 action = "block"
 pgn = 61184
+"#;
+
+/// A table of sixteen rules: so many are judged by an index.
+const INDEXED: &str = r#"
+[[rule]]
+action = "pass"
+source = 0
+[[rule]]
+action = "pass"
+source = 1
+[[rule]]
+action = "pass"
+source = 2
+[[rule]]
+action = "pass"
+source = 3
+[[rule]]
+action = "pass"
+source = 4
+[[rule]]
+action = "pass"
+source = 5
+[[rule]]
+action = "pass"
+source = 6
+[[rule]]
+action = "pass"
+source = 7
+[[rule]]
+action = "pass"
+source = 8
+[[rule]]
+action = "pass"
+source = 9
+[[rule]]
+action = "pass"
+source = 10
+[[rule]]
+action = "pass"
+source = 11
+[[rule]]
+action = "pass"
+source = 12
+[[rule]]
+action = "pass"
+source = 13
+[[rule]]
+action = "pass"
+source = 14
+[[rule]]
+action = "pass"
+source = 15
 "#;
 
 /// `ret #1`, and `ret #0`.
@@ -87,11 +141,25 @@ pub enum Call {
     RunEvents,
     /// `Core::event`, once for each event, which takes no memory.
     DoEvents,
+    /// `board`.
+    Board,
+    /// `lanes`.
+    Lanes,
+    /// `gw_ports::gateway`.
+    Gateway,
+    /// `Operator::replace`.
+    Replace,
+    /// `gw_ports::close`.
+    Close,
+    /// `Trace::feed`.
+    Feed,
+    /// `gw_trace::frames`.
+    ReadFrames,
 }
 
 impl Call {
     /// Every call.
-    pub const ALL: [Call; 15] = [
+    pub const ALL: [Call; 22] = [
         Call::ReadListing,
         Call::ReadCutListing,
         Call::WriteListing,
@@ -107,6 +175,13 @@ impl Call {
         Call::NewCore,
         Call::RunEvents,
         Call::DoEvents,
+        Call::Board,
+        Call::Lanes,
+        Call::Gateway,
+        Call::Replace,
+        Call::Close,
+        Call::Feed,
+        Call::ReadFrames,
     ];
 
     /// The word that names the call.
@@ -127,6 +202,13 @@ impl Call {
             Call::NewCore => "core_new",
             Call::RunEvents => "core_run",
             Call::DoEvents => "core_event",
+            Call::Board => "board",
+            Call::Lanes => "lanes",
+            Call::Gateway => "gateway",
+            Call::Replace => "replace",
+            Call::Close => "close",
+            Call::Feed => "feed",
+            Call::ReadFrames => "frames",
         }
     }
 
@@ -136,7 +218,12 @@ impl Call {
     }
 
     /// Prepares the call's arguments, writes `ready`, and makes the call.
-    pub fn make<W: Write>(self, alloc: Global, output: &mut W) -> Result<Answer, Fault> {
+    pub fn make<R: Wait, W: Write>(
+        self,
+        rt: &R,
+        alloc: Global,
+        output: &mut W,
+    ) -> Result<Answer, Fault> {
         match self {
             Call::ReadListing => make_read_listing(alloc, LISTING, output),
             Call::ReadCutListing => make_read_listing(alloc, CUT_LISTING, output),
@@ -153,6 +240,13 @@ impl Call {
             Call::NewCore => make_core(alloc, output),
             Call::RunEvents => make_run(alloc, output),
             Call::DoEvents => make_events(alloc, output),
+            Call::Board => make_board(alloc, output),
+            Call::Lanes => make_lanes(alloc, output),
+            Call::Gateway => make_gateway(alloc, output),
+            Call::Replace => make_replace(rt, alloc, output),
+            Call::Close => make_close(rt, alloc, output),
+            Call::Feed => make_feed(alloc, output),
+            Call::ReadFrames => make_frames(alloc, output),
         }
     }
 }
@@ -232,7 +326,7 @@ fn make_compile<W: Write>(alloc: Global, output: &mut W) -> Result<Answer, Fault
 }
 
 fn make_from_table<W: Write>(alloc: Global, output: &mut W) -> Result<Answer, Fault> {
-    let table = Table::read(alloc, TABLE).map_err(|_| Fault::Unprepared)?;
+    let table = Table::read(alloc, INDEXED).map_err(|_| Fault::Unprepared)?;
     let (default, other) = (table.default(), table.other());
     let rules = table.rules().to_vec(alloc)?;
     say_ready(output)?;

@@ -51,7 +51,7 @@ pub fn make_events<W: Write>(alloc: Global, output: &mut W) -> Result<Answer, Fa
 }
 
 /// Four ports, lanes of two copies, one batch and two frames at a port.
-fn limits_of() -> Result<Limits, Fault>
+pub(crate) fn limits_of() -> Result<Limits, Fault>
     ensures { IfOk result (λ limits. limits.ports ≡ 4) }
 {
     Limits::new(4, 2, 1, 2).map_err(|_| Fault::Unprepared)

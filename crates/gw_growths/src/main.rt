@@ -6,8 +6,10 @@
 
 mod answer;
 mod call;
+mod ends;
 mod fault;
 mod gateway;
+mod traces;
 
 use call::Call;
 use fault::Fault;
@@ -15,9 +17,10 @@ use std::alloc::Global;
 use std::env;
 use std::io::Write;
 use std::process::ExitCode;
+use std::sync::Wait;
 
 fn main(rt: HostRuntime) -> ExitCode {
-    match make_calls(&rt) {
+    match make_calls(&rt, &rt) {
         Ok(()) => ExitCode::SUCCESS,
         Err(fault) => {
             let _ = writeln!(rt.stderr(), "{fault}");
@@ -26,13 +29,13 @@ fn main(rt: HostRuntime) -> ExitCode {
     }
 }
 
-/// Makes the calls that the words name.
-fn make_calls(rt: &HostRuntime) -> Result<(), Fault> {
+/// Makes the calls that the words name. `waits` is the runtime as what a call may wait by.
+fn make_calls<R: Wait>(rt: &HostRuntime, waits: &R) -> Result<(), Fault> {
     let mut words = env::args(rt).map_err(|_| Fault::Unprepared)?.skip(1);
     match (words.next(), words.next()) {
-        (None, _) => tell_all(rt.alloc(), &mut rt.stdout()),
+        (None, _) => tell_all(waits, rt.alloc(), &mut rt.stdout()),
         (Some(word), None) => match Call::named(word.as_str()) {
-            Some(call) => tell(call, rt.alloc(), &mut rt.stdout()),
+            Some(call) => tell(call, waits, rt.alloc(), &mut rt.stdout()),
             None => Err(Fault::WrongWords),
         },
         _ => Err(Fault::WrongWords),
@@ -40,16 +43,16 @@ fn make_calls(rt: &HostRuntime) -> Result<(), Fault> {
 }
 
 /// Makes all calls, and writes their answers.
-fn tell_all<W: Write>(alloc: Global, output: &mut W) -> Result<(), Fault> {
+fn tell_all<R: Wait, W: Write>(rt: &R, alloc: Global, output: &mut W) -> Result<(), Fault> {
     for call in &Call::ALL {
-        tell(*call, alloc, output)?;
+        tell(*call, rt, alloc, output)?;
     }
     Ok(())
 }
 
 /// Makes a call, and writes its answer.
-fn tell<W: Write>(call: Call, alloc: Global, output: &mut W) -> Result<(), Fault> {
-    let answer = call.make(alloc, output)?;
+fn tell<R: Wait, W: Write>(call: Call, rt: &R, alloc: Global, output: &mut W) -> Result<(), Fault> {
+    let answer = call.make(rt, alloc, output)?;
     let name = call.name();
     writeln!(output, "{name}: {answer}")?;
     Ok(())
