@@ -2,7 +2,7 @@
 use Rattle.std.proofs.Common.{inl, inr, ◌⊎◌, ◌^◌, ◌≡◌, ◌≢◌, ℕ}
 use Rattle.std.proofs.Common.{◌-◌, ◌<◌, ◌≤◌, Bool, true, false, cond, eqb, leb, List, ◌∷◌, Option}
 use Rattle.std.proofs.Common.{Some, None, Result, Ok, Err, refl, sym, ap, subst, ◌∙◌, arith, slice_index_or, min}
-use Rattle.std.specs.Prelude.{slice_get, slice_set}
+use Rattle.std.specs.Prelude.{OnErr, slice_get, slice_set}
 use Rattle.std.proofs.lemmas.Bool.Decides.{nat_tests}
 use Rattle.std.specs.List.{cons_option}
 use Rattle.std.proofs.lemmas.Option.{slice_get_read}
@@ -16,7 +16,7 @@ use Rattle.gw_core.specs.declared.event.Event.{Event}
 use Rattle.gw_core.specs.declared.event.Event.TheVariants.{Step}
 use Rattle.gw_core.specs.declared.event.Answer.{Answer}
 use Rattle.gw_core.specs.declared.event.EventRefusal.{EventRefusal}
-use Rattle.gw_core.specs.declared.event.EventRefusal.TheVariants.{NoSuchPort, Idle}
+use Rattle.gw_core.specs.declared.event.EventRefusal.TheVariants.{NoSuchPort}
 use Rattle.gw_core.specs.Standing.{Worker, WorkerStands, place, AnswersStep}
 use Rattle.gw_core.specs.Gateway.{Gateway, IsGateway, StandsAt, Stands, WorkerAt, CoreAnswers}
 use Rattle.gw_core.proofs.Gateways.{get_set_same, get_set_other, length_set, same_some, accepts, refuses, set_same, with_worker}
@@ -39,7 +39,7 @@ sent_same limits p q r done = go (eqb p r)
 
 -- a worker made a step
 pub stands_step : (c : Gateway) (done : List Event) (p : ℕ) (w w2 : Worker) (answer : Answer)
-    → StandsAt c done → slice_get c.workers p ≡ Some w → AnswersStep c.batches w (Some answer) w2 (history_of p done)
+    → StandsAt c done → slice_get c.workers p ≡ Some w → AnswersStep c.batches w (Ok answer) w2 (history_of p done)
     → w2.limits ≡ w.limits → w2.own ≡ w.own
     → StandsAt (record c { workers = slice_set c.workers p w2 }) (Step p ∷ done)
 stands_step c done p w w2 answer s at answers limits own = record {
@@ -90,7 +90,7 @@ step_no_port c history p s past =
 -- the worker of a port that is there answers a step, or is idle
 pub step_answers : (c : Gateway) (history : List Event) (p : ℕ) (w w2 : Worker) (given : Answer)
     → Stands c history → p < c.limits.ports → slice_get c.workers p ≡ Some w
-    → ((done : List PortEvent) → WorkerStands c.batches w done → AnswersStep c.batches w (Some given) w2 done)
+    → ((done : List PortEvent) → WorkerStands c.batches w done → AnswersStep c.batches w (Ok given) w2 done)
     → w2.limits ≡ w.limits → w2.own ≡ w.own
     → CoreAnswers c (Step p) (Ok given) (record c { workers = slice_set c.workers p w2 }) history
 step_answers c history p w w2 given s within at answers limits own =
@@ -106,85 +106,78 @@ step_answers c history p w w2 given s within at answers limits own =
     refl
     (stands_step c done p w w2 given s at told limits own)
 
--- and where it is idle nothing changes
-pub step_idle : (c : Gateway) (history : List Event) (p : ℕ) (w w2 : Worker)
+-- and where it refuses one nothing changes
+pub step_refused : (c : Gateway) (history : List Event) (p : ℕ) (w w2 : Worker) (refused : EventRefusal)
     → Stands c history → p < c.limits.ports → slice_get c.workers p ≡ Some w
-    → ((done : List PortEvent) → WorkerStands c.batches w done → AnswersStep c.batches w None w2 done)
-    → CoreAnswers c (Step p) (Err Idle) c history × (w2 ≡ w)
-step_idle c history p w w2 s within at answers =
+    → ((done : List PortEvent) → WorkerStands c.batches w done → AnswersStep c.batches w (Err refused) w2 done)
+    → CoreAnswers c (Step p) (Err refused) c history
+step_refused c history p w w2 refused s within at answers =
     let done = accepted c.limits history in
     let here = s.workers p w at in
     let told = answers (history_of p done) here.stands in
     let e : leb c.limits.ports p ≡ false = grind (arith, nat_tests) in
     let same : place w ≡ place_of c.limits p = ap (λ (l : Bounds). place_of l w.own) here.limits
-    ∙ ap (place_of c.limits) here.own in (
-      refuses c history (Step p) Idle
-          (rw e (subst (λ (x : Place). step_refusal x (history_of p done) ≡ Some Idle) same (no_none _ told.0))) s,
-      told.1,
-    )
-  where
-    no_none : (b : Bool) → (cond b None (Some Idle)) ≢ None → cond b None (Some Idle) ≡ Some Idle
-    no_none true ne = absurd (ne refl)
-    no_none false ne = refl
-
--- what the machine answers where a worker made a step or has none to make
-abbrev pub to_result : Option Answer → Result Answer EventRefusal
-to_result (Some answer) = Ok answer
-to_result None = Err Idle
+    ∙ ap (place_of c.limits) here.own in
+    refuses c history (Step p) refused
+    (rw e (subst (λ (x : Place). step_refusal x (history_of p done) ≡ Some refused) same told.0)) s
 
 -- what a worker makes of a step, whatever its history
-abbrev pub Makes : List (List Pair) → Worker → Option Answer → Worker → Type 0
+abbrev pub Makes : List (List Pair) → Worker → Result Answer EventRefusal → Worker → Type 0
 Makes all w given w2 = (done : List PortEvent) → WorkerStands all w done → AnswersStep all w given w2 done
 
--- a worker without a frame stays, and so does the gateway
-unchanged : (c : Gateway) (done : List Event) (i : ℕ) (w w2 : Worker) → StandsAt c done → slice_get c.workers i ≡ Some w
-    → Makes c.batches w None w2 → with_worker c i w2 ≡ c
-unchanged c done i w w2 s at makes =
+-- a worker that refuses a step stays, and so does the gateway
+unchanged : (c : Gateway) (done : List Event) (i : ℕ) (w w2 : Worker) (refused : EventRefusal) → StandsAt c done
+    → slice_get c.workers i ≡ Some w
+    → Makes c.batches w (Err refused) w2 → with_worker c i w2 ≡ c
+unchanged c done i w w2 refused s at makes =
     let told = makes (history_of i done) (s.workers i w at).stands in
     ap (λ (xs : List Worker). record c { workers = xs })
     (ap (λ (x : Worker). slice_set c.workers i x) told.1 ∙ set_same c.workers i w at)
 
--- the two cases as one: the answer of the worker, or that it is idle
-by_given : (c : Gateway) (p : ℕ) (w w2 : Worker) (given : Option Answer) → p < c.limits.ports → Makes c.batches w given w2
+-- the two cases as one: the answer of the worker, or its refusal
+by_given : (c : Gateway) (p : ℕ) (w w2 : Worker) (given : Result Answer EventRefusal) → p < c.limits.ports → Makes c.batches w given w2
     → w2.limits ≡ w.limits → w2.own ≡ w.own
     → (history : List Event) → Stands c history → slice_get c.workers p ≡ Some w
-    → CoreAnswers c (Step p) (to_result given) (with_worker c p w2) history
-by_given c p w w2 (Some answer) within makes limits own history s at = step_answers c history p w w2 answer s within at makes
+    → CoreAnswers c (Step p) given (with_worker c p w2) history
+by_given c p w w2 (Ok answer) within makes limits own history s at = step_answers c history p w w2 answer s within at makes
     limits own
-by_given c p w w2 None within makes limits own history s at =
-    subst (λ (x : Gateway). CoreAnswers c (Step p) (Err Idle) x history)
-    (sym (unchanged c (accepted c.limits history) p w w2 s at makes))
-    (step_idle c history p w w2 s within at makes).0
+by_given c p w w2 (Err refused) within makes limits own history s at =
+    subst (λ (x : Gateway). CoreAnswers c (Step p) (Err refused) x history)
+    (sym (unchanged c (accepted c.limits history) p w w2 refused s at makes))
+    (step_refused c history p w w2 refused s within at makes)
 
 -- what a step answers, as the machine finds its worker
-pub core_step : (c : Gateway) (all : List (List Pair)) (i p : ℕ) (w w2 : Worker) (given : Option Answer) → all ≡ c.batches → i ≡ p
+pub core_step : (c : Gateway) (all : List (List Pair)) (i p : ℕ) (w w2 : Worker) (given : Result Answer EventRefusal) → all ≡ c.batches → i ≡ p
     → p < c.limits.ports → w ≡ slice_index_or c.workers i w
     → Makes all w given w2 → w2.limits ≡ w.limits → w2.own ≡ w.own
-    → (history : List Event) → Stands c history → CoreAnswers c (Step p) (to_result given) (with_worker c i w2) history
+    → (history : List Event) → Stands c history → CoreAnswers c (Step p) given (with_worker c i w2) history
 core_step c all i p w w2 given same at within read makes limits own history s =
-    subst (λ n. CoreAnswers c (Step p) (to_result given) (with_worker c n w2) history) (sym at)
+    subst (λ n. CoreAnswers c (Step p) given (with_worker c n w2) history) (sym at)
     (by_given c p w w2 given within (subst (λ x. Makes x w given w2) same makes) limits own history s
     (slice_get_read c.workers c.limits.ports p w (sym s.ports) within (read ∙ ap (λ n. slice_index_or c.workers n w) at)))
 
 -- some history leads to the gateway after it too
-stays_gateway : (c : Gateway) (p : ℕ) (w w2 : Worker) (given : Option Answer) → Makes c.batches w given w2 → w2.limits ≡ w.limits
+stays_gateway : (c : Gateway) (p : ℕ) (w w2 : Worker) (given : Result Answer EventRefusal) → Makes c.batches w given w2 → w2.limits ≡ w.limits
     → w2.own ≡ w.own
     → (done : List Event) → StandsAt c done → slice_get c.workers p ≡ Some w → IsGateway (with_worker c p w2)
-stays_gateway c p w w2 (Some answer) makes limits own done s at =
+stays_gateway c p w w2 (Ok answer) makes limits own done s at =
     (Step p ∷ done, stands_step c done p w w2 answer s at (makes (history_of p done) (s.workers p w at).stands) limits own)
-stays_gateway c p w w2 None makes limits own done s at =
-    (done, subst (λ (x : Gateway). StandsAt x done) (sym (unchanged c done p w w2 s at makes)) s)
+stays_gateway c p w w2 (Err refused) makes limits own done s at =
+    (done, subst (λ (x : Gateway). StandsAt x done) (sym (unchanged c done p w w2 refused s at makes)) s)
 
-pub core_step_stays : (c : Gateway) (all : List (List Pair)) (i : ℕ) (w w2 : Worker) (given : Option Answer) → all ≡ c.batches
+pub core_step_stays : (c : Gateway) (all : List (List Pair)) (i : ℕ) (w w2 : Worker) (given : Result Answer EventRefusal) → all ≡ c.batches
     → i < c.limits.ports → w ≡ slice_index_or c.workers i w
     → Makes all w given w2 → w2.limits ≡ w.limits → w2.own ≡ w.own → IsGateway c → IsGateway (with_worker c i w2)
 core_step_stays c all i w w2 given same within read makes limits own g =
     stays_gateway c i w w2 given (subst (λ x. Makes x w given w2) same makes) limits own g.0 g.1
     (slice_get_read c.workers c.limits.ports i w (sym g.1.ports) within read)
 
-pub core_step_same : (c : Gateway) (all : List (List Pair)) (i : ℕ) (w w2 : Worker) → all ≡ c.batches → i < c.limits.ports
+-- where the worker refuses a step the gateway is as it was
+pub core_step_same : (c : Gateway) (all : List (List Pair)) (i : ℕ) (w w2 : Worker) (given : Result Answer EventRefusal)
+    → all ≡ c.batches → i < c.limits.ports
     → w ≡ slice_index_or c.workers i w
-    → Makes all w None w2 → IsGateway c → with_worker c i w2 ≡ c
-core_step_same c all i w w2 same within read makes g =
-    unchanged c g.0 i w w2 g.1 (slice_get_read c.workers c.limits.ports i w (sym g.1.ports) within read)
-    (subst (λ x. Makes x w None w2) same makes)
+    → Makes all w given w2 → IsGateway c → OnErr given (with_worker c i w2 ≡ c)
+core_step_same c all i w w2 (Ok answer) same within read makes g = tt
+core_step_same c all i w w2 (Err refused) same within read makes g =
+    unchanged c g.0 i w w2 refused g.1 (slice_get_read c.workers c.limits.ports i w (sym g.1.ports) within read)
+    (subst (λ x. Makes x w (Err refused) w2) same makes)

@@ -67,6 +67,8 @@ impl Core {
 
     /// Does one event, or refuses it (72 to 76, the first that holds) and changes nothing. It takes no memory. A refused
     /// batch is dropped.
+    // Inlined, so that a caller that names the event builds none: an `Event` has room for a batch of sixteen pairs.
+    #[inline(always)]
     pub fn event(&mut self, event: Event) -> Result<Answer, EventRefusal>
         ensures answers { (history : List Event) → Stands self.old history
             → CoreAnswers self.old event result self.new history }
@@ -90,10 +92,7 @@ impl Core {
         if u32::from(port) >= self.limits.ports() {
             return Err(EventRefusal::NoSuchPort);
         }
-        match self.workers[usize::from(port)].step(&self.batches) {
-            Some(answer) => Ok(answer),
-            None => Err(EventRefusal::Idle),
-        }
+        self.workers[usize::from(port)].step(&self.batches)
     }
 
     fn take(&mut self, port: u8, frame: Frame) -> Result<Answer, EventRefusal>

@@ -1,14 +1,11 @@
-use Rattle.std.proofs.Common.{rules, ◌≡◌, ◌<◌, List, Option, Result, sym, ap, ◌∙◌, subst, arith}
+use Rattle.std.proofs.Common.{◌≡◌, ◌<◌, List, subst, arith}
 use Rattle.std.specs.Prelude.{OnErr}
 use Rattle.gw_core.specs.Gateway.{Gateway, Stands, CoreAnswers}
 use Rattle.gw_core.specs.declared.event.Event.{Event}
 use Rattle.gw_core.specs.declared.event.Event.TheVariants.{Step}
-use Rattle.gw_core.specs.declared.event.Answer.{Answer}
-use Rattle.gw_core.specs.declared.event.EventRefusal.{EventRefusal}
-use Rattle.gw_core.proofs.GatewaySteps.{Makes, to_result, core_step, core_step_stays, core_step_same}
+use Rattle.gw_core.proofs.GatewaySteps.{core_step, core_step_stays, core_step_same}
 use Rattle.gw_core.proofs.Gateways.{with_worker, core_worker}
 use Rattle.gw_core.proofs.gateway.Core.step.Goals as goal
-use Rattle.gw_core.proofs.gateway.Core.step.Goals.{in-Some, in-None}
 
 pub step-requires : goal.step-requires
 step-requires c =
@@ -37,19 +34,12 @@ returns-clause-answers c =
     let g : Gateway =
     record { limits = i.limits; batches = i.batches.items; latest = i.latest; workers = i.workers.items; outs = i.outs.items } in
     let within : c.args.port < g.limits.ports = omega (arith, c.from-2.ensures, c.from.ensures, c.ports.ensures.ports) in
-    let told : c.match-step.result ≡ to_result c.step.result = elim c.match-step.branch [
-      | in-Some w ↦ w.result-is ∙ sym (ap to_result w.in-Some.is)
-      | in-None w ↦ w.result-is ∙ sym (ap to_result w.in-None.is)
-    ] in
     let P : Gateway → Type 0 = λ x. (history : List Event) → Stands x history
-    → CoreAnswers x (Step c.args.port) c.match-step.result (with_worker g c.from-2.result c.step.new.self) history in
-    let R : Result Answer EventRefusal → Type 0 = λ r. (history : List Event) → Stands g history
-    → CoreAnswers g (Step c.args.port) r (with_worker g c.from-2.result c.step.new.self) history in
+    → CoreAnswers x (Step c.args.port) c.step.result (with_worker g c.from-2.result c.step.new.self) history in
     let is_view : g ≡ c.args.self.now = c.self.view_is in
-    subst P is_view (subst R (sym told)
-    (core_step g c.deref.result.now c.from-2.result c.args.port c.index_mut.result.now c.step.new.self c.step.result
-    c.deref.ensures.value c.from-2.ensures within c.index_mut.ensures.value
-    c.step.ensures.answers c.step.ensures.limits c.step.ensures.own))
+    subst P is_view (core_step g c.deref.result.now c.from-2.result c.args.port c.index_mut.result.now c.step.new.self
+    c.step.result c.deref.ensures.value c.from-2.ensures within c.index_mut.ensures.value
+    c.step.ensures.answers c.step.ensures.limits c.step.ensures.own)
 
 pub returns-clause-refused : goal.returns-clause-refused
 returns-clause-refused c =
@@ -57,14 +47,6 @@ returns-clause-refused c =
     let g : Gateway =
     record { limits = i.limits; batches = i.batches.items; latest = i.latest; workers = i.workers.items; outs = i.outs.items } in
     let within : c.from-2.result < g.limits.ports = omega (arith, c.from-2.ensures, c.from.ensures, c.ports.ensures.ports) in
-    let is_view : g ≡ c.args.self.now = c.self.view_is in
-    let Q : Result Answer EventRefusal
-    → Type 0 = λ r. OnErr r (with_worker g c.from-2.result c.step.new.self ≡ c.args.self.now) in
-    elim c.match-step.branch [
-      | in-Some w ↦ subst Q (sym w.result-is) (search rules)
-      | in-None w ↦ subst Q (sym w.result-is)
-          (let T : Option Answer → Type 0 = λ o. Makes c.deref.result.now c.index_mut.result.now o c.step.new.self in
-          core_step_same g c.deref.result.now c.from-2.result c.index_mut.result.now c.step.new.self c.deref.ensures.value within
-          c.index_mut.ensures.value
-          (subst T w.in-None.is c.step.ensures.answers) c.self.invariant.1 ∙ is_view)
-    ]
+    subst (λ (x : Gateway). OnErr c.step.result (with_worker g c.from-2.result c.step.new.self ≡ x)) c.self.view_is
+    (core_step_same g c.deref.result.now c.from-2.result c.index_mut.result.now c.step.new.self c.step.result
+    c.deref.ensures.value within c.index_mut.ensures.value c.step.ensures.answers c.self.invariant.1)
