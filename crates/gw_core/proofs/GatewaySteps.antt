@@ -1,6 +1,6 @@
 -- A gateway stands after one more step.
 use Rattle.std.proofs.Common.{inl, inr, ◌⊎◌, ◌^◌, ◌≡◌, ◌≢◌, ℕ}
-use Rattle.std.proofs.Common.{◌-◌, ◌<◌, ◌≤◌, Bool, true, false, cond, eqb, leb, List, ◌∷◌, Option}
+use Rattle.std.proofs.Common.{◌-◌, ◌<◌, ◌≤◌, Bool, true, false, cond, eqb, leb, List, ◌∷◌}
 use Rattle.std.proofs.Common.{Some, None, Result, Ok, Err, refl, sym, ap, subst, ◌∙◌, arith, slice_index_or, min}
 use Rattle.std.specs.Prelude.{OnErr, slice_get, slice_set}
 use Rattle.std.proofs.lemmas.Bool.Decides.{nat_tests}

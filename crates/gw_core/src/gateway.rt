@@ -83,6 +83,7 @@ impl Core {
         }
     }
 
+    #[inline(always)]
     fn step(&mut self, port: u8) -> Result<Answer, EventRefusal>
         ensures answers { (history : List Event) → Stands self.old history
             → CoreAnswers self.old (Event.Step port) result self.new history }
