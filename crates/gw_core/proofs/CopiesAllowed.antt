@@ -1,5 +1,5 @@
 -- Each copy on a lane is of a foreign frame that is allowed there.
-use Rattle.std.proofs.Common.{◌≡◌, ℕ, ◌+◌, ◌-◌, ◌≤◌, Bool, true, false, ◌&&◌, cond, eqb, ltb}
+use Rattle.std.proofs.Common.{◌≡◌, ℕ, ◌+◌, ◌≤◌, Bool, true, false, ◌&&◌, cond, eqb, ltb}
 use Rattle.std.proofs.Common.{List, [], ◌∷◌, length, Option, Some, None, refl, sym, ap, subst, ◌∙◌, arith}
 use Rattle.std.specs.Prelude.{option_to_list, option_map}
 use Rattle.std.specs.List.{cons_option, All}
@@ -10,7 +10,7 @@ use Rattle.gw_ledger.specs.Bounds.{Bounds}
 use Rattle.gw_ledger.specs.declared.outcome.FrameCopy.{FrameCopy}
 use Rattle.gw_core.specs.PortHistory.{PortEvent, batch_published, frame_taken, step_made, copy_asked, Place, place_of, Taking}
 use Rattle.gw_core.specs.PortHistory.{Work, instruction, placing, last_taking, work, work_left}
-use Rattle.gw_core.specs.PortHistory.{steps_since, lane_after, places_at, placed_by, copy_of, allowed}
+use Rattle.gw_core.specs.PortHistory.{steps_since, lane_after, places_at, placed_by, copy_of}
 use Rattle.gw_core.specs.Events.{history_of, all_batches}
 use Rattle.gw_core.specs.Events.{waiting_after}
 use Rattle.gw_core.specs.Copies.{placed_after}

@@ -1,10 +1,9 @@
 -- A gateway stands after one more batch.
 use Rattle.std.proofs.Common.{length-append, ◌≡◌, ◌+◌}
-use Rattle.std.proofs.Common.{◌-◌, ◌<◌, false, leb, List, [], ◌∷◌, ◌++◌, length, Option}
+use Rattle.std.proofs.Common.{◌<◌, false, leb, List, [], ◌∷◌, ◌++◌, length, Option}
 use Rattle.std.proofs.Common.{Ok, refl, sym, ap, subst, ◌∙◌, arith}
 use Rattle.std.proofs.lemmas.Bool.Decides.{nat_tests}
 use Rattle.gw_policy.specs.Batches.{Pair}
-use Rattle.gw_core.specs.PortHistory.{batches}
 use Rattle.gw_core.specs.Events.{history_of, all_batches, accepted}
 use Rattle.gw_core.specs.Events.{names_no_port}
 use Rattle.gw_core.specs.declared.event.Event.{Event}

@@ -10,7 +10,6 @@ use Rattle.gw_ledger.specs.Bounds.{Bounds}
 use Rattle.gw_ledger.specs.declared.ledger.OutLedger.{OutLedger}
 use Rattle.gw_ledger.specs.declared.outcome.FrameCopy.{FrameCopy}
 use Rattle.gw_core.specs.PortHistory.{copy_asked, place_of, waiting}
-use Rattle.gw_core.specs.PortHistory.{batches}
 use Rattle.gw_core.specs.Events.{history_of, accepted, refusal, sent_after}
 use Rattle.gw_core.specs.Events.{first_waiting}
 use Rattle.gw_core.specs.declared.event.Event.{Event}

@@ -10,7 +10,7 @@ use Rattle.std.proofs.lemmas.Bool.{cases_eq}
 use Rattle.gw_policy.specs.Batches.{Pair}
 use Rattle.gw_ledger.specs.Bounds.{Bounds}
 use Rattle.gw_core.specs.PortHistory.{PortEvent, step_made, Place, place_of}
-use Rattle.gw_core.specs.PortHistory.{batches, lane_after}
+use Rattle.gw_core.specs.PortHistory.{lane_after}
 use Rattle.gw_core.specs.Events.{history_of, accepted, step_refusal, sent_after, answer, step_answer}
 use Rattle.gw_core.specs.declared.event.Event.{Event}
 use Rattle.gw_core.specs.declared.event.Event.TheVariants.{Step}

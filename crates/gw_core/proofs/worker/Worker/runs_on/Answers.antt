@@ -1,4 +1,4 @@
-use Rattle.std.proofs.Common.{◌≡◌, List, Option, Some, Ok, true, false, sym, ap, ◌∙◌, subst}
+use Rattle.std.proofs.Common.{◌≡◌, List, Option, Some, Ok, true, false, sym, ◌∙◌, subst}
 use Rattle.gw_policy.specs.Filter.{Filter}
 use Rattle.gw_policy.specs.Batches.{Pair}
 use Rattle.gw_core.specs.Turns.{place_in, IsFound, Instructs}
