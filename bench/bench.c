@@ -1,7 +1,7 @@
 /*
  * Times the gateway's machine beside libpcap's bpf_filter, and a table's rules beside its program: the same records, one
  * process, in turn; then the event machine, the assembler, and traces beside libpcap's reader. Prints tables in markdown. Fails
- * where two answers to the same question differ. With one word more, `texts` or `traces`, it times that alone.
+ * where two answers to the same question differ. With one word more, `tables`, `texts` or `traces`, it times that alone.
  */
 #include "bench.h"
 
@@ -180,15 +180,25 @@ static bool time_rules(const char *name, const uint8_t (*records)[16])
     return time_tables(text, text_length, records) && time_events(text, text_length, records);
 }
 
+/* The tables of tables.c alone, with that of a file. */
+static bool time_tables_of(const char *name, const uint8_t (*records)[16])
+{
+    static char text[LONGEST_TEXT];
+    size_t length = read_text(name, text);
+    return length > 0 ? time_tables(text, length, records) : is_refused(name, "no text");
+}
+
 int main(int argc, char **argv)
 {
     static uint8_t records[RECORDS][16];
     if (argc != 2 && argc != 3) {
-        fprintf(stderr, "usage: bench TABLE.toml [texts|traces]\n");
+        fprintf(stderr, "usage: bench TABLE.toml [tables|texts|traces]\n");
         return 2;
     }
     const char *alone = argc == 3 ? argv[2] : "";
     write_records(records);
+    if (strcmp(alone, "tables") == 0)
+        return time_tables_of(argv[1], records) ? 0 : 1;
     if (strcmp(alone, "texts") == 0)
         return time_texts() ? 0 : 1;
     if (strcmp(alone, "traces") == 0)

@@ -58,7 +58,10 @@ bool time_texts(void);
 /* Times the reading of traces of these records. */
 bool time_traces(const uint8_t (*records)[16]);
 
-/* Times tables of 1, 8 and 256 rules and the table of a text, of 40, by their index and in other ways. */
+/*
+ * Times tables of 1, 8 and 256 rules and the table of a text, of 40, by their index and in other ways; then loads with the caches
+ * emptied.
+ */
 bool time_tables(const char *text, size_t length, const uint8_t (*records)[16]);
 
 /* The first records of a vehicle's bus. */

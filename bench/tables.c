@@ -1,16 +1,24 @@
 /*
  * Times tables judged by their index, rule by rule, by their program, and by libpcap on the program: on the records of the
- * vehicle's bus, on records that no rule decides, and with the caches emptied. Prints three tables in markdown. Fails where two ways do
- * not agree.
+ * vehicle's bus, on records that no rule decides, and with the caches emptied; and what a load takes there. Prints four tables in
+ * markdown. Fails where two ways do not agree.
  */
 #include "bench.h"
 
+#include <signal.h>
 #include <stdio.h>
 #include <stdlib.h>
 #include <string.h>
+#include <sys/mman.h>
 #include <time.h>
 
-enum { WAYS = 4, TABLE_REPEATS = 15, TABLE_ROUNDS = 200, COPIES = 512, COLD_ROUNDS = 1000, COLD_REPEATS = 5, WALK = 1048576 };
+enum { WAYS = 4, TABLE_REPEATS = 15, TABLE_ROUNDS = 200, COPIES = 512, COLD_ROUNDS = 101, COLD_REPEATS = 9, WALK = 1048576, PAGE = 4096 };
+
+/* Loads are timed from blocks as large as the rules of a table of 40 and as its index, of so many a row at most. */
+enum { SMALL = 1536, LARGE = 12288, LINE = 64, LOADS = 4 };
+
+/* What is walked to empty the caches. */
+static uint64_t walk[WALK] __attribute__((aligned(PAGE)));
 
 /* In this order: by the index, rule by rule, by the program, by libpcap. */
 static const char *const ways[WAYS] = {"index", "rule by rule", "program", "libpcap"};
@@ -104,7 +112,7 @@ static bool time_ways(const struct table *t, const uint8_t (*records)[16], doubl
     return true;
 }
 
-static uint64_t walked(const uint64_t *walk)
+static uint64_t walked(void)
 {
     uint64_t sum = 0;
     for (int i = 0; i < WALK; i++)
@@ -112,34 +120,9 @@ static uint64_t walked(const uint64_t *walk)
     return sum;
 }
 
-/* Before each round 8 MB are walked, and each record is judged by a copy of the code that is its own. */
-static uint64_t run_cold(const struct bpf_insn **copies, const uint8_t (*records)[16], const uint64_t *walk, bool run)
-{
-    uint64_t passed = 0;
-    for (int round = 0; round < COLD_ROUNDS; round++) {
-        passed += walked(walk);
-        for (int i = 0; run && i < COPIES; i++)
-            passed += bpf_filter(copies[i], records[i], 16, 16) != 0;
-    }
-    return passed;
-}
-
-/* The time of a call of gw_bench_cold by a way. Sets how many frames passed. */
-static double cold_time(const struct table *t, const uint8_t (*records)[16], const uint64_t *walk, uint32_t rounds, uint32_t way,
-                        uint64_t *passed)
-{
-    double start = now();
-    *passed = gw_bench_cold(t->text, t->text_length, records, COPIES, walk, WALK, rounds, way);
-    return now() - start;
-}
-
-static double cold_libpcap_time(const struct bpf_insn **copies, const uint8_t (*records)[16], const uint64_t *walk, bool run,
-                                uint64_t *passed)
-{
-    double start = now();
-    *passed = run_cold(copies, records, walk, run);
-    return now() - start;
-}
+/* The time of each round's verdicts, and how many rounds there were. */
+static double found[COLD_ROUNDS];
+static int rounds_found;
 
 static int compare(const void *a, const void *b)
 {
@@ -147,40 +130,151 @@ static int compare(const void *a, const void *b)
     return (x > y) - (x < y);
 }
 
+static double median_found(void)
+{
+    qsort(found, (size_t)rounds_found, sizeof found[0], compare);
+    return found[rounds_found / 2] / COPIES;
+}
+
+static uint8_t *const first_page = (uint8_t *)walk, *const last_page = (uint8_t *)(walk + WALK) - PAGE;
+
 /*
- * The time of one verdict in each way with what it reads in no near cache: that of walks and verdicts, without those of the walks
- * and of making what is judged by, which are taken beside it. The median of the repeats.
+ * The library walks and judges in one call, so the walk's own pages tell when: the last is shut while a walk has not come to it, and
+ * the first while verdicts are made. The fault at the last begins a round's verdicts, that at the first ends them.
  */
+static void at_fault(int number, siginfo_t *fault, void *context)
+{
+    static double began;
+    double time = now();
+    uint8_t *at = fault->si_addr;
+    (void)context;
+    if (at >= first_page && at < first_page + PAGE) {
+        found[rounds_found++] = time - began;
+        mprotect(first_page, PAGE, PROT_READ | PROT_WRITE);
+        mprotect(last_page, PAGE, PROT_NONE);
+    } else if (at >= last_page && at < last_page + PAGE) {
+        mprotect(last_page, PAGE, PROT_READ | PROT_WRITE);
+        mprotect(first_page, PAGE, PROT_NONE);
+        began = now();
+    } else {
+        signal(number, SIG_DFL);
+    }
+}
+
+/* The time of one verdict by a way of gw_bench_cold. Sets how many frames passed. */
+static double cold_time(const struct table *t, const uint8_t (*records)[16], uint32_t way, uint64_t *passed)
+{
+    struct sigaction watched = {.sa_sigaction = at_fault, .sa_flags = SA_SIGINFO}, before;
+    rounds_found = 0;
+    sigaction(SIGSEGV, &watched, &before);
+    mprotect(last_page, PAGE, PROT_NONE);
+    *passed = gw_bench_cold(t->text, t->text_length, records, COPIES, walk, WALK, COLD_ROUNDS, way);
+    mprotect(first_page, PAGE, PROT_READ | PROT_WRITE);
+    mprotect(last_page, PAGE, PROT_READ | PROT_WRITE);
+    sigaction(SIGSEGV, &before, NULL);
+    return median_found();
+}
+
+/* Before each round 8 MB are walked, and each record is judged by a copy of the code that is its own. */
+static double cold_libpcap_time(const struct bpf_insn **copies, const uint8_t (*records)[16], uint64_t *passed)
+{
+    *passed = 0;
+    for (rounds_found = 0; rounds_found < COLD_ROUNDS; rounds_found++) {
+        *passed += walked();
+        double start = now();
+        for (int i = 0; i < COPIES; i++)
+            *passed += bpf_filter(copies[i], records[i], 16, 16) != 0;
+        found[rounds_found] = now() - start;
+    }
+    return median_found();
+}
+
+/* The time of one verdict in each way with what it reads in no near cache: the median of the rounds, and the least of the repeats. */
 static bool time_cold(const struct table *t, const uint8_t (*records)[16], double *times)
 {
-    static uint64_t walk[WALK];
     static const struct bpf_insn *copies[COPIES];
     /* The numbers that gw_bench_cold has for the first three ways. */
     static const uint32_t numbers[] = {2, 1, 3};
-    double found[WAYS][COLD_REPEATS];
-    uint64_t passed[WAYS], none;
-    /* Pages that were never written would all be one. */
-    memset(walk, 1, sizeof walk);
+    uint64_t passed[WAYS];
     for (int i = 0; i < COPIES; i++) {
         struct bpf_insn *copy = malloc(t->length * sizeof *copy);
         copies[i] = memcpy(copy, t->code, t->length * sizeof *copy);
     }
+    for (int way = 0; way < WAYS; way++)
+        times[way] = 1e30;
     for (int repeat = 0; repeat < COLD_REPEATS; repeat++) {
-        for (int way = 0; way < 3; way++) {
-            double making = cold_time(t, records, walk, 0, numbers[way], &none);
-            double walking = cold_time(t, records, walk, COLD_ROUNDS, 0, &none);
-            found[way][repeat] = cold_time(t, records, walk, COLD_ROUNDS, numbers[way], &passed[way]) - making - walking;
-        }
-        double walking = cold_libpcap_time(copies, records, walk, false, &none);
-        found[3][repeat] = cold_libpcap_time(copies, records, walk, true, &passed[3]) - walking;
+        for (int way = 0; way < 3; way++)
+            times[way] = least(times[way], cold_time(t, records, numbers[way], &passed[way]));
+        times[3] = least(times[3], cold_libpcap_time(copies, records, &passed[3]));
     }
     for (int i = 0; i < COPIES; i++)
         free((void *)copies[i]);
-    for (int way = 0; way < WAYS; way++) {
-        qsort(found[way], COLD_REPEATS, sizeof found[way][0], compare);
-        times[way] = found[way][COLD_REPEATS / 2] / ((double)COLD_ROUNDS * COPIES);
-    }
     return passed[0] == passed[1] && passed[0] == passed[2] && passed[0] == passed[3];
+}
+
+/*
+ * Makes so many loads from each block, of which each waits for the one before: the blocks hold zeros, which the compiler does not
+ * know. With `apart` set those of the next block begin when they are done, as where a gateway has yet to take its next frame.
+ */
+static uint64_t load(const uint8_t *const *blocks, const uint32_t (*places)[LOADS], int loads, bool apart)
+{
+    uint64_t sum = 0;
+    for (int i = 0; i < COPIES; i++) {
+        uint64_t found = 0;
+        for (int k = 0; k < loads; k++)
+            found = blocks[i][places[i][k] + found];
+        sum += found;
+        if (apart)
+            __builtin_ia32_lfence();
+    }
+    return sum;
+}
+
+/* The time of the loads from one block: the median of the rounds, and the least of the repeats. */
+static double load_time(const uint8_t *const *blocks, const uint32_t (*places)[LOADS], int loads, bool apart, uint64_t *sum)
+{
+    double time = 1e30;
+    for (int repeat = 0; repeat < COLD_REPEATS; repeat++) {
+        for (rounds_found = 0; rounds_found < COLD_ROUNDS; rounds_found++) {
+            *sum += walked();
+            double start = now();
+            *sum += load(blocks, places, loads, apart);
+            found[rounds_found] = now() - start;
+        }
+        time = least(time, median_found());
+    }
+    return time;
+}
+
+/* Times loads from blocks of so many octets. False: they found something else than the zeros there. */
+static bool time_blocks(uint32_t octets)
+{
+    static const uint8_t *blocks[COPIES];
+    static uint32_t places[COPIES][LOADS];
+    uint64_t sum = 0, walks = (uint64_t)LOADS * 2 * COLD_REPEATS * COLD_ROUNDS;
+    srand(1);
+    for (int i = 0; i < COPIES; i++) {
+        /* Written, or all pages would be one. */
+        blocks[i] = memset(malloc(octets), 0, octets);
+        for (int k = 0; k < LOADS; k++)
+            places[i][k] = (uint32_t)rand() % (octets / LINE) * LINE;
+    }
+    for (int loads = 1; loads <= LOADS; loads++) {
+        double together = load_time(blocks, (const uint32_t (*)[LOADS])places, loads, false, &sum);
+        double apart = load_time(blocks, (const uint32_t (*)[LOADS])places, loads, true, &sum);
+        printf("| %u | %d | %.1f | %.1f |\n", octets, loads, together, apart);
+    }
+    for (int i = 0; i < COPIES; i++)
+        free((void *)blocks[i]);
+    return sum == walks * walked();
+}
+
+/* What no verdict can go below that makes so many loads in a row from memory of its table's own. */
+static bool time_loads(void)
+{
+    printf("\nLoads that wait for one another, with the caches emptied:\n\n"
+           "| octets | loads | beside those of the next frame, ns | before those of the next frame, ns |\n|---|---|---|---|\n");
+    return time_blocks(SMALL) && time_blocks(LARGE);
 }
 
 static void print_line(int rules, const struct table *t, const double *times)
@@ -222,7 +316,9 @@ bool time_tables(const char *text, size_t length, const uint8_t (*records)[16])
         t->length = gw_bench_compile(t->text, t->text_length, t->code, LONGEST);
     }
     write_undecided(undecided);
+    /* Pages that were never written would all be one. */
+    memset(walk, 1, sizeof walk);
     return time_kind("The vehicle's records:", tables, rules, TABLES, records, false)
         && time_kind("Records that no rule decides:", tables, rules, TABLES, (const uint8_t (*)[16])undecided, false)
-        && time_kind("The vehicle's records, with the caches emptied:", tables, rules, TABLES, records, true);
+        && time_kind("The vehicle's records, with the caches emptied:", tables, rules, TABLES, records, true) && time_loads();
 }
