@@ -135,8 +135,8 @@ unchanged c done i w w2 refused s at makes =
     (ap (λ (x : Worker). slice_set c.workers i x) told.1 ∙ set_same c.workers i w at)
 
 -- the two cases as one: the answer of the worker, or its refusal
-by_given : (c : Gateway) (p : ℕ) (w w2 : Worker) (given : Result Answer EventRefusal) → p < c.limits.ports → Makes c.batches w given w2
-    → w2.limits ≡ w.limits → w2.own ≡ w.own
+by_given : (c : Gateway) (p : ℕ) (w w2 : Worker) (given : Result Answer EventRefusal) → p < c.limits.ports
+    → Makes c.batches w given w2 → w2.limits ≡ w.limits → w2.own ≡ w.own
     → (history : List Event) → Stands c history → slice_get c.workers p ≡ Some w
     → CoreAnswers c (Step p) given (with_worker c p w2) history
 by_given c p w w2 (Ok answer) within makes limits own history s at = step_answers c history p w w2 answer s within at makes
@@ -147,8 +147,8 @@ by_given c p w w2 (Err refused) within makes limits own history s at =
     (step_refused c history p w w2 refused s within at makes)
 
 -- what a step answers, as the machine finds its worker
-pub core_step : (c : Gateway) (all : List (List Pair)) (i p : ℕ) (w w2 : Worker) (given : Result Answer EventRefusal) → all ≡ c.batches → i ≡ p
-    → p < c.limits.ports → w ≡ slice_index_or c.workers i w
+pub core_step : (c : Gateway) (all : List (List Pair)) (i p : ℕ) (w w2 : Worker) (given : Result Answer EventRefusal)
+    → all ≡ c.batches → i ≡ p → p < c.limits.ports → w ≡ slice_index_or c.workers i w
     → Makes all w given w2 → w2.limits ≡ w.limits → w2.own ≡ w.own
     → (history : List Event) → Stands c history → CoreAnswers c (Step p) given (with_worker c i w2) history
 core_step c all i p w w2 given same at within read makes limits own history s =
@@ -157,16 +157,16 @@ core_step c all i p w w2 given same at within read makes limits own history s =
     (slice_get_read c.workers c.limits.ports p w (sym s.ports) within (read ∙ ap (λ n. slice_index_or c.workers n w) at)))
 
 -- some history leads to the gateway after it too
-stays_gateway : (c : Gateway) (p : ℕ) (w w2 : Worker) (given : Result Answer EventRefusal) → Makes c.batches w given w2 → w2.limits ≡ w.limits
-    → w2.own ≡ w.own
+stays_gateway : (c : Gateway) (p : ℕ) (w w2 : Worker) (given : Result Answer EventRefusal) → Makes c.batches w given w2
+    → w2.limits ≡ w.limits → w2.own ≡ w.own
     → (done : List Event) → StandsAt c done → slice_get c.workers p ≡ Some w → IsGateway (with_worker c p w2)
 stays_gateway c p w w2 (Ok answer) makes limits own done s at =
     (Step p ∷ done, stands_step c done p w w2 answer s at (makes (history_of p done) (s.workers p w at).stands) limits own)
 stays_gateway c p w w2 (Err refused) makes limits own done s at =
     (done, subst (λ (x : Gateway). StandsAt x done) (sym (unchanged c done p w w2 refused s at makes)) s)
 
-pub core_step_stays : (c : Gateway) (all : List (List Pair)) (i : ℕ) (w w2 : Worker) (given : Result Answer EventRefusal) → all ≡ c.batches
-    → i < c.limits.ports → w ≡ slice_index_or c.workers i w
+pub core_step_stays : (c : Gateway) (all : List (List Pair)) (i : ℕ) (w w2 : Worker) (given : Result Answer EventRefusal)
+    → all ≡ c.batches → i < c.limits.ports → w ≡ slice_index_or c.workers i w
     → Makes all w given w2 → w2.limits ≡ w.limits → w2.own ≡ w.own → IsGateway c → IsGateway (with_worker c i w2)
 core_step_stays c all i w w2 given same within read makes limits own g =
     stays_gateway c i w w2 given (subst (λ x. Makes x w given w2) same makes) limits own g.0 g.1

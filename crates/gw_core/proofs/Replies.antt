@@ -29,7 +29,8 @@ as_many limits history [] = refl
 as_many limits history (e ∷ events) = let rest = as_many limits (e ∷ history) events in omega (arith, rest)
 
 -- the replies are answers to the events
-pub are_replies : (limits : Bounds) (history events : List Event) → AreReplies limits history events (replies limits history events)
+pub are_replies : (limits : Bounds) (history events : List Event)
+    → AreReplies limits history events (replies limits history events)
 are_replies limits history events = record {
   many = as_many limits history events;
   each = λ before e after split. subst
@@ -45,8 +46,8 @@ only_replies limits history [] [] r = refl
 only_replies limits history [] (g ∷ given) r = absurd (let m = r.many in omega (arith, m))
 only_replies limits history (e ∷ events) [] r = absurd (let m = r.many in omega (arith, m))
 only_replies limits history (e ∷ events) (g ∷ given) r =
-    let first : g ≡ reply limits history e = ap (λ (o : Option (Result Answer EventRefusal)). unwrap_or o g) (r.each [] e events refl)
-    in
+    let first : g ≡ reply limits history e =
+    ap (λ (o : Option (Result Answer EventRefusal)). unwrap_or o g) (r.each [] e events refl) in
     let rest : given ≡ replies limits (e ∷ history) events = only_replies limits (e ∷ history) events given (record {
       many = let m = r.many in omega (arith, m);
       each = λ before x after split. r.each (e ∷ before) x after (ap (λ (es : List Event). e ∷ es) split)
