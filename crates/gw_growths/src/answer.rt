@@ -65,6 +65,12 @@ pub enum Answer {
     NotClosed {
         is_back: bool,
     },
+    /// A run that took so many frames, how many batches were published, and why the next was not.
+    Ran {
+        taken: usize,
+        front: u32,
+        refused: Option<u32>,
+    },
     /// A refusal by its number alone.
     Refused(u32),
     /// A piece of a trace, or all of it, gave so many frames.
@@ -127,6 +133,21 @@ impl Display for Answer {
             } else {
                 "refused 85, other parts are back"
             }),
+            Answer::Ran {
+                taken,
+                front,
+                refused: None,
+            } => write!(f, "{taken} frames taken, front {front}"),
+            Answer::Ran {
+                taken,
+                front,
+                refused: Some(number),
+            } => {
+                write!(
+                    f,
+                    "{taken} frames taken, front {front}, then refused {number}"
+                )
+            }
             Answer::Refused(number) => write!(f, "refused {number}"),
             Answer::Frames(count) => write!(f, "{count} frames"),
             Answer::FramesAgain(count) => write!(f, "refused 94, fed again {count} frames"),

@@ -6,6 +6,7 @@ use crate::answer::Answer;
 use crate::ends::{make_board, make_close, make_gateway, make_lanes, make_replace};
 use crate::fault::Fault;
 use crate::gateway::{make_core, make_events, make_run};
+use crate::runs::{make_threads, make_threads_from};
 use crate::traces::{make_feed, make_frames};
 use gw_frame::Frame;
 use gw_insn::{Raw, read_listing, write_listing};
@@ -15,7 +16,9 @@ use gw_text::{assemble, disassemble};
 use gw_verify::{Program, explain};
 use std::alloc::Global;
 use std::io::Write;
+use std::marker::Sync;
 use std::sync::{Arc, Wait};
+use std::thread::Threads;
 
 /// `ldh [12]`, `jne #0x806, drop`, `ret #-1`, `drop: ret #0`.
 const LISTING: &str = "4,40 0 0 12,21 0 1 2054,6 0 0 4294967295,6 0 0 0,";
@@ -151,6 +154,10 @@ pub enum Call {
     Replace,
     /// `gw_ports::close`.
     Close,
+    /// `gw_ports::run`.
+    Run,
+    /// `gw_ports::run_from`.
+    RunFrom,
     /// `Trace::feed`.
     Feed,
     /// `gw_trace::frames`.
@@ -159,7 +166,7 @@ pub enum Call {
 
 impl Call {
     /// Every call.
-    pub const ALL: [Call; 22] = [
+    pub const ALL: [Call; 24] = [
         Call::ReadListing,
         Call::ReadCutListing,
         Call::WriteListing,
@@ -180,6 +187,8 @@ impl Call {
         Call::Gateway,
         Call::Replace,
         Call::Close,
+        Call::Run,
+        Call::RunFrom,
         Call::Feed,
         Call::ReadFrames,
     ];
@@ -207,6 +216,8 @@ impl Call {
             Call::Gateway => "gateway",
             Call::Replace => "replace",
             Call::Close => "close",
+            Call::Run => "run",
+            Call::RunFrom => "run_from",
             Call::Feed => "feed",
             Call::ReadFrames => "frames",
         }
@@ -218,7 +229,7 @@ impl Call {
     }
 
     /// Prepares the call's arguments, writes `ready`, and makes the call.
-    pub fn make<R: Wait, W: Write>(
+    pub fn make<R: Threads + Wait + Sync, W: Write>(
         self,
         rt: &R,
         alloc: Global,
@@ -245,6 +256,8 @@ impl Call {
             Call::Gateway => make_gateway(alloc, output),
             Call::Replace => make_replace(rt, alloc, output),
             Call::Close => make_close(rt, alloc, output),
+            Call::Run => make_threads(rt, alloc, output),
+            Call::RunFrom => make_threads_from(rt, alloc, output),
             Call::Feed => make_feed(alloc, output),
             Call::ReadFrames => make_frames(alloc, output),
         }
@@ -356,8 +369,13 @@ fn make_absorb<W: Write>(alloc: Global, output: &mut W) -> Result<Answer, Fault>
     })
 }
 
-/// A batch of one pair: the port, and the policy of a listing.
+/// A batch of one pair: the port whose policy is replaced, and the policy of a listing.
 pub(crate) fn batch_of(alloc: Global, listing: &str) -> Result<Batch, Fault> {
+    batch_for(alloc, PORT, listing)
+}
+
+/// A batch of one pair: a port, and the policy of a listing.
+pub(crate) fn batch_for(alloc: Global, port: u8, listing: &str) -> Result<Batch, Fault> {
     let Ok(program) = Program::check(alloc, code_of(alloc, listing)?) else {
         return Err(Fault::Unprepared);
     };
@@ -365,7 +383,7 @@ pub(crate) fn batch_of(alloc: Global, listing: &str) -> Result<Batch, Fault> {
         return Err(Fault::Unprepared);
     };
     let mut batch = Batch::new();
-    match batch.add(PORT, policy) {
+    match batch.add(port, policy) {
         Ok(()) => Ok(batch),
         Err(_) => Err(Fault::Unprepared),
     }

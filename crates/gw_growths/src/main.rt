@@ -9,6 +9,7 @@ mod call;
 mod ends;
 mod fault;
 mod gateway;
+mod runs;
 mod traces;
 
 use call::Call;
@@ -16,8 +17,10 @@ use fault::Fault;
 use std::alloc::Global;
 use std::env;
 use std::io::Write;
+use std::marker::Sync;
 use std::process::ExitCode;
 use std::sync::Wait;
+use std::thread::Threads;
 
 fn main(rt: HostRuntime) -> ExitCode {
     match make_calls(&rt, &rt) {
@@ -29,13 +32,13 @@ fn main(rt: HostRuntime) -> ExitCode {
     }
 }
 
-/// Makes the calls that the words name. `waits` is the runtime as what a call may wait by.
-fn make_calls<R: Wait>(rt: &HostRuntime, waits: &R) -> Result<(), Fault> {
+/// Makes the calls that the words name. `threads` is the runtime as what a call may start threads and wait by.
+fn make_calls<R: Threads + Wait + Sync>(rt: &HostRuntime, threads: &R) -> Result<(), Fault> {
     let mut words = env::args(rt).map_err(|_| Fault::Unprepared)?.skip(1);
     match (words.next(), words.next()) {
-        (None, _) => tell_all(waits, rt.alloc(), &mut rt.stdout()),
+        (None, _) => tell_all(threads, rt.alloc(), &mut rt.stdout()),
         (Some(word), None) => match Call::named(word.as_str()) {
-            Some(call) => tell(call, waits, rt.alloc(), &mut rt.stdout()),
+            Some(call) => tell(call, threads, rt.alloc(), &mut rt.stdout()),
             None => Err(Fault::WrongWords),
         },
         _ => Err(Fault::WrongWords),
@@ -43,7 +46,11 @@ fn make_calls<R: Wait>(rt: &HostRuntime, waits: &R) -> Result<(), Fault> {
 }
 
 /// Makes all calls, and writes their answers.
-fn tell_all<R: Wait, W: Write>(rt: &R, alloc: Global, output: &mut W) -> Result<(), Fault> {
+fn tell_all<R: Threads + Wait + Sync, W: Write>(
+    rt: &R,
+    alloc: Global,
+    output: &mut W,
+) -> Result<(), Fault> {
     for call in &Call::ALL {
         tell(*call, rt, alloc, output)?;
     }
@@ -51,7 +58,12 @@ fn tell_all<R: Wait, W: Write>(rt: &R, alloc: Global, output: &mut W) -> Result<
 }
 
 /// Makes a call, and writes its answer.
-fn tell<R: Wait, W: Write>(call: Call, rt: &R, alloc: Global, output: &mut W) -> Result<(), Fault> {
+fn tell<R: Threads + Wait + Sync, W: Write>(
+    call: Call,
+    rt: &R,
+    alloc: Global,
+    output: &mut W,
+) -> Result<(), Fault> {
     let answer = call.make(rt, alloc, output)?;
     let name = call.name();
     writeln!(output, "{name}: {answer}")?;

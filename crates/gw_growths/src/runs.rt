@@ -1,0 +1,133 @@
+//! The calls that run a gateway in threads of its own.
+
+ghost use Rattle.std.specs.Prelude.{◌≡◌, ◌≤◌, All, IfOk, vec_len};
+ghost use Rattle.std.specs.Iterator.{at_most};
+
+use crate::answer::Answer;
+use crate::call::{ENGINE_SPEED, PASS, batch_for, say_ready};
+use crate::fault::Fault;
+use gw_frame::Frame;
+use gw_ledger::Limits;
+use gw_policy::Batch;
+use gw_ports::{Gate, RunRefusal, RunReport, run, run_from};
+use std::alloc::{AllocError, Global};
+use std::io::Write;
+use std::marker::Sync;
+use std::sync::Wait;
+use std::thread::Threads;
+
+/// How many batches are published behind the first. The shelf of a board takes memory at the first, for 32 batches, and at the
+/// 29th, for the next; where that is refused it asks again at the 33rd, and only then is a batch refused.
+const LATER: usize = 33;
+
+/// A gate that holds nobody back.
+#[derive(Clone, Copy)]
+struct Open;
+
+impl Gate for Open {
+    fn enter(&self, _port: u8, _index: usize) {}
+
+    fn leave(&self, _port: u8, _index: usize) {}
+
+    fn before_replace(&self, _index: usize) {}
+
+    fn replaced(&self, _index: usize) {}
+}
+
+/// One frame, or none.
+#[derive(Clone, Copy, Drop)]
+struct Single {
+    frame: Frame,
+    left: usize,
+}
+
+impl Iterator for Single {
+    type Item = Frame;
+
+    ghost remaining = { λ s. at_most s.left };
+
+    fn next(&mut self) -> Option<Frame> {
+        if self.left == 0 {
+            return None;
+        }
+        self.left -= 1;
+        Some(self.frame)
+    }
+}
+
+/// A gateway of two ports takes a frame at each, while batches are published.
+pub fn make_threads<R: Threads + Wait + Sync, W: Write>(
+    rt: &R,
+    alloc: Global,
+    output: &mut W,
+) -> Result<Answer, Fault> {
+    let frame = Frame::read(&ENGINE_SPEED).map_err(|_| Fault::Unprepared)?;
+    let limits = two_ports()?;
+    let first = batch_for(alloc, 1, PASS)?;
+    let batches = batches(alloc)?;
+    let inputs = vec![in alloc; vec![in alloc; frame]?, vec![in alloc; frame]?]?;
+    say_ready(output)?;
+    Ok(answer(run(rt, alloc, limits, first, inputs, batches, &Open)))
+}
+
+/// The same, from iterators.
+pub fn make_threads_from<R: Threads + Wait + Sync, W: Write>(
+    rt: &R,
+    alloc: Global,
+    output: &mut W,
+) -> Result<Answer, Fault> {
+    let frame = Frame::read(&ENGINE_SPEED).map_err(|_| Fault::Unprepared)?;
+    let limits = two_ports()?;
+    let first = batch_for(alloc, 1, PASS)?;
+    let batches = batches(alloc)?;
+    let inputs = singles(alloc, frame)?;
+    let sizes = ones(alloc)?;
+    say_ready(output)?;
+    Ok(answer(run_from(rt, alloc, limits, first, inputs, sizes, batches, &Open)))
+}
+
+/// A frame for each of two ports.
+fn singles(alloc: Global, frame: Frame) -> Result<Vec<Single>, AllocError>
+    ensures count { IfOk result (λ inputs. vec_len inputs ≡ 2) }
+    ensures one { IfOk result (λ inputs. All (λ input. input.left ≤ 1) inputs.items) }
+{
+    let single = Single { frame, left: 1 };
+    Ok(vec![in alloc; single, single]?)
+}
+
+fn ones(alloc: Global) -> Result<Vec<usize>, AllocError>
+    ensures count { IfOk result (λ sizes. vec_len sizes ≡ 2) }
+    ensures sizes { IfOk result (λ sizes. All (λ size. size ≡ 1) sizes.items) }
+{
+    Ok(vec![in alloc; 1, 1]?)
+}
+
+/// Two ports, lanes of two copies, a frame at each port, and as many batches as are published.
+fn two_ports() -> Result<Limits, Fault>
+    ensures { IfOk result (λ limits. limits.ports ≡ 2) }
+{
+    Limits::new(2, 2, 34, 1).map_err(|_| Fault::Unprepared)
+}
+
+fn batches(alloc: Global) -> Result<Vec<Batch>, Fault> {
+    let mut batches = Vec::new(alloc);
+    for _ in 0..LATER {
+        batches.push(batch_for(alloc, 1, PASS)?)?;
+    }
+    Ok(batches)
+}
+
+fn answer(ran: Result<RunReport, RunRefusal>) -> Answer {
+    match ran {
+        Ok(report) => Answer::Ran {
+            taken: report
+                .outcomes
+                .iter()
+                .map(|outcomes| outcomes.len())
+                .fold(0, usize::saturating_add),
+            front: report.report.front,
+            refused: report.refused.map(|why| why.number()),
+        },
+        Err(why) => Answer::Refused(why.number()),
+    }
+}
