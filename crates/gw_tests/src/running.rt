@@ -1,12 +1,15 @@
 //! The worked examples of a gateway that runs in threads of its own.
 
-ghost use Rattle.std.specs.Prelude.{◌≡◌, IfOk, length, vec_len};
+ghost use Rattle.std.specs.Prelude.{◌≡◌, ◌≤◌, All, IfOk, length, vec_len};
+ghost use Rattle.std.specs.Iterator.{at_most};
 
 use crate::made::{ENGINE_SPEED, batch, returning};
 use gw_frame::Frame;
 use gw_ledger::{FrameCopy, Limits, Outcome, PortSet};
-use gw_ports::{Gate, OfferRefusal, run};
+use gw_policy::Batch;
+use gw_ports::{Gate, OfferRefusal, RunReport, run, run_from};
 use std::alloc::{AllocError, Global};
+use std::process::Abort;
 use std::sync::atomic::{AtomicBool, Ordering};
 use std::test::Fail;
 use std::thread::yield_now;
@@ -139,26 +142,21 @@ fn numbers_from(alloc: Global, out: &[FrameCopy], from: u8) -> Result<Vec<u32>, 
     Ok(numbers)
 }
 
-#[test]
-fn threads_with_a_gate(rt: HostRuntime) -> Result<(), Fail> {
-    let alloc = rt.alloc();
-    let frame = Frame::read(&ENGINE_SPEED)?;
+/// The batch that the ports know first, and the one that is published between their offers.
+fn batches_of(alloc: Global) -> Result<(Batch, Vec<Batch>), AllocError> {
     let first = batch(alloc, &[0, 1, 2], &returning(1))?;
     let mut batches = Vec::new(alloc);
     batches.push(batch(alloc, &[2], &returning(0))?)?;
-    let inputs = inputs_of(alloc, frame, &[2, 2, 0])?;
-    let gate = InTurn::new();
-    let Ok(ran) = run(
-        &rt,
-        alloc,
-        Limits::new(3, 4, 2, 2)?,
-        first,
-        inputs,
-        batches,
-        &gate,
-    ) else {
-        return Err("no run".into());
-    };
+    Ok((first, batches))
+}
+
+/// What the example states of a run.
+fn expect_turns<R: Abort>(
+    rt: &R,
+    alloc: Global,
+    ran: &RunReport,
+    gate: &InTurn,
+) -> Result<(), Fail> {
     assert!(rt; !gate.is_late.load(Ordering::SeqCst));
     let (Some(zero), Some(one), Some(two)) = (
         ran.outcomes.get(0),
@@ -183,6 +181,88 @@ fn threads_with_a_gate(rt: HostRuntime) -> Result<(), Fail> {
     assert_eq!(rt; (zero.len(), one.len(), two.len()), (2, 2, 2));
     assert!(rt; ran.report.lanes.iter().all(|lane| lane.left.is_empty()));
     Ok(())
+}
+
+#[test]
+fn threads_with_a_gate(rt: HostRuntime) -> Result<(), Fail> {
+    let alloc = rt.alloc();
+    let (first, batches) = batches_of(alloc)?;
+    let inputs = inputs_of(alloc, Frame::read(&ENGINE_SPEED)?, &[2, 2, 0])?;
+    let gate = InTurn::new();
+    let Ok(ran) = run(
+        &rt,
+        alloc,
+        Limits::new(3, 4, 2, 2)?,
+        first,
+        inputs,
+        batches,
+        &gate,
+    ) else {
+        return Err("no run".into());
+    };
+    expect_turns(&rt, alloc, &ran, &gate)
+}
+
+/// A frame so many times.
+#[derive(Clone, Copy, Drop)]
+struct Repeated {
+    frame: Frame,
+    left: usize,
+}
+
+impl Iterator for Repeated {
+    type Item = Frame;
+
+    ghost remaining = { λ s. at_most s.left };
+
+    fn next(&mut self) -> Option<Frame> {
+        if self.left == 0 {
+            return None;
+        }
+        self.left -= 1;
+        Some(self.frame)
+    }
+}
+
+/// The frames of three ports: two, two, and none.
+fn repeated(alloc: Global, frame: Frame) -> Result<Vec<Repeated>, AllocError>
+    ensures count { IfOk result (λ inputs. vec_len inputs ≡ 3) }
+    ensures few { IfOk result (λ inputs. All (λ input. input.left ≤ 2) inputs.items) }
+{
+    Ok(vec![in alloc;
+        Repeated { frame, left: 2 },
+        Repeated { frame, left: 2 },
+        Repeated { frame, left: 0 },
+    ]?)
+}
+
+/// How many frames a port offers at most, for three ports.
+fn most(alloc: Global) -> Result<Vec<usize>, AllocError>
+    ensures count { IfOk result (λ sizes. vec_len sizes ≡ 3) }
+    ensures sizes { IfOk result (λ sizes. All (λ size. size ≡ 2) sizes.items) }
+{
+    Ok(vec![in alloc; 2, 2, 2]?)
+}
+
+#[test]
+fn threads_with_a_gate_from_iterators(rt: HostRuntime) -> Result<(), Fail> {
+    let alloc = rt.alloc();
+    let (first, batches) = batches_of(alloc)?;
+    let frame = Frame::read(&ENGINE_SPEED)?;
+    let gate = InTurn::new();
+    let Ok(ran) = run_from(
+        &rt,
+        alloc,
+        Limits::new(3, 4, 2, 2)?,
+        first,
+        repeated(alloc, frame)?,
+        most(alloc)?,
+        batches,
+        &gate,
+    ) else {
+        return Err("no run".into());
+    };
+    expect_turns(&rt, alloc, &ran, &gate)
 }
 
 /// A gate that holds nobody back.
