@@ -20,7 +20,16 @@ crates/gw/out/gw:
 test:
 	@./gate
 
-# Our loop beside libpcap's on the same programs and records (docs/BENCHMARKS.md). Debian: libpcap-dev.
+# A soak of the running threads: ten million offers at four ports, with a replacement after each 10000 of them.
+.PHONY: soak
+soak: crates/gw_soak/out/gw_soak
+	@$< 2500000 10000
+
+crates/gw_soak/out/gw_soak:
+	@cd crates/gw_soak && rt run -- $$(cat args)
+
+# Our loop beside libpcap's on the same programs and records, and the times of tables, scripts, traces and threads
+# (docs/BENCHMARKS.md). Debian: libpcap-dev.
 .PHONY: bench
 bench:
 	@$(MAKE) --no-print-directory -C bench

@@ -1,0 +1,71 @@
+//! Outcomes judged again, by one thread.
+
+use crate::fault::Fault;
+use crate::policies::Policies;
+use gw_claims::Claims;
+use gw_frame::Frame;
+use gw_ledger::{Outcome, PortSet};
+use gw_policy::PolicySet;
+
+/// Judges the frames of a port, by a set of its own that absorbs the batches up to each outcome's front.
+#[derive(Drop)]
+pub struct Judge<'a> {
+    policies: &'a Policies,
+    // How many batches were to be published.
+    most: u32,
+    port: u8,
+    set: PolicySet,
+    claims: Claims,
+    judged: u32,
+}
+
+impl<'a> Judge<'a> {
+    pub fn new(policies: &'a Policies, most: u32, port: u8) -> Judge<'a> {
+        Judge {
+            policies,
+            most,
+            port,
+            set: PolicySet::new(),
+            claims: Claims::new(),
+            judged: 0,
+        }
+    }
+
+    /// Whether this is what becomes of the port's next frame after so many batches, at least one and no fewer than before.
+    pub fn agrees(&mut self, frame: &Frame, outcome: &Outcome) -> Result<bool, Fault> {
+        self.catch_up(outcome.front.min(self.most))?;
+        let local = self.claims.is_local(frame);
+        let agrees = outcome.front > 0
+            && outcome.front == self.set.front()
+            && outcome.number == self.judged
+            && outcome.local == local
+            && outcome.allowed == self.allowed(local, frame)
+            && are_among(outcome.placed, outcome.allowed);
+        self.claims.hear(frame);
+        self.judged = self.judged.saturating_add(1);
+        Ok(agrees)
+    }
+
+    fn catch_up(&mut self, front: u32) -> Result<(), Fault> {
+        for index in self.set.front()..front {
+            self.set.absorb(&self.policies.batch(index as usize)?)?;
+        }
+        Ok(())
+    }
+
+    /// The others of four ports whose policies in force pass the frame, none for a local one.
+    fn allowed(&self, local: bool, frame: &Frame) -> PortSet {
+        let mut allowed = PortSet::new();
+        for port in 0..4 {
+            if !local && port != self.port && self.set.verdict(port, frame, self.port) {
+                allowed.add(port);
+            }
+        }
+        allowed
+    }
+}
+
+/// Whether these ports are all among those.
+fn are_among(ports: PortSet, those: PortSet) -> bool {
+    (0..16).all(|port| !ports.has(port) || those.has(port))
+}

@@ -1,0 +1,137 @@
+//! The policies of a soak, in four batches that take turns.
+
+ghost use Rattle.std.specs.Prelude.{◌≤◌, length, IfOk};
+
+use crate::fault::Fault;
+use gw_insn::{Raw, read_listing};
+use gw_policy::{Batch, Policy};
+use gw_table::Table;
+use gw_verify::Program;
+use std::alloc::{AllocError, Global};
+use std::sync::Arc;
+
+/// Passes frames whose first octet of payload is odd: `ldb [8]`, `and #1`, `ret a`.
+const ODD: &str = "3,48 0 0 8,84 0 0 1,22 0 0 0,";
+
+/// Passes what was not taken at port 0: `ld ifidx`, `ret a`.
+const NOT_FROM_0: &str = "2,32 0 0 4294963208,22 0 0 0,";
+
+/// Passes requests: `ldb [1]`, `jne #0xea, drop`, `ret #1`, `drop: ret #0`.
+const REQUESTS: &str = "4,48 0 0 1,21 0 1 234,6 0 0 1,6 0 0 0,";
+
+/// `ret #0`.
+const BLOCK: &str = "1,6 0 0 0,";
+
+/// The policies of which the batches are made.
+#[derive(Drop)]
+pub struct Policies {
+    odd: Arc<Policy>,
+    not_from_0: Arc<Policy>,
+    requests: Arc<Policy>,
+    block: Arc<Policy>,
+    table: Arc<Policy>,
+}
+
+impl Policies {
+    pub fn new(alloc: Global) -> Result<Policies, Fault> {
+        Ok(Policies {
+            odd: program(alloc, ODD)?,
+            not_from_0: program(alloc, NOT_FROM_0)?,
+            requests: program(alloc, REQUESTS)?,
+            block: program(alloc, BLOCK)?,
+            table: table(alloc, table_text(alloc)?.as_str())?,
+        })
+    }
+
+    /// The batch of an index, counted from 0: four take turns, of which the first names each of four ports.
+    pub fn batch(&self, index: usize) -> Result<Batch, Fault> {
+        let mut batch = Batch::new();
+        match index % 4 {
+            0 => return for_ports(4, &self.odd),
+            1 => {
+                add(&mut batch, 1, &self.table)?;
+                add(&mut batch, 2, &self.not_from_0)?;
+            }
+            2 => {
+                add(&mut batch, 0, &self.block)?;
+                add(&mut batch, 3, &self.requests)?;
+            }
+            _ => {
+                add(&mut batch, 0, &self.table)?;
+                add(&mut batch, 1, &self.not_from_0)?;
+                add(&mut batch, 3, &self.table)?;
+            }
+        }
+        Ok(batch)
+    }
+
+    /// So many batches behind the first.
+    pub fn batches(&self, alloc: Global, count: usize) -> Result<Vec<Batch>, Fault> {
+        let mut batches = Vec::new(alloc);
+        for before in 0..count {
+            batches.push(self.batch(before + 1)?)?;
+        }
+        Ok(batches)
+    }
+}
+
+/// A batch with one policy for each of so many ports.
+pub fn for_ports(ports: u8, policy: &Arc<Policy>) -> Result<Batch, Fault> {
+    let mut batch = Batch::new();
+    for port in 0..ports {
+        add(&mut batch, port, policy)?;
+    }
+    Ok(batch)
+}
+
+fn add(batch: &mut Batch, port: u8, policy: &Arc<Policy>) -> Result<(), Fault> {
+    batch
+        .add(port, Arc::try_clone(policy)?)
+        .map_err(|_| Fault::Unprepared)
+}
+
+/// The policy of a listing.
+fn program(alloc: Global, listing: &str) -> Result<Arc<Policy>, Fault> {
+    match Program::check(alloc, code_of(alloc, listing)?) {
+        Ok(program) => shared(alloc, Policy::from_program(program)),
+        Err(_) => Err(Fault::Unprepared),
+    }
+}
+
+/// The code of a listing.
+fn code_of(alloc: Global, listing: &str) -> Result<Vec<Raw>, Fault>
+    ensures { IfOk result (λ code. length code.items ≤ 65535) }
+{
+    match read_listing(alloc, listing.as_bytes()) {
+        Ok(code) if code.len() <= 65535 => Ok(code),
+        _ => Err(Fault::Unprepared),
+    }
+}
+
+/// The policy of a table.
+pub fn table(alloc: Global, text: &str) -> Result<Arc<Policy>, Fault> {
+    let Ok(table) = Table::read(alloc, text) else {
+        return Err(Fault::Unprepared);
+    };
+    match Policy::from_table(alloc, table) {
+        Ok(policy) => shared(alloc, policy),
+        Err(_) => Err(Fault::Unprepared),
+    }
+}
+
+/// A table of sixteen rules, so many that it is judged by its index: it passes frames of even source addresses.
+fn table_text(alloc: Global) -> Result<String, AllocError> {
+    let mut text = String::new(alloc);
+    for source in 128..144 {
+        let action = if source % 2 == 0 { "pass" } else { "block" };
+        write!(text, "[[rule]]\naction = \"{action}\"\nsource = {source}\n")?;
+    }
+    Ok(text)
+}
+
+fn shared(alloc: Global, policy: Policy) -> Result<Arc<Policy>, Fault> {
+    match Arc::new(alloc, policy) {
+        Ok(shared) => Ok(shared),
+        Err(_) => Err(Fault::Unprepared),
+    }
+}

@@ -1,0 +1,137 @@
+//! Offers while policies are replaced each millisecond, and the same offers alone.
+
+use crate::fault::Fault;
+use crate::policies::for_ports;
+use crate::rounds::{drain, opened};
+use gw_board::Operator;
+use gw_frame::Frame;
+use gw_policy::Policy;
+use gw_ports::{Parts, PortIn, PortOut};
+use std::alloc::Global;
+use std::marker::Sync;
+use std::sync::atomic::{AtomicBool, Ordering};
+use std::sync::{Arc, Wait};
+use std::thread::{Threads, join, sleep};
+use std::time::{Clock, Duration, Instant};
+
+/// How many rounds of offers there are.
+const ROUNDS: u32 = 5000;
+
+/// What a long run of offers took, in nanoseconds.
+#[derive(Clone, Copy, PartialEq, Eq, Debug)]
+pub struct Offers {
+    /// All offers together, each with a reading of the clock.
+    pub all: u64,
+    /// The longest.
+    pub slowest: u64,
+    /// How many replacements came meanwhile.
+    pub replacements: u32,
+}
+
+impl Offers {
+    /// The lesser times of two runs.
+    pub fn least(self, other: Offers) -> Offers {
+        Offers {
+            all: self.all.min(other.all),
+            slowest: self.slowest.min(other.slowest),
+            replacements: self.replacements.max(other.replacements),
+        }
+    }
+}
+
+/// Offers frames at one of two ports in a thread of its own, while this one replaces policies each millisecond, or only sleeps.
+pub fn time_replacing<R: Threads + Wait + Clock + Sync>(
+    rt: &R,
+    alloc: Global,
+    policy: &Arc<Policy>,
+    frames: &[Frame],
+    is_replacing: bool,
+) -> Result<Offers, Fault> {
+    let Parts {
+        mut operator,
+        ins,
+        outs,
+    } = opened(rt, alloc, 2, policy)?;
+    let (Some(port), Some(out)) = (ins.into_iter().next(), outs.into_iter().nth(1)) else {
+        return Err(Fault::Unprepared);
+    };
+    let is_over = AtomicBool::new(false);
+    let over = &is_over;
+    let (offers, replacements) = join(
+        rt,
+        move || offer_until_over(rt, port, out, frames, over),
+        || replace_until_over(rt, &mut operator, policy, is_replacing, over),
+    );
+    operator.end(rt);
+    let (all, slowest) = offers?;
+    Ok(Offers {
+        all,
+        slowest,
+        replacements: replacements?,
+    })
+}
+
+fn offer_until_over<R: Clock>(
+    rt: &R,
+    mut port: PortIn,
+    mut out: PortOut,
+    frames: &[Frame],
+    is_over: &AtomicBool,
+) -> Result<(u64, u64), Fault> {
+    let mut times = Ok((0, 0));
+    for _ in 0..ROUNDS {
+        times = match times {
+            Ok(before) => offer_all(rt, &mut port, frames, before),
+            Err(why) => Err(why),
+        };
+        drain(&mut out);
+    }
+    is_over.store(true, Ordering::SeqCst);
+    times
+}
+
+/// Offers each frame. Adds the time to that of those before, and keeps the longest.
+fn offer_all<R: Clock>(
+    rt: &R,
+    port: &mut PortIn,
+    frames: &[Frame],
+    before: (u64, u64),
+) -> Result<(u64, u64), Fault> {
+    let (mut all, mut slowest) = before;
+    let mut last = Instant::now(rt)?;
+    for frame in frames {
+        if port.offer(*frame).is_err() {
+            return Err(Fault::Unprepared);
+        }
+        let now = Instant::now(rt)?;
+        let time = u64::try_from(now.duration_since(last).as_nanos()).unwrap_or(u64::MAX);
+        all = all.saturating_add(time);
+        slowest = slowest.max(time);
+        last = now;
+    }
+    Ok((all, slowest))
+}
+
+/// Replaces the policies each millisecond, and answers how often.
+fn replace_until_over<R: Wait + Clock>(
+    rt: &R,
+    operator: &mut Operator,
+    policy: &Arc<Policy>,
+    is_replacing: bool,
+    is_over: &AtomicBool,
+) -> Result<u32, Fault> {
+    let mut replacements: u32 = 0;
+    for _ in 0..60_000 {
+        if is_over.load(Ordering::SeqCst) {
+            break;
+        }
+        sleep(rt, Duration::from_millis(1));
+        if is_replacing {
+            if operator.replace(rt, for_ports(2, policy)?).is_err() {
+                return Err(Fault::Unprepared);
+            }
+            replacements = replacements.saturating_add(1);
+        }
+    }
+    Ok(replacements)
+}

@@ -1,0 +1,246 @@
+//! A run of a gateway, and what is found in its report.
+
+ghost use Rattle.std.specs.Prelude.{◌≡◌, All, IfOk, vec_len};
+
+use crate::fault::Fault;
+use crate::frames::{Drawn, pool};
+use crate::judging::Judge;
+use crate::lanes::LaneCopies;
+use crate::pace::Pace;
+use crate::policies::Policies;
+use gw_frame::Frame;
+use gw_ledger::{InLedger, Limits, Outcome, balance};
+use gw_ports::{LaneLeft, Report, RunReport, run_from};
+use std::alloc::{AllocError, Global};
+use std::marker::Sync;
+use std::sync::Wait;
+use std::thread::Threads;
+
+/// How many copies may wait in a lane.
+const LANE: u32 = 64;
+
+/// How many lanes four ports have.
+const LANES: usize = 12;
+
+/// What a soak found.
+#[derive(Clone, Copy, PartialEq, Eq, Debug)]
+pub struct Found {
+    /// How many frames were offered, and how many batches were to be published behind the first.
+    pub offers: usize,
+    pub replacements: usize,
+    /// How many outcomes there are, and of how many frames that were local.
+    pub taken: usize,
+    pub local: u64,
+    /// How many batches were published behind the first.
+    pub published: usize,
+    /// How many outcomes are other than one thread finds by the batches up to their front.
+    pub differing: usize,
+    /// How many lanes there are, and of how many the copies are other than those that were placed.
+    pub lanes: usize,
+    pub disordered: usize,
+    /// Whether no port and no replacement stopped, and each replacement waited for its offers.
+    pub is_whole: bool,
+    pub is_balanced: bool,
+    pub allowed: u64,
+    pub placed: u64,
+    pub lost: u64,
+    pub left: u64,
+}
+
+impl Found {
+    /// Whether the run did what it was to do.
+    pub fn agrees(&self) -> bool {
+        self.taken == self.offers
+            && self.published == self.replacements
+            && self.differing == 0
+            && self.lanes == LANES
+            && self.disordered == 0
+            && self.is_whole
+            && self.is_balanced
+    }
+}
+
+/// Offers so many frames at each of four ports, with a replacement after each so many offers, and judges what became of them.
+pub fn soak<R: Threads + Wait + Sync>(
+    rt: &R,
+    alloc: Global,
+    each: u32,
+    every: u32,
+) -> Result<Found, Fault> {
+    let every = u64::from(every.max(1));
+    let replacements = (4 * u64::from(each) / every) as usize;
+    let pool = pool(alloc)?;
+    let policies = Policies::new(alloc)?;
+    let gate = Pace::new(every);
+    let size = each as usize;
+    let ran = run_from(
+        rt,
+        alloc,
+        limits_of(each, replacements)?,
+        policies.batch(0)?,
+        inputs(alloc, &pool, size)?,
+        sizes(alloc, size)?,
+        policies.batches(alloc, replacements)?,
+        &gate,
+    );
+    let soaked = Soaked {
+        pool: &pool,
+        policies: &policies,
+        size,
+        replacements,
+    };
+    match ran {
+        Ok(report) => soaked.found(&report, gate.is_late()),
+        Err(why) => Err(Fault::NoRun(why)),
+    }
+}
+
+/// Four ports, and room for the first batch and the others.
+fn limits_of(each: u32, replacements: usize) -> Result<Limits, Fault>
+    ensures { IfOk result (λ limits. limits.ports ≡ 4) }
+{
+    let Ok(versions) = u32::try_from(replacements) else {
+        return Err(Fault::TooMany);
+    };
+    Limits::new(4, LANE, versions.saturating_add(1), each).map_err(|_| Fault::TooMany)
+}
+
+/// The frames that four ports offer.
+fn inputs<'a>(alloc: Global, pool: &'a [Frame], size: usize) -> Result<Vec<Drawn<'a>>, AllocError>
+    ensures count { IfOk result (λ inputs. vec_len inputs ≡ 4) }
+    ensures sizes { IfOk result (λ inputs. All (λ input. input.left ≡ size) inputs.items) }
+{
+    Ok(vec![in alloc;
+        Drawn::new(pool, 0, size),
+        Drawn::new(pool, 1, size),
+        Drawn::new(pool, 2, size),
+        Drawn::new(pool, 3, size),
+    ]?)
+}
+
+/// How many frames each of them offers.
+fn sizes(alloc: Global, size: usize) -> Result<Vec<usize>, AllocError>
+    ensures count { IfOk result (λ sizes. vec_len sizes ≡ 4) }
+    ensures sizes { IfOk result (λ sizes. All (λ each. each ≡ size) sizes.items) }
+{
+    Ok(vec![in alloc; size, size, size, size]?)
+}
+
+/// What a run was made of, to judge its report by.
+#[derive(Drop)]
+struct Soaked<'a> {
+    pool: &'a [Frame],
+    policies: &'a Policies,
+    size: usize,
+    replacements: usize,
+}
+
+impl Soaked<'_> {
+    fn found(&self, ran: &RunReport, is_late: bool) -> Result<Found, Fault> {
+        let copies = total(&ran.report.ins);
+        let left = left_on(&ran.report.lanes);
+        Ok(Found {
+            offers: self.size.saturating_mul(4),
+            replacements: self.replacements,
+            taken: taken(&ran.outcomes),
+            local: copies.local,
+            published: ran.fronts.len(),
+            differing: self.differing(&ran.outcomes)?,
+            lanes: ran.report.lanes.len(),
+            disordered: self.disordered(ran),
+            is_whole: ran.stops.iter().all(|stop| stop.is_none())
+                && ran.refused.is_none()
+                && !is_late,
+            is_balanced: is_balanced(&ran.report, left),
+            allowed: copies.allowed,
+            placed: copies.placed,
+            lost: copies.lost,
+            left,
+        })
+    }
+
+    /// How many outcomes are other than one thread finds.
+    fn differing(&self, outcomes: &[Vec<Outcome>]) -> Result<usize, Fault> {
+        let mut differing: usize = 0;
+        for port in 0..4 {
+            if let Some(outcomes) = outcomes.get(usize::from(port)) {
+                differing = differing.saturating_add(self.differing_at(port, outcomes)?);
+            }
+        }
+        Ok(differing)
+    }
+
+    fn differing_at(&self, port: u8, outcomes: &[Outcome]) -> Result<usize, Fault> {
+        let Ok(most) = u32::try_from(self.replacements.saturating_add(1)) else {
+            return Err(Fault::TooMany);
+        };
+        let mut judge = Judge::new(self.policies, most, port);
+        let mut differing: usize = 0;
+        for (frame, outcome) in Drawn::new(self.pool, port, self.size).zip(outcomes.iter()) {
+            if !judge.agrees(&frame, outcome)? {
+                differing = differing.saturating_add(1);
+            }
+        }
+        Ok(differing)
+    }
+
+    /// On how many lanes the copies are other than those that were placed.
+    fn disordered(&self, ran: &RunReport) -> usize {
+        let mut disordered: usize = 0;
+        for lane in &ran.report.lanes {
+            if !self.is_in_order(ran, lane) {
+                disordered = disordered.saturating_add(1);
+            }
+        }
+        disordered
+    }
+
+    fn is_in_order(&self, ran: &RunReport, lane: &LaneLeft) -> bool {
+        let (Some(outcomes), Some(out)) = (
+            ran.outcomes.get(usize::from(lane.from)),
+            ran.out.get(usize::from(lane.to)),
+        ) else {
+            return false;
+        };
+        let copies = LaneCopies {
+            from: lane.from,
+            to: lane.to,
+            out,
+            left: &lane.left,
+        };
+        copies.are_placed(Drawn::new(self.pool, lane.from, self.size), outcomes)
+    }
+}
+
+/// How many outcomes there are.
+fn taken(outcomes: &[Vec<Outcome>]) -> usize {
+    outcomes
+        .iter()
+        .map(|of_port| of_port.len())
+        .fold(0, usize::saturating_add)
+}
+
+/// What the ports counted together.
+fn total(ledgers: &[InLedger]) -> InLedger {
+    let mut total = InLedger::new();
+    for ledger in ledgers {
+        total.taken = total.taken.saturating_add(ledger.taken);
+        total.local = total.local.saturating_add(ledger.local);
+        total.allowed = total.allowed.saturating_add(ledger.allowed);
+        total.placed = total.placed.saturating_add(ledger.placed);
+        total.lost = total.lost.saturating_add(ledger.lost);
+    }
+    total
+}
+
+/// How many copies are left on the lanes.
+fn left_on(lanes: &[LaneLeft]) -> u64 {
+    lanes
+        .iter()
+        .map(|lane| lane.left.len() as u64)
+        .fold(0, u64::saturating_add)
+}
+
+fn is_balanced(report: &Report, left: u64) -> bool {
+    report.ins.len() <= 16 && report.outs.len() <= 16 && balance(&report.ins, &report.outs, left)
+}

@@ -1,0 +1,115 @@
+//! The times of the ends, as a table in markdown.
+
+ghost use Rattle.std.specs.Prelude.{◌<◌};
+
+use crate::fault::Fault;
+use crate::frames::pool;
+use crate::policies::table;
+use crate::replacing::{Offers, time_replacing};
+use crate::rounds::{time_offers, time_readings, time_sendings};
+use gw_frame::Frame;
+use gw_policy::Policy;
+use std::alloc::Global;
+use std::fmt;
+use std::fmt::{Display, Formatter};
+use std::io::Write;
+use std::marker::Sync;
+use std::sync::{Arc, Wait};
+use std::thread::Threads;
+use std::time::Clock;
+
+/// How often the run of offers is repeated, with and without replacements.
+const REPEATS: u32 = 5;
+
+/// Tenths, as a number with one place behind the point.
+#[derive(Clone, Copy)]
+struct Tenths(u64);
+
+impl Display for Tenths {
+    fn fmt<W: fmt::Write>(&self, f: &mut Formatter<W>) -> fmt::Result {
+        let whole = self.0 / 10;
+        let tenth = self.0 % 10;
+        write!(f, "{whole}.{tenth}")
+    }
+}
+
+/// Times the ends of a gateway each of whose ports has the table of a text for its policy, and writes the times.
+pub fn time<R: Threads + Wait + Clock + Sync, W: Write>(
+    rt: &R,
+    alloc: Global,
+    text: &str,
+    output: &mut W,
+) -> Result<(), Fault> {
+    let policy = table(alloc, text)?;
+    let frames = pool(alloc)?;
+    writeln!(
+        output,
+        "\n| call | other ports | ns | verdicts alone, ns | more than these, ns a port |"
+    )?;
+    writeln!(output, "|---|---|---|---|---|")?;
+    tell_offers(rt, alloc, 2, &policy, &frames, output)?;
+    tell_offers(rt, alloc, 16, &policy, &frames, output)?;
+    for others in [1u8, 15] {
+        let ports = others.saturating_add(1);
+        let sending = Tenths(time_sendings(rt, alloc, ports, &policy, &frames)?);
+        writeln!(output, "| `next` | {others} | {sending} | | |")?;
+    }
+    let reading = Tenths(time_readings(rt, alloc, &policy)?);
+    writeln!(output, "| a reading of the board | | {reading} | | |")?;
+    tell_replacing(rt, alloc, &policy, &frames, output)
+}
+
+fn tell_offers<R: Wait + Clock, W: Write>(
+    rt: &R,
+    alloc: Global,
+    ports: u8,
+    policy: &Arc<Policy>,
+    frames: &[Frame],
+    output: &mut W,
+) -> Result<(), Fault>
+    requires { 1 < ports }
+{
+    let (offers, verdicts) = time_offers(rt, alloc, ports, policy, frames)?;
+    let others = ports - 1;
+    let more = Tenths(offers.saturating_sub(verdicts) / u64::from(others));
+    let (offer, verdict) = (Tenths(offers), Tenths(verdicts));
+    writeln!(
+        output,
+        "| `offer` | {others} | {offer} | {verdict} | {more} |"
+    )?;
+    Ok(())
+}
+
+/// Writes what a replacement each millisecond does to offers.
+fn tell_replacing<R: Threads + Wait + Clock + Sync, W: Write>(
+    rt: &R,
+    alloc: Global,
+    policy: &Arc<Policy>,
+    frames: &[Frame],
+    output: &mut W,
+) -> Result<(), Fault> {
+    let mut alone = time_replacing(rt, alloc, policy, frames, false)?;
+    let mut beside = time_replacing(rt, alloc, policy, frames, true)?;
+    for _ in 1..REPEATS {
+        alone = alone.least(time_replacing(rt, alloc, policy, frames, false)?);
+        beside = beside.least(time_replacing(rt, alloc, policy, frames, true)?);
+    }
+    writeln!(
+        output,
+        "\n| offers at one port | replacements | milliseconds | slowest, microseconds |"
+    )?;
+    writeln!(output, "|---|---|---|---|")?;
+    tell_long("alone", alone, output)?;
+    tell_long("with a replacement each millisecond", beside, output)
+}
+
+fn tell_long<W: Write>(name: &str, offers: Offers, output: &mut W) -> Result<(), Fault> {
+    let replacements = offers.replacements;
+    let milliseconds = Tenths(offers.all / 100_000);
+    let slowest = Tenths(offers.slowest / 100);
+    writeln!(
+        output,
+        "| {name} | {replacements} | {milliseconds} | {slowest} |"
+    )?;
+    Ok(())
+}
