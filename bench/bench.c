@@ -1,7 +1,8 @@
 /*
  * Times the gateway's machine beside libpcap's bpf_filter, and a table's rules beside its program: the same records, one
- * process, in turn; then the event machine, the assembler, and traces beside libpcap's reader. Prints tables in markdown. Fails
- * where two answers to the same question differ. With one word more, `tables`, `texts` or `traces`, it times that alone.
+ * process, in turn; then the event machine, scripts, the assembler, and traces beside libpcap's reader. Prints tables in markdown.
+ * Fails where two answers to the same question differ. With one word more, `tables`, `texts`, `traces` or `scripts`, it times that
+ * alone.
  */
 #include "bench.h"
 
@@ -32,7 +33,7 @@ static double least(double a, double b)
 }
 
 /* How many instructions libpcap's machine and ours run on a record: the places that a run stands at. */
-static uint64_t steps_on(const struct bpf_insn *code, const uint8_t *record)
+uint64_t steps_on(const struct bpf_insn *code, const uint8_t *record)
 {
     uint64_t steps = 0;
     uint32_t a = 0, m[16] = {0};
@@ -177,7 +178,16 @@ static bool time_rules(const char *name, const uint8_t (*records)[16])
     printf("|---|---|---|---|---|---|---|---|\n");
     printf("| %zu | %.1f | %d of %d | %.1f | %.1f | %.1f | %.2f | %.2f |\n", length, (double)steps / RECORDS, passed, RECORDS,
            rules_best / frames, our_best / frames, their_best / frames, our_best / rules_best, our_best / their_best);
-    return time_tables(text, text_length, records) && time_events(text, text_length, records);
+    return time_tables(text, text_length, records) && time_events(text, text_length, records)
+           && time_scripts(text, text_length, records);
+}
+
+/* Times scripts with the table of a file. */
+static bool time_scripts_of(const char *name, const uint8_t (*records)[16])
+{
+    static char text[LONGEST_TEXT];
+    size_t length = read_text(name, text);
+    return length == 0 ? is_refused(name, "no text") : time_scripts(text, length, records);
 }
 
 /* The tables of tables.c alone, with that of a file. */
@@ -192,7 +202,7 @@ int main(int argc, char **argv)
 {
     static uint8_t records[RECORDS][16];
     if (argc != 2 && argc != 3) {
-        fprintf(stderr, "usage: bench TABLE.toml [tables|texts|traces]\n");
+        fprintf(stderr, "usage: bench TABLE.toml [tables|texts|traces|scripts]\n");
         return 2;
     }
     const char *alone = argc == 3 ? argv[2] : "";
@@ -203,5 +213,7 @@ int main(int argc, char **argv)
         return time_texts() ? 0 : 1;
     if (strcmp(alone, "traces") == 0)
         return time_traces(records) ? 0 : 1;
+    if (strcmp(alone, "scripts") == 0)
+        return time_scripts_of(argv[1], records) ? 0 : 1;
     return time_programs(records) && time_rules(argv[1], records) && time_texts() && time_traces(records) ? 0 : 1;
 }

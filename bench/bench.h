@@ -52,6 +52,12 @@ void write_long_table(struct program *p);
 /* Times the event machine, with the table of a text for sixteen ports. */
 bool time_events(const char *text, size_t length, const uint8_t (*records)[16]);
 
+/* How many instructions a run takes on a record. */
+uint64_t steps_on(const struct bpf_insn *code, const uint8_t *record);
+
+/* Times `gw replay`, with the table of a text for sixteen ports. */
+bool time_scripts(const char *text, size_t length, const uint8_t (*records)[16]);
+
 /* Times the assembler. */
 bool time_texts(void);
 
