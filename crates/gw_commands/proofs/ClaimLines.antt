@@ -135,7 +135,7 @@ holder_printed before after address name printed is text =
     let known : after ≡ before ++ (decimal address ++ (32 ∷ (name_digits name ++ 10 ∷ []))) = subst P is text in
     known ∙ ap (λ line. before ++ line) (sym (append_assoc (decimal address) (32 ∷ name_digits name) (10 ∷ [])))
 
-range_more : (a n : ℕ) → range_with_len a (suc n) ≡ range_with_len a n ++ (a + n) ∷ []
+pub range_more : (a n : ℕ) → range_with_len a (suc n) ≡ range_with_len a n ++ (a + n) ∷ []
 range_more a zero = ap (λ m. m ∷ []) (sym (add-zero a))
 range_more a (suc n) =
     let next : (a + 1) + n ≡ a + suc n = omega arith in

@@ -1,17 +1,15 @@
 -- A script that ended early, and the line that says why.
-use Rattle.std.proofs.Common.{◌≡◌, ◌≢◌, ℕ, Bool, true, false, List, length, take, Option, Result, Err, inr, refl, sym, ◌∙◌, subst}
+use Rattle.std.proofs.Common.{◌≡◌, ◌≢◌, ℕ, Bool, true, false, List, length, Option, Err, inr, refl, sym, ◌∙◌, subst}
 use Rattle.std.proofs.Math.Seq.{take-length}
 use Rattle.std.proofs.lemmas.Bool.{true≢false}
 use Rattle.std.specs.Io.KnownBytes.{Appends}
 use Rattle.gw_replay.specs.declared.whole.ReplayFault.{ReplayFault}
 use Rattle.gw_replay.specs.declared.whole.ReplayFault.TheVariants as fault
 use Rattle.gw_replay.specs.Written.{IsPartlyReplayed, IsReplayFault}
-use Rattle.gw_commands.specs.declared.answer.Answer.{Answer}
 use Rattle.gw_commands.specs.declared.refusal.Refusal.{Refusal}
-use Rattle.gw_commands.specs.declared.refusal.Refusal.TheVariants as refusal
 use Rattle.gw_commands.specs.Commands.{Writes, WritesPart}
 use Rattle.gw_commands.specs.Refusals.{refusal_text}
-use Rattle.gw_commands.specs.Replays.{Replays, EndsEarly, fault_line}
+use Rattle.gw_commands.specs.Replays.{Replays, fault_line}
 
 -- the line was written behind the answers, or a beginning of it where a write failed
 pub ended_early : (before after : Option (List ℕ)) (read_failed : Bool) (reads : ℕ) (old middle new : Option (List ℕ))

@@ -1,6 +1,9 @@
 mod LinesExamples
 pub mod ClaimLines
 pub mod EndedEarly
+pub mod FirstBatch
+pub mod Forwarded
+pub mod Forwards
 pub mod Found
 pub mod HexDigits
 pub mod LineByLine

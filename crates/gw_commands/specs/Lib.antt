@@ -4,6 +4,7 @@ pub mod Assemblies
 pub mod Checks
 pub mod ClaimLines
 pub mod Commands
+pub mod Forwarding
 pub mod Lines
 pub mod Records
 pub mod Refusals

@@ -9,13 +9,18 @@ use Rattle.gw_verify.specs.Cause.{cause_number}
 use Rattle.gw_verify.specs.declared.cause.Cause.{Cause}
 use Rattle.gw_verify.specs.declared.cause.Cause.TheVariants.{UnsetWord, OutOfMemory}
 use Rattle.gw_text.specs.Assembly as asm
+use Rattle.gw_ports.specs.Refusals.{offer_refusal_number}
+use Rattle.gw_ports.specs.Runs.{run_refusal_number}
 use Rattle.gw_table.specs.TableText as table
 use Rattle.gw_table.specs.declared.refusal.TableRefusal.{TableRefusal}
 use Rattle.gw_table.specs.declared.refusal.TableRefusal.TheVariants.{BadRange}
+use Rattle.gw_trace.specs.Refusals as trace
+use Rattle.gw_trace.specs.declared.refusal.TraceRefusal.{TraceRefusal}
+use Rattle.gw_trace.specs.declared.refusal.TraceRefusal.TheVariants.{BadRecord}
 use Rattle.gw_commands.specs.declared.refusal.Refusal.{Refusal}
 use Rattle.gw_commands.specs.declared.refusal.Refusal.TheVariants as refusal
 use Rattle.gw_commands.specs.declared.refusal.Refusal.TheVariants.{Record, RecordOnLine, Listing, Program, Unset, Assembler}
-use Rattle.gw_commands.specs.declared.refusal.Refusal.TheVariants.{Table}
+use Rattle.gw_commands.specs.declared.refusal.Refusal.TheVariants.{Table, Trace, Run, Stopped}
 use Rattle.gw_commands.specs.declared.refusal.Refusal.TheVariants.{ReadFault, TooMuchInput, NotUtf8}
 use Rattle.gw_commands.specs.declared.record.RecordFault.{RecordFault}
 use Rattle.gw_commands.specs.declared.record.RecordFault.TheVariants.{NoDigit, OddDigits, NoRecord}
@@ -34,11 +39,15 @@ number_of (Unset refused path output) = cause_number refused.why
 number_of (Assembler why text) = asm.refusal_number why
 number_of ReadFault = 96
 number_of (Table why) = table.refusal_number why
+number_of (Trace why) = trace.refusal_number why
+number_of (Run why) = run_refusal_number why
+number_of (Stopped port why) = offer_refusal_number why
 number_of TooMuchInput = 98
 number_of NotUtf8 = 98
 number_of refusal.OutOfMemory = 100
 
--- what a refusal names: the line, the instruction that is not there, the place, the place and the scratch word, the rule
+-- what a refusal names: the line, the instruction that is not there, the place, the place and the scratch word, the rule, the
+-- record and the number of what is wrong with it
 abbrev pub listing_details : ListRefusal → List ℕ
 listing_details (BadField index) = index ∷ []
 listing_details _ = []
@@ -56,6 +65,10 @@ abbrev pub table_details : TableRefusal → List ℕ
 table_details (BadRange rule field why) = rule ∷ []
 table_details _ = []
 
+abbrev pub trace_details : TraceRefusal → List ℕ
+trace_details (BadRecord index why) = index ∷ refusal_number why ∷ []
+trace_details _ = []
+
 abbrev pub details_of : Refusal → List ℕ
 details_of (RecordOnLine line fault) = line ∷ []
 details_of (Listing why) = listing_details why
@@ -63,6 +76,7 @@ details_of (Program refused path) = cause_details refused.why refused.place
 details_of (Unset refused path output) = cause_details refused.why refused.place
 details_of (Assembler why text) = line_details (asm.refusal_line why)
 details_of (Table why) = table_details why
+details_of (Trace why) = trace_details why
 details_of _ = []
 
 -- `refused` and the numbers, with spaces between

@@ -8,8 +8,10 @@ ghost use Rattle.gw_commands.specs.Refusals.{cause_details, line_details, refuse
 use crate::line::Line;
 use crate::record::RecordFault;
 use gw_insn::ListRefusal;
+use gw_ports::{OfferRefusal, RunRefusal};
 use gw_table::TableRefusal;
 use gw_text::AsmRefusal;
+use gw_trace::TraceRefusal;
 use gw_verify::{Cause, Path, Refused};
 
 /// Why the program refuses what it was given.
@@ -45,6 +47,15 @@ pub enum Refusal {
     },
     /// 50 to 55: a text that is no table.
     Table(TableRefusal),
+    /// 90 to 93, 95 and 96: octets that are no trace.
+    Trace(TraceRefusal),
+    /// 71, 77, 80 to 83, 85 and 86: no run of a gateway, or no report of one.
+    Run(RunRefusal),
+    /// 76 and 77: a port of a run stopped before its frames were at an end.
+    Stopped {
+        port: usize,
+        why: OfferRefusal,
+    },
     /// 98: an input of more than 1048576 octets.
     TooMuchInput,
     /// 98: a text that is not UTF-8.
@@ -70,6 +81,9 @@ impl Refusal {
             Refusal::Assembler { why, .. } => why.number(),
             Refusal::ReadFault => 96,
             Refusal::Table(why) => why.number(),
+            Refusal::Trace(why) => why.number(),
+            Refusal::Run(why) => why.number(),
+            Refusal::Stopped { why, .. } => why.number(),
             Refusal::TooMuchInput => 98,
             Refusal::NotUtf8 => 98,
             Refusal::OutOfMemory => 100,
@@ -92,6 +106,11 @@ impl Refusal {
             Refusal::Table(TableRefusal::BadRange { rule, .. }) => line
                 .text(" ")
                 .number(*rule as u64),
+            Refusal::Trace(TraceRefusal::BadRecord { index, why }) => line
+                .text(" ")
+                .number(*index as u64)
+                .text(" ")
+                .number(u64::from(why.number())),
             Refusal::Program { refused, .. } => place_of(line, refused.why, refused.place),
             Refusal::Unset { refused, .. } => place_of(line, refused.why, refused.place),
             _ => line,

@@ -103,7 +103,7 @@ fn compiled<F: Write>(alloc: Global, input: &[u8], faults: &mut Tried<F>) -> Res
 }
 
 /// The table of an input.
-fn read_table(alloc: Global, input: &[u8]) -> Result<Table, Refusal>
+pub(crate) fn read_table(alloc: Global, input: &[u8]) -> Result<Table, Refusal>
     ensures table { IfOk result (IsTable input.now) }
     ensures refused { IfErr result (RefusesText input.now) }
 {

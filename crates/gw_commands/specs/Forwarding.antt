@@ -1,0 +1,250 @@
+-- What the command `run` reads, forwards and writes: `before` and `after` are what its reader has left, `old` and `new` what its
+-- writer took.
+use Rattle.std.specs.Prelude.{◌≡◌, ℕ, ◌<◌, ◌⊎◌, ◌==◌, Bool, true, false, not, ◌&&◌, if◌then◌else◌, List, [], ◌∷◌, ◌++◌, length}
+use Rattle.std.specs.Prelude.{codes, decimal, map, slice_get, slice_index_or, Option, Some, None, Result, Ok, Err, MatchResult}
+use Rattle.std.specs.Prelude.{All}
+use Rattle.std.specs.Borrow.{Bor}
+use Rattle.std.specs.Option.{option_map_or}
+use Rattle.std.specs.List.{flat_map, count_by, range_with_len}
+use Rattle.std.specs.Io.KnownBytes.{IsAtEnd, Consumes}
+use Rattle.std.specs.Iterator.{YieldsFirst}
+use Rattle.gw_insn.specs.declared.insn.Insn.{Insn}
+use Rattle.gw_table.specs.Table.{Meaning}
+use Rattle.gw_table.specs.Emission.{emission}
+use Rattle.gw_policy.specs.Filter.{Filter}
+use Rattle.gw_policy.specs.Batches.{Pair, policy_after}
+use Rattle.gw_ledger.specs.Bounds.{Bounds}
+use Rattle.gw_ledger.specs.Ports.{has_port}
+use Rattle.gw_ledger.specs.declared.ledger.InLedger.{InLedger}
+use Rattle.gw_ledger.specs.declared.outcome.Outcome.{Outcome}
+use Rattle.gw_ports.specs.Runs.{IsRun}
+use Rattle.gw_ports.specs.declared.refusals.OfferRefusal.{OfferRefusal}
+use Rattle.gw_ports.specs.declared.running.RunRefusal.TheVariants.{NoSuchPort}
+use Rattle.gw_ports.specs.declared.running.RunReport.{RunReport}
+use Rattle.gw_trace.specs.Progress.{most_reads}
+use Rattle.gw_trace.specs.Shares.{share_of}
+use Rattle.gw_trace.specs.Traces.{whole_trace}
+use Rattle.gw_trace.specs.declared.refusal.TraceRefusal.{TraceRefusal}
+use Rattle.gw_trace.specs.declared.refusal.TraceRefusal.TheVariants.{ReadFault}
+use Rattle.gw_commands.specs.declared.answer.Answer.{Answer}
+use Rattle.gw_commands.specs.declared.answer.Answer.TheVariants.{Text}
+use Rattle.gw_commands.specs.declared.forwarding.files.Named.{Named}
+use Rattle.gw_commands.specs.declared.forwarding.files.Named.TheVariants as word
+use Rattle.gw_commands.specs.declared.forwarding.Source.{Source}
+use Rattle.gw_commands.specs.declared.forwarding.Source.TheVariants as made_of
+use Rattle.gw_commands.specs.declared.forwarding.Source.TheVariants.{Opening, Program, Listing}
+use Rattle.gw_commands.specs.declared.refusal.Refusal.{Refusal}
+use Rattle.gw_commands.specs.declared.refusal.Refusal.TheVariants.{Trace, Run, Stopped, OutOfMemory}
+use Rattle.gw_commands.specs.Commands.{Writes}
+use Rattle.gw_commands.specs.Tables.{IsTable, RefusesText}
+use Rattle.gw_commands.specs.Verdicts.{NamesProgram, IsProgramRefusal}
+
+-- ---- the first batch
+
+-- the policy of the program that a listing names, and that of a table's text
+pub record IsProgramPolicy (listing : List ℕ) (policy : Option Filter) : Type 0 where
+  pub program : List Insn
+  pub named : NamesProgram listing program
+  pub policy_is : policy ≡ Some (record { code = program; table = None })
+
+pub record IsTablePolicy (text : List ℕ) (policy : Option Filter) : Type 0 where
+  pub table : Meaning
+  pub named : IsTable text table
+  pub policy_is : policy ≡ Some (record { code = emission table; table = Some table })
+
+-- the policy that a source means for its port; none is the opening block
+abbrev pub MeansPolicy : Source → Option Filter → Type 0
+MeansPolicy Opening policy = policy ≡ None
+MeansPolicy (Program listing) policy = IsProgramPolicy listing.now policy
+MeansPolicy (Listing file listing) policy = IsProgramPolicy listing.now policy
+MeansPolicy (made_of.Table file text) policy = IsTablePolicy text.now policy
+
+-- in the batch each port has the policy that its source means, and no other port has one
+pub record IsFirst (sources : List Source) (batch : List Pair) : Type 0 where
+  pub means : (k : ℕ) (d : Source) → k < length sources → MeansPolicy (slice_index_or sources k d) (policy_after k batch None)
+  pub others : All (λ pair. pair.port < length sources) batch
+
+-- a batch that a port's policy joined, if there is one
+abbrev pub joined : ℕ → Option Filter → List Pair → List Pair
+joined port (Some policy) batch = batch ++ record { port = port; policy = policy } ∷ []
+joined port None batch = batch
+
+-- what refuses a listing: its first refusal, or memory is wanting for the policy of its program
+abbrev pub RefusesListing : List ℕ → Refusal → Type 0
+RefusesListing listing OutOfMemory = (program : List Insn) × NamesProgram listing program
+RefusesListing listing refusal = IsProgramRefusal listing refusal
+
+abbrev pub RefusesSource : Source → Refusal → Type 0
+RefusesSource Opening refusal = ⊥
+RefusesSource (Program listing) refusal = RefusesListing listing.now refusal
+RefusesSource (Listing file listing) refusal = RefusesListing listing.now refusal
+RefusesSource (made_of.Table file text) refusal = RefusesText text.now refusal
+
+-- the least port's source that is refused: those before it mean policies
+pub record RefusesSources (sources : List Source) (refusal : Refusal) : Type 0 where
+  pub port : ℕ
+  pub within : port < length sources
+  pub before : (k : ℕ) (d : Source) → k < port → (policy : Option Filter) × MeansPolicy (slice_index_or sources k d) policy
+  pub refused : (d : Source) → RefusesSource (slice_index_or sources port d) refusal
+
+-- ---- the trace
+
+-- the reader gave these octets, has no more, and never failed
+pub record IsTraceInput (before after : Option (List ℕ)) (failed : Bool) (octets : List ℕ) : Type 0 where
+  pub consumed : Consumes before after octets
+  pub end : IsAtEnd after
+  pub whole : failed ≡ false
+
+-- the reader failed, or was read too often; or memory was wanting for what it gave
+abbrev pub IsTraceFault : Bool → ℕ → Refusal → Type 0
+IsTraceFault failed reads (Trace ReadFault) = (failed ≡ true) ⊎ (reads ≡ most_reads)
+IsTraceFault failed reads OutOfMemory = failed ≡ false
+IsTraceFault failed reads _ = ⊥
+
+-- ---- the run
+
+-- the ports' shares of the frames, in the order of the ports
+pub record AreShares (ports : ℕ) (frames : List (List ℕ)) (inputs : List (List (List ℕ))) : Type 0 where
+  pub enough : length inputs ≡ ports
+  pub each : (k : ℕ) (d : List (List ℕ)) → k < ports → slice_index_or inputs k d ≡ share_of k ports frames
+
+-- a gateway that begins with this batch was run on the shares of the frames, and this is its report
+pub record IsRunOn (limits : Bounds) (first : List Pair) (frames : List (List ℕ)) (report : RunReport) : Type 0 where
+  pub inputs : List (List (List ℕ))
+  pub shared : AreShares limits.ports frames inputs
+  pub ran : IsRun (YieldsFirst (λ s. s)) limits first inputs [] report
+
+-- no port stopped before its frames were at an end; or this one is the least that did
+abbrev pub NoneStopped : List (Option OfferRefusal) → Type 0
+NoneStopped stops = All (λ stop. stop ≡ None) stops
+
+pub record IsFirstStop (stops : List (Option OfferRefusal)) (port : ℕ) (why : OfferRefusal) : Type 0 where
+  pub stopped : slice_get stops port ≡ Some (Some why)
+  pub before : (k : ℕ) (d : Option OfferRefusal) → k < port → slice_index_or stops k d ≡ None
+
+-- ---- the lines
+
+-- what a port counted
+abbrev pub port_line : ℕ → InLedger → List ℕ
+port_line port ledger =
+    codes "port " ++ decimal port ++ codes " taken " ++ decimal ledger.taken ++ codes " local " ++ decimal ledger.local
+    ++ codes " allowed " ++ decimal ledger.allowed ++ 10 ∷ []
+
+-- a line for each port, in ascending order
+abbrev pub line_of : List InLedger → ℕ → List ℕ
+line_of ledgers port = option_map_or (port_line port) (slice_get ledgers port) []
+
+unfoldable pub port_lines : List InLedger → List ℕ
+port_lines ledgers = flat_map (line_of ledgers) (range_with_len 0 (length ledgers))
+
+-- a frame was copied to a port; and it was allowed there and not copied
+abbrev pub is_placed : ℕ → Outcome → Bool
+is_placed to outcome = has_port to outcome.placed
+
+abbrev pub is_lost : ℕ → Outcome → Bool
+is_lost to outcome = has_port to outcome.allowed && not (has_port to outcome.placed)
+
+-- how many of a port's frames were copied to another, and how many were lost on that way
+abbrev pub lane_line : ℕ → ℕ → List Outcome → List ℕ
+lane_line from to outcomes =
+    codes "lane " ++ decimal from ++ 32 ∷ decimal to ++ codes " placed " ++ decimal (count_by (is_placed to) outcomes)
+    ++ codes " lost " ++ decimal (count_by (is_lost to) outcomes) ++ 10 ∷ []
+
+-- a line for each lane from a port, by destination
+abbrev pub line_to : ℕ → List Outcome → ℕ → List ℕ
+line_to from outcomes to = if to == from then [] else lane_line from to outcomes
+
+unfoldable pub lane_lines_from : ℕ → ℕ → List Outcome → List ℕ
+lane_lines_from from ports outcomes = flat_map (line_to from outcomes) (range_with_len 0 ports)
+
+-- a line for each lane of so many ports, by source and then destination
+abbrev pub lines_from : ℕ → List (List Outcome) → ℕ → List ℕ
+lines_from ports outcomes from = option_map_or (lane_lines_from from ports) (slice_get outcomes from) []
+
+unfoldable pub lane_lines : ℕ → List (List Outcome) → List ℕ
+lane_lines ports outcomes = flat_map (lines_from ports outcomes) (range_with_len 0 ports)
+
+abbrev pub report_lines : ℕ → Bool → RunReport → List ℕ
+report_lines ports lanes report =
+    port_lines report.report.ins.items
+    ++ (if lanes then lane_lines ports (map (λ outcomes. outcomes.items) report.outcomes.items) else [])
+
+-- ---- the command
+
+-- the text for what the reader gave: the lines of a run of its trace's frames, under the policies of the ports' sources
+pub record IsForwarded (limits : Bounds) (sources : List Source) (lanes : Bool) (before after : Option (List ℕ)) (failed : Bool)
+    (text : List ℕ) : Type 0 where
+  pub first : List Pair
+  pub policies : IsFirst sources first
+  pub octets : List ℕ
+  pub read : IsTraceInput before after failed octets
+  pub frames : List (List ℕ)
+  pub whole : whole_trace octets ≡ Ok frames
+  pub report : RunReport
+  pub ran : IsRunOn limits first frames report
+  pub unstopped : NoneStopped report.stops.items
+  pub lines : text ≡ report_lines limits.ports lanes report
+
+abbrev pub AnswersRun : Bounds → List Source → Bool → Option (List ℕ) → Option (List ℕ) → Bool → Answer → Type 0
+AnswersRun limits sources lanes before after failed (Text text) =
+    IsForwarded limits sources lanes before after failed text.items
+AnswersRun limits sources lanes before after failed _ = ⊥
+
+-- what refuses a run on these frames: that of the gateway's, or the least port's that stopped; memory may be wanting for the
+-- shares and for the lines
+abbrev pub RefusesRun : Bounds → List Pair → List (List ℕ) → Refusal → Type 0
+RefusesRun limits first frames (Run NoSuchPort) = ⊥
+RefusesRun limits first frames (Run why) = Unit {0}
+RefusesRun limits first frames (Stopped port why) =
+    (report : RunReport) × IsRunOn limits first frames report × IsFirstStop report.stops.items port why
+RefusesRun limits first frames OutOfMemory = Unit {0}
+RefusesRun limits first frames _ = ⊥
+
+-- what refuses the octets of a trace: what is wrong with them, or what refuses a run on their frames
+abbrev pub RefusesOctets : Bounds → List Pair → List ℕ → Refusal → Type 0
+RefusesOctets limits first octets refusal =
+    ((why : TraceRefusal) × (refusal ≡ Trace why) × (whole_trace octets ≡ Err why))
+    ⊎ ((frames : List (List ℕ)) × (whole_trace octets ≡ Ok frames) × RefusesRun limits first frames refusal)
+
+-- the sources mean policies, and the trace is refused: its reading before its octets
+pub record RefusesForwarding (limits : Bounds) (sources : List Source) (before after : Option (List ℕ)) (failed : Bool)
+    (reads : ℕ) (refusal : Refusal) : Type 0 where
+  pub first : List Pair
+  pub policies : IsFirst sources first
+  pub why : IsTraceFault failed reads refusal
+      ⊎ ((octets : List ℕ) × IsTraceInput before after failed octets × RefusesOctets limits first octets refusal)
+
+-- what the command found: the lines, or the first refusal, in which that of a source comes before that of the trace
+abbrev pub IsForwardFound : Bounds → List Source → Bool → Option (List ℕ) → Option (List ℕ) → Bool → ℕ → Result Answer Refusal
+    → Type 0
+IsForwardFound limits sources lanes before after failed reads found =
+    MatchResult found (AnswersRun limits sources lanes before after failed)
+    (λ refusal. RefusesSources sources refusal ⊎ RefusesForwarding limits sources before after failed reads refusal)
+
+-- what was found is written, and tells the status
+pub record Forwards (limits : Bounds) (sources : List Source) (lanes : Bool) (before after : Option (List ℕ)) (failed : Bool)
+    (reads : ℕ) (old new : Option (List ℕ)) (write_failed : Bool) (status : ℕ) : Type 0 where
+  pub found : Result Answer Refusal
+  pub is_found : IsForwardFound limits sources lanes before after failed reads found
+  pub written : Writes found status old new write_failed
+
+-- ---- the files
+
+-- the source that a name on the command line stands for, whatever its file holds
+abbrev pub IsNamed : Named → Source → Type 0
+IsNamed word.Opening source = source ≡ Opening
+IsNamed (word.Program listing) source = (text : Bor (List ℕ)) × (source ≡ Program text) × (text.now ≡ listing.now)
+IsNamed (word.Listing file) source = (text : Bor (List ℕ)) × (source ≡ Listing file text)
+IsNamed (word.Table file) source = (text : Bor (List ℕ)) × (source ≡ made_of.Table file text)
+
+pub record AreNamed (named : List Named) (sources : List Source) : Type 0 where
+  pub enough : length sources ≡ length named
+  pub each : (k : ℕ) (d : Named) (e : Source) → k < length named → IsNamed (slice_index_or named k d) (slice_index_or sources k e)
+
+-- the trace was forwarded under the policies of the sources that are named; or a file was refused, and nothing was read
+abbrev pub ForwardsNamed : Bounds → List Named → Bool → Option (List ℕ) → Option (List ℕ) → Bool → ℕ → Option (List ℕ)
+    → Option (List ℕ) → Bool → ℕ → Type 0
+ForwardsNamed limits named lanes before after failed reads old new write_failed status =
+    ((sources : List Source) × AreNamed named sources
+    × Forwards limits sources lanes before after failed reads old new write_failed status)
+    ⊎ ((refusal : Refusal) × (after ≡ before) × Writes (Err refusal) status old new write_failed)

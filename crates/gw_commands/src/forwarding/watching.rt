@@ -1,0 +1,104 @@
+//! Who watches a run.
+
+use gw_ports::Gate;
+use std::marker::Sync;
+use std::rt::Clock;
+use std::sync::atomic::{AtomicU64, AtomicUsize, Ordering};
+use std::time::Instant;
+
+/// After so many frames of a port it is looked whether a second has passed.
+const OFTEN: usize = 4096;
+
+/// A gate that is told how many frames there are.
+pub trait Watch: Gate {
+    /// Before the run.
+    fn begins(&self, frames: usize);
+}
+
+/// Nobody watches: the gate does nothing.
+#[derive(Clone, Copy, Debug)]
+pub struct Unwatched;
+
+impl Gate for Unwatched {
+    fn enter(&self, _port: u8, _index: usize) {}
+
+    fn leave(&self, _port: u8, _index: usize) {}
+
+    fn before_replace(&self, _index: usize) {}
+
+    fn replaced(&self, _index: usize) {}
+}
+
+impl Watch for Unwatched {
+    fn begins(&self, _frames: usize) {}
+}
+
+/// Tells a person on the fault stream, once a second, how many frames were offered of those that there are.
+#[derive(Drop)]
+pub struct Progress<'a, R> {
+    rt: &'a R,
+    start: Option<Instant>,
+    frames: AtomicUsize,
+    done: AtomicUsize,
+    second: AtomicU64,
+}
+
+impl<'a, R: Clock> Progress<'a, R> {
+    /// A watch that begins now.
+    pub fn new(rt: &'a R) -> Progress<'a, R> {
+        Progress {
+            rt,
+            start: Instant::now(rt).ok(),
+            frames: AtomicUsize::new(0),
+            done: AtomicUsize::new(0),
+            second: AtomicU64::new(0),
+        }
+    }
+}
+
+impl<R: Clock + Eprint> Progress<'_, R> {
+    // Counts some frames more, and tells where they stand if a second began since that was told last.
+    fn count(&self, more: usize) {
+        let done = self
+            .done
+            .fetch_add(more, Ordering::SeqCst)
+            .wrapping_add(more);
+        let Some(start) = self.start else {
+            return;
+        };
+        let Ok(passed) = start.elapsed(self.rt) else {
+            return;
+        };
+        let second = passed.as_secs();
+        let last = self.second.load(Ordering::SeqCst);
+        if second > last
+            && self
+                .second
+                .compare_exchange(last, second, Ordering::SeqCst, Ordering::SeqCst)
+                .is_ok()
+        {
+            let frames = self.frames.load(Ordering::SeqCst);
+            let _ = eprintln!(self.rt; "gw: {done} of {frames} frames");
+        }
+    }
+}
+
+impl<R: Clock + Eprint + Sync> Gate for Progress<'_, R> {
+    fn enter(&self, _port: u8, _index: usize) {}
+
+    fn leave(&self, _port: u8, index: usize) {
+        if index % OFTEN == OFTEN - 1 {
+            self.count(OFTEN);
+        }
+    }
+
+    fn before_replace(&self, _index: usize) {}
+
+    fn replaced(&self, _index: usize) {}
+}
+
+impl<R: Clock + Eprint + Sync> Watch for Progress<'_, R> {
+    fn begins(&self, frames: usize) {
+        self.frames.store(frames, Ordering::SeqCst);
+    }
+}
