@@ -5,6 +5,7 @@ ghost use Rattle.gw_trace.specs.Tries.{inner_of, has_failed, reads_of};
 ghost use Rattle.gw_commands.specs.Commands.{Does};
 ghost use Rattle.gw_commands.specs.Verdicts.{AnswersVerdict, RefusesVerdict};
 
+use crate::run_words::wrong;
 use crate::words::{Request, read_words};
 use clap::Error;
 use clap::error::ErrorKind;
@@ -48,12 +49,16 @@ pub fn command<S: AsStr, R: Read, W: Write, F: Write>(
         Ok(Request::Table { port, frame, why }) => {
             table(alloc, port, frame, why, input, output, faults)
         }
+        Ok(Request::Run) => {
+            let error = wrong(alloc, "`run` must be the first word");
+            answer_words(alloc, &error, output, faults)
+        }
         Err(error) => answer_words(alloc, &error, output, faults),
     }
 }
 
 /// Writes `clap`'s answer: help with status 0, or what is wrong with status 2.
-fn answer_words<W: Write, F: Write>(
+pub fn answer_words<W: Write, F: Write>(
     alloc: Global,
     error: &Error,
     output: &mut Tried<W>,

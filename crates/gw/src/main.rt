@@ -2,10 +2,13 @@
 #![tactic(auto)]
 
 mod command;
+mod run_command;
+mod run_words;
 mod words;
 
 use command::command;
 use gw_trace::Tried;
+use run_command::run_command;
 use std::alloc::AllocError;
 use std::env;
 use std::process::ExitCode;
@@ -21,16 +24,23 @@ fn main(rt: HostRuntime) -> ExitCode {
     let mut input = Tried::new(rt.stdin());
     let mut output = Tried::new(rt.stdout());
     let mut faults = Tried::new(rt.stderr());
-    let status = command(
-        rt.alloc(),
-        words.as_slice(),
-        &mut input,
-        &mut output,
-        &mut faults,
-    );
+    let alloc = rt.alloc();
+    let status = match words.first() {
+        Some(first) if first.as_str() == "run" => run_command(
+            &rt,
+            alloc,
+            &words,
+            &mut input,
+            &mut output,
+            &mut faults,
+        ),
+        _ => command(alloc, &words, &mut input, &mut output, &mut faults),
+    };
     ExitCode::from(status)
 }
 
+#[cfg(test)]
+mod run_tests;
 #[cfg(test)]
 mod stream_tests;
 #[cfg(test)]

@@ -8,9 +8,9 @@ use std::io::{ErrorKind, Read, Write};
 
 /// A reader that gives one octet a call, and fails once it gave so many.
 #[derive(Drop)]
-struct Breaking<'a> {
-    octets: &'a [u8],
-    left: usize,
+pub struct Breaking<'a> {
+    pub octets: &'a [u8],
+    pub left: usize,
 }
 
 impl Read for Breaking<'_> {
@@ -32,9 +32,9 @@ impl Read for Breaking<'_> {
 
 /// A writer that takes one octet a call, and fails once it took so many.
 #[derive(Drop)]
-struct Filling {
-    taken: Vec<u8>,
-    room: usize,
+pub struct Filling {
+    pub taken: Vec<u8>,
+    pub room: usize,
 }
 
 impl Write for Filling {

@@ -387,12 +387,13 @@ fn words(rt: HostRuntime) {
     let version = outcome_of(alloc, &["--version"], b"");
     assert_eq!(rt; version.status, 0);
     assert_eq!(rt; version.output.as_slice(), b"gw 0.1.0\n".as_slice());
-    let wrong: [&[&str]; 7] = [
+    let wrong: [&[&str]; 8] = [
         &["bogus"],
         &["verdict", "--port", "16", R],
         &["verdict", R, R],
         &["check", "now"],
         &["run"],
+        &["run", "--ports", "2", "--program", "1,6 0 0 1,"],
         &["replay", "now"],
         &["--"],
     ];

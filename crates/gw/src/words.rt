@@ -1,6 +1,7 @@
 //! The words of the command line.
 
-use clap::{Arg, ArgAction, Command, Error, value_parser};
+use crate::run_words::run_words;
+use clap::{Arg, ArgAction, ArgMatches, Command, Error, value_parser};
 use std::alloc::{AllocError, Global};
 use std::convert::AsStr;
 
@@ -28,6 +29,8 @@ pub enum Request<'a> {
         frame: Option<&'a str>,
         why: bool,
     },
+    /// `run --ports N ..`.
+    Run,
 }
 
 /// The option that names the port at which a frame was taken.
@@ -134,12 +137,18 @@ fn commands<'a>(alloc: Global) -> Result<Command<'a>, AllocError> {
         .subcommand(list_command(alloc))?
         .subcommand(claims_command(alloc))?
         .subcommand(replay_command(alloc))?
-        .subcommand(table_command(alloc)?)
+        .subcommand(table_command(alloc)?)?
+        .subcommand(run_words(alloc)?)
 }
 
-/// What the words ask for, or `clap`'s answer to them: help, or what is wrong.
+/// What `clap` finds in the words, or its answer to them: help, or what is wrong.
+pub fn matched<'a, S: AsStr>(alloc: Global, words: &'a [S]) -> Result<ArgMatches<'a>, Error> {
+    commands(alloc)?.try_get_matches_from(words)
+}
+
+/// What the words ask for, or `clap`'s answer to them.
 pub fn read_words<'a, S: AsStr>(alloc: Global, words: &'a [S]) -> Result<Request<'a>, Error> {
-    let matches = commands(alloc)?.try_get_matches_from(words)?;
+    let matches = matched(alloc, words)?;
     Ok(match matches.subcommand() {
         Some(("verdict", verdict)) => Request::Verdict {
             port: verdict.get_one::<u8>("port").unwrap_or(0),
@@ -154,6 +163,7 @@ pub fn read_words<'a, S: AsStr>(alloc: Global, words: &'a [S]) -> Result<Request
             frame: table.get_str("frame"),
             why: table.get_flag("why"),
         },
+        Some(("run", _)) => Request::Run,
         _ => Request::Check,
     })
 }

@@ -1,0 +1,87 @@
+//! The command `run`, over a reader and two writers.
+
+ghost use Rattle.std.specs.Prelude.{◌≡◌, false, vec_len};
+ghost use Rattle.gw_trace.specs.Tries.{has_failed, reads_of};
+
+use crate::command::answer_words;
+use crate::run_words::{RunRequest, read_run};
+use gw_commands::{Progress, Unwatched, forward_named};
+use gw_trace::Tried;
+use std::alloc::Global;
+use std::convert::AsStr;
+use std::io::{IsTerminal, Read, Write};
+use std::marker::Sync;
+use std::rt::{Clock, Files};
+use std::sync::Wait;
+use std::thread::Threads;
+
+/// What tells whether a person watches the fault stream.
+pub trait Console {
+    /// Whether it is a terminal.
+    fn is_watched(&self) -> bool;
+}
+
+impl Console for HostRuntime {
+    fn is_watched(&self) -> bool {
+        self.stderr().is_terminal()
+    }
+}
+
+/// Does what the words of a command line, without the program's name, ask for, where they name the command `run`; other commands
+/// are wrong words. The exit status is as for `command`. It may wait.
+pub fn run_command<R, S, I, W, F>(
+    rt: &R,
+    alloc: Global,
+    words: &[S],
+    input: &mut Tried<I>,
+    output: &mut Tried<W>,
+    faults: &mut Tried<F>,
+) -> u8
+where
+    R: Threads + Wait + Sync + Files + Clock + Eprint + Console,
+    S: AsStr,
+    I: Read,
+    W: Write,
+    F: Write,
+    requires unread { reads_of input.old ≡ 0 }
+    requires input { has_failed input.old ≡ false }
+    requires output { has_failed output.old ≡ false }
+    requires faults { has_failed faults.old ≡ false }
+{
+    match read_run(alloc, words) {
+        Ok(run) => forward_asked(rt, alloc, &run, input, output, faults),
+        Err(error) => answer_words(alloc, &error, output, faults),
+    }
+}
+
+/// Forwards a trace as the words ask for it.
+fn forward_asked<R, I, W, F>(
+    rt: &R,
+    alloc: Global,
+    run: &RunRequest,
+    input: &mut Tried<I>,
+    output: &mut Tried<W>,
+    faults: &mut Tried<F>,
+) -> u8
+where
+    R: Threads + Wait + Sync + Files + Clock + Eprint + Console,
+    I: Read,
+    W: Write,
+    F: Write,
+    requires named { vec_len run.now.named ≡ run.now.limits.ports }
+    requires unread { reads_of input.old ≡ 0 }
+    requires input { has_failed input.old ≡ false }
+    requires output { has_failed output.old ≡ false }
+    requires faults { has_failed faults.old ≡ false }
+{
+    if run.progress || rt.is_watched() {
+        let watch = Progress::new(rt);
+        forward_named(
+            rt, alloc, run.limits, &run.named, run.lanes, &watch, input, output, faults,
+        )
+    } else {
+        forward_named(
+            rt, alloc, run.limits, &run.named, run.lanes, &Unwatched, input, output, faults,
+        )
+    }
+}
