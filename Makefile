@@ -1,9 +1,11 @@
 # `rt` is the Rattle kit's command: it proves a crate, and builds only what is proved.
 
-# The main job: a record and a listing from crates/gw/stdin, one verdict out.
+# The main job: a record and a listing from crates/gw/stdin, one verdict out; and a stored trace, forwarded by a gateway of two ports.
 .PHONY: run
 run:
 	@cd crates/gw && rt run < stdin
+	@crates/gw/out/gw run --ports 2 --table 0=examples/diagnostics-port.toml --table 1=examples/display.toml \
+		< examples/traces/diagnostics.pcap
 
 # Puts the program that `make run` built into PREFIX/bin, below DESTDIR where that is given.
 PREFIX ?= /usr/local
