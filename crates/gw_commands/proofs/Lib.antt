@@ -5,7 +5,5 @@ pub mod FirstBatch
 pub mod Forwarded
 pub mod Forwards
 pub mod Found
-pub mod HexDigits
 pub mod LineByLine
 pub mod PathsTold
-pub mod Pieces

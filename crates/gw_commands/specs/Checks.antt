@@ -13,8 +13,10 @@ use Rattle.gw_commands.specs.declared.answer.Answer.{Answer}
 use Rattle.gw_commands.specs.declared.answer.Answer.TheVariants.{Accepted}
 use Rattle.gw_commands.specs.declared.refusal.Refusal.{Refusal}
 use Rattle.gw_commands.specs.declared.refusal.Refusal.TheVariants.{Listing, Program, Unset, OutOfMemory}
-use Rattle.gw_commands.specs.Refusals.{refused_line, cause_details}
-use Rattle.gw_commands.specs.Verdicts.{NamesProgram, IsProgramRefusal}
+use Rattle.gw_replay.specs.Details.{cause_details}
+use Rattle.gw_replay.specs.Faults.{refused_line}
+use Rattle.gw_replay.specs.Policies.{NamesProgram}
+use Rattle.gw_commands.specs.Verdicts.{IsProgramRefusal}
 
 -- the number of instructions of the accepted program
 abbrev pub AnswersCheck : List ℕ → Answer → Type 0

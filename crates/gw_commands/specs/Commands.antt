@@ -1,6 +1,7 @@
 -- What a command does: it reads its input whole, and writes the answer to it or its first refusal.
-use Rattle.std.specs.Prelude.{◌≡◌, ℕ, ◌<◌, ◌≤◌, ◌⊎◌, Bool, true, false, List, length, take, Option, Result, Ok, Err, MatchResult}
+use Rattle.std.specs.Prelude.{◌≡◌, ℕ, ◌<◌, ◌≤◌, ◌⊎◌, Bool, true, false, List, length, Option, Result, Ok, Err, MatchResult}
 use Rattle.std.specs.Io.KnownBytes.{Appends, IsAtEnd, Consumes}
+use Rattle.gw_trace.specs.Written.{WritesPart}
 use Rattle.gw_commands.specs.declared.answer.Answer.{Answer}
 use Rattle.gw_commands.specs.declared.refusal.Refusal.{Refusal}
 use Rattle.gw_commands.specs.declared.refusal.Refusal.TheVariants.{ReadFault, TooMuchInput, OutOfMemory}
@@ -59,10 +60,6 @@ found_text (Err refusal) = refusal_text refusal
 abbrev pub found_status : Result Answer Refusal → ℕ
 found_status (Ok answer) = 0
 found_status (Err refusal) = 1
-
--- a beginning of the text was written
-abbrev pub WritesPart : Option (List ℕ) → Option (List ℕ) → List ℕ → Type 0
-WritesPart old new text = (n : ℕ) × Appends old new (take n text)
 
 -- the text for what was found was written, with its status; where a write failed, a beginning of it, with status 1
 abbrev pub Writes : Result Answer Refusal → ℕ → Option (List ℕ) → Option (List ℕ) → Bool → Type 0

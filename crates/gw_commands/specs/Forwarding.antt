@@ -37,7 +37,8 @@ use Rattle.gw_commands.specs.declared.refusal.Refusal.{Refusal}
 use Rattle.gw_commands.specs.declared.refusal.Refusal.TheVariants.{Trace, Run, Stopped, OutOfMemory}
 use Rattle.gw_commands.specs.Commands.{Writes}
 use Rattle.gw_commands.specs.Tables.{IsTable, RefusesText}
-use Rattle.gw_commands.specs.Verdicts.{NamesProgram, IsProgramRefusal}
+use Rattle.gw_replay.specs.Policies.{NamesProgram}
+use Rattle.gw_commands.specs.Verdicts.{IsProgramRefusal}
 
 -- ---- the first batch
 

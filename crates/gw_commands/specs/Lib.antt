@@ -6,7 +6,6 @@ pub mod ClaimLines
 pub mod Commands
 pub mod Forwarding
 pub mod Lines
-pub mod Records
 pub mod Refusals
 pub mod Replays
 pub mod Tables

@@ -1,19 +1,12 @@
 -- The lines of refusals.
-use Rattle.std.specs.Prelude.{ℕ, Option, Some, None, List, [], ◌∷◌, ◌++◌, codes, decimal}
-use Rattle.std.specs.List.{flat_map}
+use Rattle.std.specs.Prelude.{ℕ, Option, Some, None, List, [], ◌∷◌}
 use Rattle.gw_frame.specs.Record.{refusal_number}
 use Rattle.gw_insn.specs.Listing as listing
-use Rattle.gw_insn.specs.declared.reading.ListRefusal.{ListRefusal}
-use Rattle.gw_insn.specs.declared.reading.ListRefusal.TheVariants.{BadField}
 use Rattle.gw_verify.specs.Cause.{cause_number}
-use Rattle.gw_verify.specs.declared.cause.Cause.{Cause}
-use Rattle.gw_verify.specs.declared.cause.Cause.TheVariants.{UnsetWord, OutOfMemory}
 use Rattle.gw_text.specs.Assembly as asm
 use Rattle.gw_ports.specs.Refusals.{offer_refusal_number}
 use Rattle.gw_ports.specs.Runs.{run_refusal_number}
 use Rattle.gw_table.specs.TableText as table
-use Rattle.gw_table.specs.declared.refusal.TableRefusal.{TableRefusal}
-use Rattle.gw_table.specs.declared.refusal.TableRefusal.TheVariants.{BadRange}
 use Rattle.gw_trace.specs.Refusals as trace
 use Rattle.gw_trace.specs.declared.refusal.TraceRefusal.{TraceRefusal}
 use Rattle.gw_trace.specs.declared.refusal.TraceRefusal.TheVariants.{BadRecord}
@@ -22,13 +15,9 @@ use Rattle.gw_commands.specs.declared.refusal.Refusal.TheVariants as refusal
 use Rattle.gw_commands.specs.declared.refusal.Refusal.TheVariants.{Record, RecordOnLine, Listing, Program, Unset, Assembler}
 use Rattle.gw_commands.specs.declared.refusal.Refusal.TheVariants.{Table, Trace, Run, Stopped}
 use Rattle.gw_commands.specs.declared.refusal.Refusal.TheVariants.{ReadFault, TooMuchInput, NotUtf8}
-use Rattle.gw_commands.specs.declared.record.RecordFault.{RecordFault}
-use Rattle.gw_commands.specs.declared.record.RecordFault.TheVariants.{NoDigit, OddDigits, NoRecord}
-
-abbrev pub record_number : RecordFault → ℕ
-record_number (NoDigit at octet) = 97
-record_number (OddDigits digits) = 97
-record_number (NoRecord why) = refusal_number why
+use Rattle.gw_replay.specs.Records.{record_number}
+use Rattle.gw_replay.specs.Details.{listing_details, cause_details, table_details}
+use Rattle.gw_replay.specs.Faults.{refused_line}
 
 abbrev pub number_of : Refusal → ℕ
 number_of (Record fault) = record_number fault
@@ -46,29 +35,18 @@ number_of TooMuchInput = 98
 number_of NotUtf8 = 98
 number_of refusal.OutOfMemory = 100
 
--- what a refusal names: the line, the instruction that is not there, the place, the place and the scratch word, the rule, the
--- record and the number of what is wrong with it
-abbrev pub listing_details : ListRefusal → List ℕ
-listing_details (BadField index) = index ∷ []
-listing_details _ = []
-
-abbrev pub cause_details : Cause → ℕ → List ℕ
-cause_details (UnsetWord word) place = place ∷ word ∷ []
-cause_details OutOfMemory place = []
-cause_details _ place = place ∷ []
-
+-- the line that a refusal names, if it names one
 abbrev pub line_details : Option ℕ → List ℕ
 line_details (Some line) = line ∷ []
 line_details None = []
 
-abbrev pub table_details : TableRefusal → List ℕ
-table_details (BadRange rule field why) = rule ∷ []
-table_details _ = []
-
+-- the record of a trace, and the number of what is wrong with it
 abbrev pub trace_details : TraceRefusal → List ℕ
 trace_details (BadRecord index why) = index ∷ refusal_number why ∷ []
 trace_details _ = []
 
+-- what a refusal names: the line, the instruction that is not there, the place, the place and the scratch word, the rule, the
+-- record and the number of what is wrong with it
 abbrev pub details_of : Refusal → List ℕ
 details_of (RecordOnLine line fault) = line ∷ []
 details_of (Listing why) = listing_details why
@@ -78,10 +56,6 @@ details_of (Assembler why text) = line_details (asm.refusal_line why)
 details_of (Table why) = table_details why
 details_of (Trace why) = trace_details why
 details_of _ = []
-
--- `refused` and the numbers, with spaces between
-abbrev pub refused_line : ℕ → List ℕ → List ℕ
-refused_line number details = codes "refused " ++ decimal number ++ flat_map (λ n. 32 ∷ decimal n) details ++ 10 ∷ []
 
 abbrev pub refusal_line : Refusal → List ℕ
 refusal_line r = refused_line (number_of r) (details_of r)

@@ -8,10 +8,10 @@ use Rattle.gw_table.specs.TableText.{IsTableText, IsTableRefusal}
 use Rattle.gw_table.specs.Emission.{emission}
 use Rattle.gw_commands.specs.declared.answer.Answer.{Answer}
 use Rattle.gw_commands.specs.declared.answer.Answer.TheVariants.{Passes, Text}
-use Rattle.gw_commands.specs.declared.record.RecordFault.{RecordFault}
+use Rattle.gw_replay.specs.declared.hex_record.RecordFault.{RecordFault}
 use Rattle.gw_commands.specs.declared.refusal.Refusal.{Refusal}
 use Rattle.gw_commands.specs.declared.refusal.Refusal.TheVariants.{Record, NotUtf8, Table, OutOfMemory}
-use Rattle.gw_commands.specs.Records.{NamesRecord, IsRecordFault}
+use Rattle.gw_replay.specs.Records.{NamesRecord, IsRecordFault}
 
 -- the listing of a table's program, and a line feed
 abbrev pub compiled_line : Meaning → List ℕ

@@ -1,22 +1,21 @@
 -- What a program answers on a record, both given as text.
-use Rattle.std.specs.Prelude.{◌≡◌, ℕ, ◌⊎◌, List, [], map, Option, Some, None, MatchOption}
-use Rattle.gw_insn.specs.declared.insn.Raw.{Raw}
+use Rattle.std.specs.Prelude.{◌≡◌, ℕ, ◌⊎◌, List, [], Option, Some, None, MatchOption}
 use Rattle.gw_insn.specs.declared.insn.Insn.{Insn}
-use Rattle.gw_insn.specs.Table.{insn_of}
 use Rattle.gw_insn.specs.Listing.{IsListing, IsListRefusal}
 use Rattle.gw_verify.specs.declared.cause.Cause.{Cause}
 use Rattle.gw_verify.specs.declared.cause.Cause.TheVariants.{UnsetWord}
 use Rattle.gw_verify.specs.declared.path.Path.{Path}
 use Rattle.gw_verify.specs.Flow.{Forms, forms_of, IsBarePathTo}
-use Rattle.gw_verify.specs.Accepted.{IsAccepted, IsRefusal}
+use Rattle.gw_verify.specs.Accepted.{IsRefusal}
 use Rattle.gw_machine.specs.Runs.{Returns}
 use Rattle.gw_commands.specs.declared.answer.Answer.{Answer}
 use Rattle.gw_commands.specs.declared.answer.Answer.TheVariants.{Verdict}
-use Rattle.gw_commands.specs.declared.record.RecordFault.{RecordFault}
+use Rattle.gw_replay.specs.Policies.{NamesProgram}
+use Rattle.gw_replay.specs.declared.hex_record.RecordFault.{RecordFault}
 use Rattle.gw_commands.specs.declared.refusal.Refusal.{Refusal}
 use Rattle.gw_commands.specs.declared.refusal.Refusal.TheVariants.{Record, Listing, Program}
 use Rattle.gw_commands.specs.Lines.{first_line, behind_first}
-use Rattle.gw_commands.specs.Records.{NamesRecord, IsRecordFault}
+use Rattle.gw_replay.specs.Records.{NamesRecord, IsRecordFault}
 
 -- the record's text: a word of the command line, else the input's first line
 abbrev pub record_text : Option (List ℕ) → List ℕ → List ℕ
@@ -31,13 +30,6 @@ behind None = []
 abbrev pub listing_text : Option (List ℕ) → List ℕ → List ℕ
 listing_text (Some word) input = input
 listing_text None input = behind (behind_first input)
-
--- the listing of accepted code, decoded
-pub record NamesProgram (listing : List ℕ) (program : List Insn) : Type 0 where
-  pub code : List Raw
-  pub listed : IsListing listing code
-  pub accepted : IsAccepted (forms_of code)
-  pub decoded : map Some program ≡ map insn_of code
 
 -- the program of the listing, run on the record that was taken at a port, returns this answer
 pub record IsVerdict (text listing : List ℕ) (port answer : ℕ) : Type 0 where

@@ -4,11 +4,10 @@ ghost use Rattle.std.specs.Prelude.{◌≡◌, OnOk, OnErr, false, true};
 ghost use Rattle.std.specs.Io.KnownBytes.{Appends};
 ghost use Rattle.gw_trace.specs.Tries.{inner_of, has_failed};
 ghost use Rattle.gw_commands.specs.Answers.{answer_text, verdict_line, accepted_line};
-ghost use Rattle.gw_commands.specs.Commands.{WritesPart};
+ghost use Rattle.gw_trace.specs.Written.{WritesPart};
 
 use crate::line::Line;
-use crate::streams::{WriteFault, write_all};
-use gw_trace::Tried;
+use gw_trace::{Tried, WriteFault, write_all};
 use std::io::Write;
 
 /// What a command answers.

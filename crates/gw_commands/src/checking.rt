@@ -7,7 +7,8 @@ ghost use Rattle.gw_commands.specs.Commands.{Does, IsFound};
 ghost use Rattle.gw_commands.specs.Checks.{AnswersCheck, RefusesCheck, path_line};
 ghost use Rattle.gw_commands.specs.Verdicts.{IsProgramRefusal};
 ghost use Rattle.gw_commands.specs.declared.refusal.Refusal.TheVariants.{Program};
-ghost use Rattle.gw_commands.specs.Refusals.{refused_line, cause_details};
+ghost use Rattle.gw_replay.specs.Details.{cause_details};
+ghost use Rattle.gw_replay.specs.Faults.{refused_line};
 
 use crate::answer::Answer;
 use crate::judging::program;

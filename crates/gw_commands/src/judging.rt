@@ -3,10 +3,10 @@
 ghost use Rattle.std.specs.Prelude.{◌≡◌, false, IfOk, IfErr, option_copied};
 ghost use Rattle.gw_trace.specs.Tries.{inner_of, has_failed};
 ghost use Rattle.gw_commands.specs.Commands.{Does, IsFound};
+ghost use Rattle.gw_replay.specs.Policies.{NamesProgram};
 ghost use Rattle.gw_commands.specs.Verdicts.{
   AnswersVerdict,
   RefusesVerdict,
-  NamesProgram,
   IsVerdictAnswer,
   IsProgramRefusal,
   IsVerdictRefusal,
@@ -17,12 +17,12 @@ ghost use Rattle.gw_commands.specs.Verdicts.{
 use crate::answer::Answer;
 use crate::lines::first_line;
 use crate::notes::note_standard_identifier;
-use crate::record::record;
 use crate::refusal::Refusal;
 use crate::responding::respond;
 use crate::streams::read_input;
 use gw_insn::read_listing;
 use gw_machine::run;
+use gw_replay::record;
 use gw_trace::Tried;
 use gw_verify::Program;
 use std::alloc::Global;

@@ -3,12 +3,14 @@
 ghost use Rattle.std.specs.Prelude.{◌≡◌, ◌≤◌, ◌++◌, ◌∷◌, length, decimal};
 ghost use Rattle.std.specs.List.{flat_map};
 ghost use Rattle.gw_verify.specs.Cause.{cause_number};
-ghost use Rattle.gw_commands.specs.Refusals.{cause_details, line_details, refused_line};
+ghost use Rattle.gw_replay.specs.Details.{cause_details};
+ghost use Rattle.gw_replay.specs.Faults.{refused_line};
+ghost use Rattle.gw_commands.specs.Refusals.{line_details};
 
 use crate::line::Line;
-use crate::record::RecordFault;
 use gw_insn::ListRefusal;
 use gw_ports::{OfferRefusal, RunRefusal};
+use gw_replay::RecordFault;
 use gw_table::TableRefusal;
 use gw_text::AsmRefusal;
 use gw_trace::TraceRefusal;

@@ -1,21 +1,16 @@
-//! Whole inputs and whole lines.
+//! Whole inputs.
 
-ghost use Rattle.std.specs.Prelude.{◌≡◌, ◌≤◌, ℕ, List, true, false, length, IfOk, IfErr, OnOk, OnErr};
-ghost use Rattle.std.specs.Io.KnownBytes.{Appends};
+ghost use Rattle.std.specs.Prelude.{◌≡◌, false, IfOk, IfErr};
 ghost use Rattle.gw_trace.specs.Tries.{inner_of, has_failed};
-ghost use Rattle.gw_commands.specs.Commands.{IsInput, IsInputRefusal, WritesPart};
+ghost use Rattle.gw_commands.specs.Commands.{IsInput, IsInputRefusal};
 
 use crate::refusal::Refusal;
 use gw_trace::Tried;
 use std::alloc::Global;
-use std::io::{Read, Write};
+use std::io::Read;
 
 /// The most octets of an input.
 pub const MOST_INPUT: usize = 1_048_576;
-
-/// A write failed.
-#[derive(Clone, Copy, PartialEq, Eq, Debug)]
-pub struct WriteFault;
 
 /// Reads to the end: 96 where a read failed, 98 for more than 1048576 octets, 100 for want of memory.
 pub fn read_input<R: Read>(alloc: Global, reader: &mut Tried<R>) -> Result<Vec<u8>, Refusal>
@@ -39,22 +34,4 @@ pub fn read_input<R: Read>(alloc: Global, reader: &mut Tried<R>) -> Result<Vec<u
         }
     }
     Err(Refusal::TooMuchInput)
-}
-
-/// Writes the octets, one piece after another. Where a write failed, a beginning of them was written.
-pub fn write_all<W: Write>(writer: &mut Tried<W>, octets: &[u8]) -> Result<(), WriteFault>
-    requires { has_failed writer.old ≡ false }
-    ensures written { OnOk result (Appends (W.contents (inner_of writer.old)) (W.contents (inner_of writer.new)) octets.now) }
-    ensures part { OnErr result (WritesPart (W.contents (inner_of writer.old)) (W.contents (inner_of writer.new)) octets.now) }
-    ensures whole { OnOk result (has_failed writer.new ≡ false) }
-    ensures failed { OnErr result (has_failed writer.new ≡ true) }
-{
-    let mut at = 0;
-    while at < octets.len() {
-        match writer.write(&octets[at..]) {
-            Ok(0) | Err(_) => return Err(WriteFault),
-            Ok(n) => at += n,
-        }
-    }
-    Ok(())
 }

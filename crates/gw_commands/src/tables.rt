@@ -8,11 +8,11 @@ ghost use Rattle.gw_commands.specs.Tables.{AnswersTable, RefusesTable, IsTable, 
 
 use crate::answer::Answer;
 use crate::notes::{note_dead_rules, note_decision, note_standard_identifier};
-use crate::record::record;
 use crate::refusal::Refusal;
 use crate::responding::respond;
 use crate::streams::read_input;
 use gw_insn::{Raw, encode, write_listing};
+use gw_replay::record;
 use gw_table::{Table, compile};
 use gw_trace::Tried;
 use gw_verify::Program;

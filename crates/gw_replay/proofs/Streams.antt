@@ -7,7 +7,8 @@ use Rattle.std.proofs.Math.Seq.{take-append-add, take-length}
 use Rattle.gw_replay.specs.declared.progress.Progress.{Progress}
 use Rattle.gw_replay.specs.declared.whole.ReplayFault.{ReplayFault}
 use Rattle.gw_replay.specs.Scripts.{BeginsAnswer}
-use Rattle.gw_replay.specs.Written.{WritesPart, IsReplayed, IsPartlyReplayed}
+use Rattle.gw_trace.specs.Written.{WritesPart}
+use Rattle.gw_replay.specs.Written.{IsReplayed, IsPartlyReplayed}
 use Rattle.gw_replay.specs.Reached.{HasReached, HasFed, EndsWith, IsUnderWay}
 use Rattle.gw_replay.proofs.Pieces.{appended_on}
 use Rattle.gw_replay.proofs.Reaching.{begins, reached_same}

@@ -4,8 +4,8 @@ use Rattle.std.specs.Prelude.{MatchResult}
 use Rattle.hex.specs.Hex.{decode_of, is_hex_digit}
 use Rattle.hex.specs.declared.error.FromHexError.TheVariants.{OddLength}
 use Rattle.gw_frame.specs.Record.{IsRecord, refusal_of, refusal_number}
-use Rattle.gw_replay.specs.declared.record.RecordFault.{RecordFault}
-use Rattle.gw_replay.specs.declared.record.RecordFault.TheVariants.{NoDigit, OddDigits, NoRecord}
+use Rattle.gw_replay.specs.declared.hex_record.RecordFault.{RecordFault}
+use Rattle.gw_replay.specs.declared.hex_record.RecordFault.TheVariants.{NoDigit, OddDigits, NoRecord}
 
 -- the digits of a record's octets
 pub record NamesRecord (text : List ℕ) (octets : List ℕ) : Type 0 where

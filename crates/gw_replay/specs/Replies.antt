@@ -19,7 +19,7 @@ use Rattle.gw_core.specs.declared.event.EventRefusal.{EventRefusal}
 use Rattle.gw_core.specs.declared.event.EventRefusal.TheVariants.{NoSuchPort}
 use Rattle.gw_replay.specs.declared.fault.Fault.{Fault}
 use Rattle.gw_replay.specs.declared.fault.Fault.TheVariants as fault
-use Rattle.gw_replay.specs.declared.record.RecordFault.{RecordFault}
+use Rattle.gw_replay.specs.declared.hex_record.RecordFault.{RecordFault}
 use Rattle.gw_replay.specs.Records.{IsRecordText}
 use Rattle.gw_replay.specs.Policies.{IsProgramText, IsTableHex}
 use Rattle.gw_replay.specs.Requests.{Request, limits_of, program_of, table_of, publish_all, take_at, step_at, send_to, ledger_of}

@@ -1,17 +1,11 @@
 -- What replaying reads and writes: `before` and `after` are what its reader has left, `old` and `new` what its writer took.
-use Rattle.std.specs.Prelude.{◌≡◌, ◌⊎◌, ℕ, Bool, true, List, take, Option}
+use Rattle.std.specs.Prelude.{◌≡◌, ◌⊎◌, ℕ, Bool, true, List, Option}
 use Rattle.std.specs.Io.KnownBytes.{Appends, IsAtEnd, Consumes}
+use Rattle.gw_trace.specs.Progress.{most_reads}
+use Rattle.gw_trace.specs.Written.{WritesPart}
 use Rattle.gw_replay.specs.declared.whole.ReplayFault.{ReplayFault}
 use Rattle.gw_replay.specs.declared.whole.ReplayFault.TheVariants.{ReadFault, WriteFault, OutOfMemory}
 use Rattle.gw_replay.specs.Scripts.{IsAnswer, BeginsAnswer}
-
--- the most reads of a script
-abbrev pub most_reads : ℕ
-most_reads = 16777216
-
--- a beginning of the text was written
-abbrev pub WritesPart : Option (List ℕ) → Option (List ℕ) → List ℕ → Type 0
-WritesPart old new text = (n : ℕ) × Appends old new (take n text)
 
 -- the reader gave a whole script and has no more, and the script's answers were written
 pub record IsReplayed (before after old new : Option (List ℕ)) : Type 0 where

@@ -3,8 +3,8 @@
 ghost use Rattle.std.specs.Prelude.{◌≡◌, ◌≤◌, ◌++◌, ◌∷◌, length};
 ghost use Rattle.std.specs.List.{flat_map};
 
+use crate::hex_record::RecordFault;
 use crate::line::Line;
-use crate::record::RecordFault;
 use gw_core::EventRefusal;
 use gw_insn::ListRefusal;
 use gw_ledger::BadLimit;

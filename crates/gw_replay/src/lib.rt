@@ -3,16 +3,16 @@
 
 mod command;
 mod fault;
+mod hex_record;
 mod line;
 mod lines;
 mod number;
 mod policies;
 mod progress;
-mod record;
 mod running;
 mod said;
 mod script;
 mod whole;
-mod writing;
 
+pub use hex_record::{RecordFault, record};
 pub use whole::{ReplayFault, replay, replay_told};

@@ -4,13 +4,12 @@ ghost use Rattle.std.specs.Prelude.{◌≡◌, ◌<◌, ◌+◌, ◌++◌, [], �
 ghost use Rattle.std.specs.Prelude.{OnOk, OnErr, IfOk, IfErr, option_copied};
 ghost use Rattle.std.specs.Io.KnownBytes.{Appends};
 ghost use Rattle.gw_trace.specs.Tries.{inner_of, has_failed};
-ghost use Rattle.gw_replay.specs.Written.{WritesPart};
+ghost use Rattle.gw_trace.specs.Written.{WritesPart};
 
 use crate::lines::{line_in, place_of};
 use crate::script::{MOST, Said, Script};
 use crate::whole::ReplayFault;
-use crate::writing::write_all;
-use gw_trace::Tried;
+use gw_trace::{Tried, write_all};
 use std::alloc::{AllocError, Global};
 use std::io::Write;
 

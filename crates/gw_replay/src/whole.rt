@@ -2,7 +2,8 @@
 
 ghost use Rattle.std.specs.Prelude.{◌≡◌, ◌≤◌, false, IfErr, OnOk, OnErr};
 ghost use Rattle.gw_trace.specs.Tries.{inner_of, has_failed, reads_of};
-ghost use Rattle.gw_replay.specs.Written.{IsReplayed, IsPartlyReplayed, IsReplayFault, most_reads};
+ghost use Rattle.gw_replay.specs.Written.{IsReplayed, IsPartlyReplayed, IsReplayFault};
+ghost use Rattle.gw_trace.specs.Progress.{most_reads};
 
 use crate::progress::Progress;
 use gw_trace::Tried;

@@ -225,7 +225,7 @@ impl Iterator for Repeated {
 }
 
 /// The frames of three ports: two, two, and none.
-fn repeated(alloc: Global, frame: Frame) -> Result<Vec<Repeated>, AllocError>
+fn iterators_of(alloc: Global, frame: Frame) -> Result<Vec<Repeated>, AllocError>
     ensures count { IfOk result (λ inputs. vec_len inputs ≡ 3) }
     ensures few { IfOk result (λ inputs. All (λ input. input.left ≤ 2) inputs.items) }
 {
@@ -255,7 +255,7 @@ fn threads_with_a_gate_from_iterators(rt: HostRuntime) -> Result<(), Fail> {
         alloc,
         Limits::new(3, 4, 2, 2)?,
         first,
-        repeated(alloc, frame)?,
+        iterators_of(alloc, frame)?,
         most(alloc)?,
         batches,
         &gate,

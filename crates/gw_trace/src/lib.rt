@@ -16,6 +16,7 @@ mod tried;
 mod walk;
 mod whole;
 mod writing;
+mod written;
 
 pub use checked::Checked;
 pub use refusal::TraceRefusal;
@@ -23,3 +24,4 @@ pub use share::Share;
 pub use trace::Trace;
 pub use tried::Tried;
 pub use whole::frames;
+pub use written::{WriteFault, write_all};

@@ -1,8 +1,8 @@
 use Rattle.std.proofs.Common.{arith, rules}
 use Rattle.std.proofs.lemmas.Grind.{common_steps}
 use Rattle.gw_trace.specs.Tries.{inner_of}
-use Rattle.gw_commands.proofs.Pieces.{more_written, rest_from}
-use Rattle.gw_commands.proofs.streams.write_all.Goals as goal
+use Rattle.gw_trace.proofs.Pieces.{more_written, rest_from}
+use Rattle.gw_trace.proofs.written.write_all.Goals as goal
 
 pub loop-at-preserved : goal.loop-at-preserved
 loop-at-preserved g c = record {

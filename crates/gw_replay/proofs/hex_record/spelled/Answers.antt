@@ -2,8 +2,8 @@ use Rattle.std.proofs.Common.{◌≡◌, true, false, get_or, refl, sym, ◌∙�
 use Rattle.std.proofs.lemmas.List.Elements.{All-from_get_or}
 use Rattle.hex.specs.Hex.{is_hex_digit}
 use Rattle.hex.proofs.HexLemmas.{decode_of-odd}
-use Rattle.gw_commands.proofs.HexDigits.{same_digits, no_digit_refused, first_other, no_other, digits_more, element_there}
-use Rattle.gw_commands.proofs.record.spelled.Goals as goal
+use Rattle.gw_replay.proofs.HexDigits.{same_digits, no_digit_refused, first_other, no_other, digits_more, element_there}
+use Rattle.gw_replay.proofs.hex_record.spelled.Goals as goal
 
 pub returns-then-not-is_ascii_hexdigit-clause-refused : goal.returns-then-not-is_ascii_hexdigit-clause-refused
 returns-then-not-is_ascii_hexdigit-clause-refused c =

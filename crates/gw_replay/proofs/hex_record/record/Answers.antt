@@ -2,8 +2,8 @@ use Rattle.std.proofs.Common.{◌/◌, length, drop, replicate, Some, Ok, refl, 
 use Rattle.std.proofs.lemmas.List.{length-take}
 use Rattle.gw_frame.specs.Record.{IsRecord, refusal_of}
 use Rattle.gw_frame.specs.declared.refusal.FrameRefusal.TheVariants.{TooLong}
-use Rattle.gw_commands.proofs.HexDigits.{decoded_into, decoded_is, too_long, front_of}
-use Rattle.gw_commands.proofs.record.record.Goals as goal
+use Rattle.gw_replay.proofs.HexDigits.{decoded_into, decoded_is, too_long, front_of}
+use Rattle.gw_replay.proofs.hex_record.record.Goals as goal
 
 pub returns-then-len-gt-MOST-clause-refused : goal.returns-then-len-gt-MOST-clause-refused
 returns-then-len-gt-MOST-clause-refused c =

@@ -3,13 +3,13 @@
 ghost use Rattle.std.specs.Prelude.{◌≡◌, true, false, OnOk, OnErr};
 ghost use Rattle.std.specs.Io.KnownBytes.{Appends};
 ghost use Rattle.gw_trace.specs.Tries.{inner_of, has_failed};
-ghost use Rattle.gw_replay.specs.Written.{WritesPart};
+ghost use Rattle.gw_trace.specs.Written.{WritesPart};
 
-use gw_trace::Tried;
+use crate::tried::Tried;
 use std::io::Write;
 
 /// A write failed.
-#[derive(Clone, Copy)]
+#[derive(Clone, Copy, PartialEq, Eq, Debug)]
 pub struct WriteFault;
 
 /// Writes the octets, one piece after another. Where a write failed, a beginning of them was written.

@@ -4,6 +4,7 @@ use Rattle.std.proofs.Common.{ap, ◌∙◌, append_assoc, arith}
 use Rattle.std.proofs.lemmas.List.{take_all}
 use Rattle.std.specs.Io.KnownBytes.{Appends}
 
+-- one piece of a text written behind another
 pub more_written : (a b c : Option (List ℕ)) (at n : ℕ) (xs : List ℕ) → Appends a b (take at xs)
     → Appends b c (take n (drop at xs)) → Appends a c (take (at + n) xs)
 more_written None b c at n xs h k = tt
@@ -16,10 +17,3 @@ more_written (Some p) (Some q) (Some r) at n xs h k =
 -- what stands behind a place, as a slice from there on gives it
 pub rest_from : (at : ℕ) (xs : List ℕ) → take (length xs - at) (drop at xs) ≡ drop at xs
 rest_from at xs = take_all (length xs - at) (drop at xs) (simp length-drop (omega arith))
-
--- one text written behind another
-pub appended_on : (a b c : Option (List ℕ)) (xs ys : List ℕ) → Appends a b xs → Appends b c ys → Appends a c (xs ++ ys)
-appended_on None b c xs ys h k = tt
-appended_on (Some p) None c xs ys h k = absurd h
-appended_on (Some p) (Some q) None xs ys h k = absurd k
-appended_on (Some p) (Some q) (Some r) xs ys h k = k ∙ ap (λ zs. zs ++ ys) h ∙ append_assoc p xs ys
