@@ -13,3 +13,6 @@ pub mod Finishing
 pub mod OneGateway
 pub mod Runs
 pub mod Opening
+pub mod Judged
+pub mod Reports
+pub mod ReportExamples

@@ -7,3 +7,4 @@ pub mod Refusals
 pub mod Closing
 pub mod Running
 pub mod Runs
+pub mod Reports

@@ -7,6 +7,7 @@ ghost use Rattle.std.specs.declared.vec.IntoIter.{IntoIter};
 ghost use Rattle.std.specs.declared.alloc.Global.{Global};
 ghost use Rattle.gw_board.specs.Refusals.{PortsBelow};
 ghost use Rattle.gw_ports.specs.Ends.{Ingress};
+ghost use Rattle.gw_ports.specs.Reports.{IsReport, IsReportOf};
 ghost use Rattle.gw_ports.specs.Runs.{IsOpened, IsRun};
 ghost use Rattle.gw_ports.specs.declared.running.RunRefusal.TheVariants.{NoSuchPort};
 
@@ -125,6 +126,7 @@ pub fn run<R: Threads + Wait + Sync, G: Gate>(
     ensures ran { IfOk result (λ report. (made : List (IntoIter (List ℕ) Global))
         × (map into_iter_items made ≡ map (λ list. list.items) inputs.items)
         × IsRun into_iter_steps limits first made batches.items report) }
+    ensures reported { IfOk result (IsReport limits first (map (λ list. list.items) inputs.items) batches.items) }
     ensures refused { result ≡ Err NoSuchPort → ¬ PortsBelow limits.ports first }
 {
     let Ok((inputs, sizes)) = iterators(alloc, inputs) else {
@@ -169,6 +171,7 @@ pub fn run_from<R: Threads + Wait + Sync, G: Gate, I: Iterator<Item = Frame> + S
     requires inputs { (k : ℕ) (d : I) → k < length inputs.items → I.can_next (slice_index_or inputs.items k d)
         × UpTo (I.remaining (slice_index_or inputs.items k d)) (slice_index sizes.items k) }
     ensures ran { IfOk result (IsRun I.next_gives limits first inputs.items batches.items) }
+    ensures reported { IfOk result (IsReportOf I.next_gives limits first inputs.items batches.items) }
     ensures refused { result ≡ Err NoSuchPort → ¬ PortsBelow limits.ports first }
 {
     let parts = match open(rt, alloc, limits, first) {

@@ -1,12 +1,14 @@
-use Rattle.std.proofs.Common.{◌≡◌, ◌∙◌, ◌<◌, ℕ, List, arith, ap, length, map, slice_index}
+use Rattle.std.proofs.Common.{◌≡◌, ◌∙◌, ◌<◌, ℕ, List, arith, ap, length, map, slice_index, subst}
 use Rattle.std.specs.Iterator.{UpTo}
 use Rattle.std.proofs.lemmas.List.{length-map}
+use Rattle.gw_ports.specs.Closing.{Closes}
 use Rattle.gw_ports.specs.Ends.{Ingress, Egress, end_in, end_out}
 use Rattle.gw_ports.specs.Running.{HasTaken, IsDone}
 use Rattle.gw_ports.specs.declared.running.offering.Done.{Done}
 use Rattle.gw_ports.specs.declared.running.offering.Offering.{Offering}
 use Rattle.gw_ports.specs.declared.running.taking.Taking.{Taking}
 use Rattle.gw_ports.proofs.Opening.{ends_after_offers, ends_after_takes, input_at, ready_ports, same_gateway}
+use Rattle.gw_ports.proofs.Reports.{reported}
 use Rattle.gw_ports.proofs.Runs.{pairwise_length}
 use Rattle.gw_ports.proofs.running.run_from.Goals as goal
 
@@ -86,3 +88,44 @@ close-requires g c =
     (ap (λ (l : List Egress). map end_out l) c.gather-sinks.ensures.ports
     ∙ ends_after_takes prepared.takings.items c.in-Some.taken.items c.in-Some.ensures.taken
     ∙ ap (λ (l : List Egress). map end_out l) c.in-Ok-prepare.ensures.outs)
+
+-- The run is reported in plain data.
+pub returns-in-Ok-close-clause-reported : goal.returns-in-Ok-close-clause-reported
+returns-in-Ok-close-clause-reported g c =
+    let parts = c.in-Ok.parts in
+    let prepared = c.in-Ok-prepare.prepared in
+    let some = c.in-Some in
+    let closing = some.published.operator in
+    let report = c.in-Ok-close.report in
+    reported g.I.Iterator.next_gives c.args.limits c.args.first c.args.inputs.items c.args.batches.items (record {
+      outcomes = c.gather-sources.result.outcomes;
+      stops = c.gather-sources.result.stops;
+      fronts = some.published.fronts;
+      refused = some.published.refused;
+      out = c.gather-sinks.result.out;
+      report = report;
+    }) (record {
+      operator = parts.operator;
+      ins = parts.ins.items;
+      outs = parts.outs.items;
+      opened = c.in-Ok.ensures.opened;
+      offerings = prepared.offerings.items;
+      ports_are = c.in-Ok-prepare.ensures.ports;
+      inputs_are = c.in-Ok-prepare.ensures.inputs;
+      done = some.done.items;
+      offered = some.ensures.done;
+      takings = prepared.takings.items;
+      outs_are = c.in-Ok-prepare.ensures.outs;
+      taken = some.taken.items;
+      took = some.ensures.taken;
+      closing = closing;
+      published = some.ensures.published;
+      outcomes_are = c.gather-sources.ensures.outcomes;
+      stops_are = c.gather-sources.ensures.stops;
+      out_is = c.gather-sinks.ensures.out;
+      closed =
+          subst (λ (l : List Ingress). Closes closing l (map (λ (t : Taking). t.port) some.taken.items) report)
+          c.gather-sources.ensures.ports
+          (subst (λ (l : List Egress). Closes closing c.gather-sources.result.ports.items l report) c.gather-sinks.ensures.ports
+          c.in-Ok-close.ensures.closed);
+    })

@@ -1,0 +1,104 @@
+-- What a run reports, in plain data: what became of each frame, and which batches were published. Lists by port have the ports
+-- in ascending order, from 0 on; a list of batches, and one of frames, has the oldest first.
+use Rattle.std.specs.Prelude.{◌≡◌, ℕ, ◌+◌, ◌<◌, ◌≤◌, List, [], ◌∷◌, fold, length, map, reverse, take, slice_index_or}
+use Rattle.std.specs.Prelude.{Option, Some, None, IfSome, MatchOption, sum_by}
+use Rattle.std.specs.List.{range_with_len}
+use Rattle.std.specs.Iterator.{Drains, Yields}
+use Rattle.gw_board.specs.Refusals.{PortsBelow}
+use Rattle.gw_board.specs.declared.refusals.ReplaceRefusal.{ReplaceRefusal}
+use Rattle.gw_board.specs.declared.refusals.ReplaceRefusal.TheVariants.{NoSuchPort, VersionsSpent, Stopped, OutOfMemory}
+use Rattle.gw_claims.specs.Claims.{is_local}
+use Rattle.gw_ledger.specs.Bounds.{Bounds}
+use Rattle.gw_ledger.specs.Ledgers.{AreBalanced, ledger_with}
+use Rattle.gw_ledger.specs.Ports.{IsPartOf}
+use Rattle.gw_ledger.specs.declared.outcome.Outcome.{Outcome}
+use Rattle.gw_policy.specs.Allowed.{allowed_ports}
+use Rattle.gw_policy.specs.Batches.{Pair}
+use Rattle.gw_ports.specs.Making.{nothing_counted}
+use Rattle.gw_ports.specs.declared.refusals.OfferRefusal.{OfferRefusal}
+use Rattle.gw_ports.specs.declared.refusals.OfferRefusal.TheVariants.{FramesSpent, NoReading}
+use Rattle.gw_ports.specs.declared.running.RunReport.{RunReport}
+
+-- of a port: the frames of its input, its outcomes, and why it stopped, if it did
+abbrev pub frames_of : List (List (List ℕ)) → ℕ → List (List ℕ)
+frames_of inputs port = slice_index_or inputs port []
+
+abbrev pub outcomes_of : RunReport → ℕ → List Outcome
+outcomes_of report port = slice_index_or (map (λ outcomes. outcomes.items) report.outcomes.items) port []
+
+abbrev pub stop_of : RunReport → ℕ → Option OfferRefusal
+stop_of report port = slice_index_or report.stops.items port None
+
+-- the batches that were published in a run: the first one, and those after it that have a front
+abbrev pub batches_of : List Pair → List (List Pair) → RunReport → List (List Pair)
+batches_of first batches report = first ∷ take (length report.fronts.items) batches
+
+-- the outcome of the frame that was taken at the port after `heard`, newest first: it was judged by the first `front` of the
+-- published batches
+pub record IsJudged (ports port : ℕ) (published : List (List Pair)) (heard : List (List ℕ)) (octets : List ℕ)
+    (outcome : Outcome) : Type 0 where
+  pub number : outcome.number ≡ length heard
+  pub least : 1 ≤ outcome.front
+  pub most : outcome.front ≤ length published
+  pub local : outcome.local ≡ is_local heard octets
+  pub allowed : outcome.allowed
+      ≡ allowed_ports ports outcome.local (reverse (take outcome.front published)) port octets
+  pub placed : IsPartOf outcome.placed outcome.allowed
+
+-- the outcomes of a port are those of the first of its frames, each after those before it, and their fronts do not fall
+pub record AreJudged (ports port : ℕ) (published : List (List Pair)) (frames : List (List ℕ)) (outcomes : List Outcome)
+    : Type 0 where
+  pub few : length outcomes ≤ length frames
+  pub judged : (k : ℕ) (d : Outcome) → k < length outcomes
+      → IsJudged ports port published (reverse (take k frames)) (slice_index_or frames k []) (slice_index_or outcomes k d)
+  pub rising : (j k : ℕ) (d : Outcome) → j ≤ k → k < length outcomes
+      → (slice_index_or outcomes j d).front ≤ (slice_index_or outcomes k d).front
+
+-- a port has an outcome of each of its frames; or it stopped before the next one, by 76 after as many as may be taken
+abbrev pub EndsAt : Bounds → List (List ℕ) → List Outcome → Option OfferRefusal → Type 0
+EndsAt limits frames outcomes None = length outcomes ≡ length frames
+EndsAt limits frames outcomes (Some FramesSpent) =
+    (length outcomes < length frames) × (length outcomes ≡ limits.frames)
+EndsAt limits frames outcomes (Some NoReading) = length outcomes < length frames
+
+-- why a batch was refused after so many were published: the first cause that holds, and the batch comes back. 84 does not come,
+-- since a run ends its batches with the first refused one
+abbrev pub RefusesNext : Bounds → ℕ → List Pair → ReplaceRefusal → Type 0
+RefusesNext limits published batch (NoSuchPort back) = (back ≡ batch) × (¬ PortsBelow limits.ports batch)
+RefusesNext limits published batch (VersionsSpent back) =
+    (back ≡ batch) × PortsBelow limits.ports batch × (published ≡ limits.versions)
+RefusesNext limits published batch (Stopped back) = ⊥
+RefusesNext limits published batch (OutOfMemory back) =
+    IfSome back (λ same. same ≡ batch) × PortsBelow limits.ports batch × (published < limits.versions)
+
+-- the report of a run whose ports were given these frames
+pub record IsReport (limits : Bounds) (first : List Pair) (inputs : List (List (List ℕ))) (batches : List (List Pair))
+    (report : RunReport) : Type 0 where
+  pub ports : (length report.outcomes.items ≡ limits.ports) × (length report.stops.items ≡ limits.ports)
+  pub judged : (port : ℕ) → port < limits.ports
+      → AreJudged limits.ports port (batches_of first batches report) (frames_of inputs port) (outcomes_of report port)
+  pub stops : (port : ℕ) → port < limits.ports
+      → EndsAt limits (frames_of inputs port) (outcomes_of report port) (stop_of report port)
+  pub fronts : report.fronts.items ≡ range_with_len 2 (length report.fronts.items)
+  pub published : MatchOption report.refused
+      (length report.fronts.items ≡ length batches)
+      (λ why. (length report.fronts.items < length batches)
+      × RefusesNext limits (1 + length report.fronts.items) (slice_index_or batches (length report.fronts.items) []) why)
+  pub front : report.report.front ≡ 1 + length report.fronts.items
+  pub counted : report.report.ins.items
+      ≡ map (λ outcomes. fold ledger_with nothing_counted outcomes.items) report.outcomes.items
+  pub balances : AreBalanced report.report.ins.items report.report.outs.items
+      (sum_by (λ lane. length lane.left.items) report.report.lanes.items)
+
+-- the frames that a port asked its iterator for: all that it had, or those up to the one that was refused
+abbrev pub Asks : {S : Type 0} → (S → Option (List ℕ) → S → Type 0) → S → Option OfferRefusal → List (List ℕ) → Type 0
+Asks steps input None frames = Drains steps input frames
+Asks {S} steps input (Some why) frames = (rest : S) × Yields steps input frames rest
+
+-- the report of a run whose ports asked these iterators for their frames
+pub record IsReportOf {S : Type 0} (steps : S → Option (List ℕ) → S → Type 0) (limits : Bounds) (first : List Pair)
+    (inputs : List S) (batches : List (List Pair)) (report : RunReport) : Type 0 where
+  pub frames : List (List (List ℕ))
+  pub asked : (port : ℕ) (d : S) → port < limits.ports
+      → Asks steps (slice_index_or inputs port d) (stop_of report port) (frames_of frames port)
+  pub reported : IsReport limits first frames batches report
