@@ -14,5 +14,7 @@ pub mod OneGateway
 pub mod Runs
 pub mod Opening
 pub mod Judged
+pub mod Copied
+pub mod Lanes
 pub mod Reports
 pub mod ReportExamples

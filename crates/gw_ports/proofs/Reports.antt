@@ -1,11 +1,14 @@
 -- From what the threads of a run did to its report in plain data.
 use Rattle.std.proofs.Common.{◌≡◌, ◌∙◌, ℕ, zero, suc, ◌+◌, ◌<◌, ◌≤◌, false, List, [], ◌∷◌, ◌++◌, length, map, get_or, take}
 use Rattle.std.proofs.Common.{true≢false, Vec, Global, Option, Some, None, MatchOption, sym, ap, subst, refl, arith}
-use Rattle.std.proofs.Common.{append-nil, length-append, Result, Ok, Err, IfOk}
+use Rattle.std.proofs.Common.{append-nil, length-append, option_map, ⊎_elim, Result, Ok, Err, IfOk}
+use Rattle.std.proofs.Math.Nat.{zero-add}
+use Rattle.std.proofs.lemmas.Bool.{cases_lt}
+use Rattle.std.proofs.lemmas.List.{get_or_default, get_or_past}
 use Rattle.std.proofs.lemmas.List.{ext_get_or, get_or-map, length-map, length-take-le, nil_from_length, same_lists, take_all}
 use Rattle.std.proofs.lemmas.List.FromFn.{get_or-range_with_len, length-range_with_len}
 use Rattle.std.specs.Iterator.{Yields}
-use Rattle.std.specs.List.{fold, range_with_len}
+use Rattle.std.specs.List.{All, flat_map, fold, range_with_len}
 use Rattle.std.specs.Vec.Iter.{into_iter_items, into_iter_steps}
 use Rattle.std.specs.declared.vec.IntoIter.{IntoIter}
 use mathlib.Core.List.{IsPrefix}
@@ -17,22 +20,44 @@ use Rattle.gw_board.specs.declared.refusals.ReplaceRefusal.TheVariants.{NoSuchPo
 use Rattle.gw_ledger.specs.Bounds.{Bounds}
 use Rattle.gw_ledger.specs.Ledgers.{ledger_with}
 use Rattle.gw_ledger.specs.declared.ledger.InLedger.{InLedger}
+use Rattle.gw_ledger.specs.declared.ledger.OutLedger.{OutLedger}
+use Rattle.gw_ledger.specs.declared.outcome.FrameCopy.{FrameCopy}
 use Rattle.gw_ledger.specs.declared.outcome.Outcome.{Outcome}
 use Rattle.gw_policy.specs.Batches.{Pair}
-use Rattle.gw_ports.specs.Ends.{Ingress}
-use Rattle.gw_ports.specs.Making.{IsNewIngress, nothing_counted}
-use Rattle.gw_ports.specs.Running.{Gives, IsDone, Offers, Pairwise, with_batches}
+use Rattle.gw_lanes.specs.Ends.{Inlet, Outlet, new_outlet}
+use Rattle.gw_ports.specs.Closing.{AreLeft, columns_of, lanes_of, rows_of}
+use Rattle.gw_ports.specs.Ends.{EndIn, EndOut, Ingress, Egress, end_in, end_out, lane_at, lane_to, ring_from, ring_to}
+use Rattle.gw_ports.specs.Making.{IsNewIngress, lanes_from, new_egress, nothing_counted}
+use Rattle.gw_ports.specs.Running.{Gives, HasTaken, IsDone, Offers, Pairwise, with_batches}
 use Rattle.gw_ports.specs.Runs.{IsRun}
 use Rattle.gw_ports.specs.Reports.{AreJudged, Asks, EndsAt, IsReport, IsReportOf, RefusesNext}
-use Rattle.gw_ports.specs.Reports.{batches_of, frames_of, outcomes_of, stop_of}
+use Rattle.gw_ports.specs.Reports.{batches_of, copies_of, copies_to, frames_of, from_port, lanes_between}
+use Rattle.gw_ports.specs.Reports.{and_sent, outcomes_of, sent_by, stop_of}
+use Rattle.gw_ports.specs.declared.closing.LaneLeft.{LaneLeft}
 use Rattle.gw_ports.specs.declared.refusals.OfferRefusal.{OfferRefusal}
 use Rattle.gw_ports.specs.declared.refusals.OfferRefusal.TheVariants.{FramesSpent, NoReading}
 use Rattle.gw_ports.specs.declared.running.RunRefusal.{RunRefusal}
 use Rattle.gw_ports.specs.declared.running.RunReport.{RunReport}
 use Rattle.gw_ports.specs.declared.running.offering.Done.{Done}
 use Rattle.gw_ports.specs.declared.running.offering.Offering.{Offering}
+use Rattle.gw_ports.specs.declared.running.taking.Taking.{Taking}
 use Rattle.gw_ports.proofs.Judged.{are_judged, as_many_outcomes, frames_taken, judged_of_more, outcomes_counted}
+use Rattle.gw_ports.proofs.Copied.{AreOwn, copies_of_more, placed_from, placed_list, placed_to, sent_counted, taken_from_port}
+use Rattle.gw_ports.proofs.Copied.{taken_list}
+use Rattle.gw_ports.proofs.Lanes.{IsAmong, IsThere, all_among, all_ports, an_inlet, an_outlet, holds_between, inside}
+use Rattle.gw_ports.proofs.Lanes.{lanes_from_port}
+use Rattle.gw_ports.proofs.Lanes.{left_at, left_of_each, no_inlet, none_placed, none_taken, own_lane, ring_at, same_ports}
 use Rattle.gw_ports.proofs.Runs.{pairwise_length}
+
+-- a relation of two lists, at a place
+pairwise_at : {A B : Type 0} (R : A → B → Type 0) (xs : List A) (ys : List B) (k : ℕ) (x : A) (y : B) → Pairwise R xs ys
+    → k < length xs → ((d : A) → get_or xs k d ≡ x) → ((e : B) → get_or ys k e ≡ y) → R x y
+pairwise_at R [] ys k x y pairs below is is' = absurd (omega arith)
+pairwise_at R (x' ∷ xs) [] k x y pairs below is is' = absurd pairs
+pairwise_at {A} {B} R (x' ∷ xs) (y' ∷ ys) zero x y pairs below is is' =
+    subst (λ (a : A). R a y) (is x) (subst (λ (b : B). R x' b) (is' y) pairs.0)
+pairwise_at R (x' ∷ xs) (y' ∷ ys) (suc k) x y pairs below is is' =
+    pairwise_at R xs ys k x y pairs.1 (omega arith) is is'
 
 -- what stands at a place of a list
 pub there : {A : Type 0} (xs : List A) (k : ℕ) → k < length xs → (x : A) × ((d : A) → get_or xs k d ≡ x)
@@ -74,6 +99,7 @@ record Did {S : Type 0} (steps : S → Option (List ℕ) → S → Type 0) (o : 
   pub asks : Asks steps o.input one.stop asked
   pub frames : List (List ℕ)
   pub whole : OffersOf frames asked one.stop
+  pub same : end_in one.port ≡ end_in o.port
   pub done : Offers [] o.port frames one.outcomes.items one.port
   pub spent : one.stop ≡ Some FramesSpent → one.port.ledger.taken ≡ one.port.frames
 
@@ -89,7 +115,7 @@ did_one : {S : Type 0} (steps : S → Option (List ℕ) → S → Type 0) (o : O
 did_one steps o one is =
     let asked = asked_for steps o.input is.frames one.stop is.gave in (
       asked.0,
-      record { asks = asked.1; frames = is.frames; whole = asked.2; done = is.offers; spent = is.spent },
+      record { asks = asked.1; frames = is.frames; whole = asked.2; same = is.same; done = is.offers; spent = is.spent },
     )
 
 -- how a port ended
@@ -188,6 +214,12 @@ module _ {S : Type 0} (steps : S → Option (List ℕ) → S → Type 0) (limits
 
   abbrev counts_of : Vec Outcome Global → InLedger
   counts_of v = fold ledger_with nothing_counted v.items
+
+  abbrev copy_list : Vec FrameCopy Global → List FrameCopy
+  copy_list v = v.items
+
+  abbrev sent_of : Vec FrameCopy Global → OutLedger
+  sent_of v = sent_by v.items
 
   abbrev IsOne : Offering S → Done → Type 0
   IsOne o one = IsDone steps o.port o.input one
@@ -330,6 +362,277 @@ module _ {S : Type 0} (steps : S → Option (List ℕ) → S → Type 0) (limits
       ∙ sym (get_or-map counts_of (map (λ (x : Done). x.outcomes) run.done) k
       it.0.outcomes d (omega arith)))
 
+  -- the copies
+
+  many_taken : (length run.takings ≡ limits.ports) × (length run.taken ≡ limits.ports)
+  many_taken =
+      let ports = length-map run.takings (λ (t : Taking). t.port) in
+      let all = ap length run.outs_are in
+      let outs = run.opened.ends.enough_outs in
+      let taken = pairwise_length (λ (t one : Taking). HasTaken t.port one) run.takings run.taken run.took in
+      (omega arith, omega arith)
+
+  rows : List (List (Option Inlet))
+  rows = rows_of (map (λ (x : Done). x.port) run.done)
+
+  columns : List (List (Option Outlet))
+  columns = columns_of (map (λ (x : Taking). x.port) run.taken)
+
+  row_is : (p : ℕ) (below : p < limits.ports) → get_or rows p [] ≡ (one p below).0.port.lanes
+  unfolding rows
+  row_is p below =
+      let n = sizes.1 in
+      let ports = length-map run.done (λ (x : Done). x.port) in
+      let it = one p below in
+      get_or-map (λ (i : Ingress). i.lanes) (map (λ (x : Done). x.port) run.done) p it.0.port [] (omega arith)
+      ∙ ap (λ (i : Ingress). i.lanes) (get_or-map (λ (x : Done). x.port) run.done p it.0 it.0.port (omega arith)
+      ∙ ap (λ (x : Done). x.port) (it.1 it.0))
+
+  t : (q : ℕ) → q < limits.ports → (x : Taking) × ((d : Taking) → get_or run.takings q d ≡ x)
+  t q below = there run.takings q (let n = many_taken.0 in omega arith)
+
+  w : (q : ℕ) → q < limits.ports → (x : Taking) × ((d : Taking) → get_or run.taken q d ≡ x)
+  w q below = there run.taken q (let n = many_taken.1 in omega arith)
+
+  took : (q : ℕ) (below : q < limits.ports) → HasTaken (t q below).0.port (w q below).0
+  took q below =
+      pairwise_at (λ (x one : Taking). HasTaken x.port one) run.takings run.taken q (t q below).0 (w q below).0 run.took
+      (let n = many_taken.0 in omega arith) (t q below).1 (w q below).1
+
+  column_is : (q : ℕ) (below : q < limits.ports) → get_or columns q [] ≡ (w q below).0.port.lanes
+  unfolding columns
+  column_is q below =
+      let n = many_taken.1 in
+      let ports = length-map run.taken (λ (x : Taking). x.port) in
+      let it = w q below in
+      get_or-map (λ (e : Egress). e.lanes) (map (λ (x : Taking). x.port) run.taken) q it.0.port [] (omega arith)
+      ∙ ap (λ (e : Egress). e.lanes) (get_or-map (λ (x : Taking). x.port) run.taken q it.0 it.0.port (omega arith)
+      ∙ ap (λ (x : Taking). x.port) (it.1 it.0))
+
+  copies_are : (q : ℕ) (below : q < limits.ports) → copies_of report q ≡ (w q below).0.out.items
+  copies_are q below =
+      let n = many_taken.1 in
+      let outs = length-map run.taken (λ (x : Taking). x.out) in
+      let it = w q below in
+      ap (λ (l : List (Vec FrameCopy Global)). get_or (map copy_list l) q []) run.out_is
+      ∙ get_or-map copy_list (map (λ (x : Taking). x.out) run.taken) q it.0.out [] (omega arith)
+      ∙ ap copy_list (get_or-map (λ (x : Taking). x.out) run.taken q it.0 it.0.out (omega arith)
+      ∙ ap (λ (x : Taking). x.out) (it.1 it.0))
+
+  -- the port out was new: nothing was taken from its lanes
+  new_out : (q : ℕ) (below : q < limits.ports) → (t q below).0.port ≡ new_egress q (lanes_from q run.ins)
+  new_out q below =
+      let n = many_taken.0 in
+      let outs = run.opened.ends.enough_outs in
+      let it = t q below in
+      sym (ap (λ (l : List Egress). get_or l q it.0.port) (sym run.outs_are)
+      ∙ get_or-map (λ (x : Taking). x.port) run.takings q it.0 it.0.port (omega arith)
+      ∙ ap (λ (x : Taking). x.port) (it.1 it.0))
+      ∙ run.opened.ends.egress q it.0.port (omega arith)
+
+  nothing_taken : (q : ℕ) (below : q < limits.ports) (s : ℕ) → taken_list (lane_at (t q below).0.port.lanes s) ≡ []
+  nothing_taken q below s = ap (λ (e : Egress). taken_list (lane_at e.lanes s)) (new_out q below) ∙ none_taken q run.ins s
+
+  nothing_placed_yet : (p : ℕ) (below : p < limits.ports) (q : ℕ) → placed_list (lane_at (o p below).0.port.lanes q) ≡ []
+  nothing_placed_yet p below q = none_placed limits.lane (o p below).0.port.lanes (new p below).empty q
+
+  -- what was placed on the lane between two ports
+  placed_is : (p : ℕ) (below : p < limits.ports) (q : ℕ) → placed_list (lane_at (one p below).0.port.lanes q)
+      ≡ copies_to p q (did p below).frames (one p below).0.outcomes.items
+  placed_is p below q =
+      let it = one p below in
+      let frames = (did p below).frames in
+      placed_to q [] (o p below).0.port frames it.0.outcomes.items it.0.port (did p below).done
+      ∙ ap (λ (l : List FrameCopy). l ++ copies_to (o p below).0.port.port q frames it.0.outcomes.items)
+      (nothing_placed_yet p below q)
+      ∙ ap (λ n. copies_to n q frames it.0.outcomes.items) (new p below).number
+
+  out_is : (q : ℕ) (below : q < limits.ports) → get_or run.outs q (t q below).0.port ≡ (t q below).0.port
+  out_is q below =
+      let n = many_taken.0 in
+      let it = t q below in
+      ap (λ (l : List Egress). get_or l q it.0.port) (sym run.outs_are)
+      ∙ get_or-map (λ (x : Taking). x.port) run.takings q it.0 it.0.port (omega arith)
+      ∙ ap (λ (x : Taking). x.port) (it.1 it.0)
+
+  -- both ends of a lane are of one ring
+  rings_match : (p q : ℕ) (below : p < limits.ports) (below' : q < limits.ports)
+      → ring_to (lane_at (one p below).0.port.lanes q) ≡ ring_from (lane_at (w q below').0.port.lanes p)
+  rings_match p q below below' =
+      let i = (o p below).0.port in
+      let e = (t q below').0.port in
+      let ins = run.opened.ends.enough_ins in
+      let outs = run.opened.ends.enough_outs in
+      let n = many_taken.0 in
+      let ports : run.operator.ports ≡ limits.ports = ap (λ (x : Publishing). x.ports) run.opened.published in
+      sym (ring_at ring_to refl (one p below).0.port.lanes q)
+      ∙ ap (λ (x : EndIn). lane_at x.rings q) (did p below).same
+      ∙ ap (λ (x : EndIn). lane_at x.rings q)
+      (sym (get_or-map end_in run.ins p i (end_in i) (omega arith) ∙ ap end_in (port_is p below i)))
+      ∙ run.opened.one.lanes p q (end_in i) (end_out e) (omega arith) (omega arith)
+      ∙ ap (λ (x : EndOut). lane_at x.rings p)
+      (get_or-map end_out run.outs q e (end_out e) (omega arith) ∙ ap end_out (out_is q below'))
+      ∙ ap (λ (x : EndOut). lane_at x.rings p) (sym (took q below').same)
+      ∙ ring_at ring_from refl (w q below').0.port.lanes p
+
+  -- both ends of a lane are there, unless its ports are one
+  both_there : (p q : ℕ) (below : p < limits.ports) (below' : q < limits.ports)
+      → IsThere p q (lane_at (one p below).0.port.lanes q) (lane_at (w q below').0.port.lanes p)
+  both_there p q below below' =
+      let has = (new p below).lanes in
+      let size = has.0 in
+      let x = lane_at (one p below).0.port.lanes q in
+      let y = lane_at (o p below).0.port.lanes q in
+      let z = lane_at (w q below').0.port.lanes p in
+      let ring : ring_to x ≡ ring_from z = rings_match p q below below' in
+      let kept : ring_to x ≡ ring_to y =
+      sym (ring_at ring_to refl (one p below).0.port.lanes q) ∙ ap (λ (e : EndIn). lane_at e.rings q) (did p below).same
+      ∙ ring_at ring_to refl (o p below).0.port.lanes q in
+      record {
+        none = λ same. no_inlet x (kept ∙ ap ring_to (ap (λ n. lane_at (o p below).0.port.lanes n) same ∙ has.1.none));
+        inlets = λ apart. an_inlet x y kept (has.1.others q (omega arith) apart);
+        outlets = λ apart. an_outlet z y (sym ring ∙ kept) (has.1.others q (omega arith) apart);
+      }
+
+  row_width : (p : ℕ) (below : p < limits.ports) → length (one p below).0.port.lanes ≡ limits.ports
+  row_width p below =
+      sym (length-map (one p below).0.port.lanes ring_to)
+      ∙ ap (λ (x : EndIn). length x.rings) (did p below).same
+      ∙ length-map (o p below).0.port.lanes ring_to ∙ (new p below).lanes.0
+
+  column_width : (q : ℕ) (below : q < limits.ports) → length (w q below).0.port.lanes ≡ limits.ports
+  column_width q below =
+      sym (length-map (w q below).0.port.lanes ring_from)
+      ∙ ap (λ (x : EndOut). length x.rings) (took q below).same
+      ∙ length-map (t q below).0.port.lanes ring_from
+      ∙ ap (λ (e : Egress). length e.lanes) (new_out q below)
+      ∙ length-map run.ins (λ i. option_map new_outlet (lane_to q i)) ∙ run.opened.ends.enough_ins
+
+  enough_rows : length rows ≡ limits.ports
+  unfolding rows
+  enough_rows =
+      length-map (map (λ (x : Done). x.port) run.done) (λ (i : Ingress). i.lanes)
+      ∙ length-map run.done (λ (x : Done). x.port) ∙ sizes.1
+
+  enough_columns : length columns ≡ limits.ports
+  unfolding columns
+  enough_columns =
+      length-map (map (λ (x : Taking). x.port) run.taken) (λ (e : Egress). e.lanes)
+      ∙ length-map run.taken (λ (x : Taking). x.port) ∙ many_taken.1
+
+  lefts_are : AreLeft (lanes_of 0 rows columns) report.report.lanes.items
+  unfolding rows columns
+  lefts_are = run.closed.left
+
+  -- the copies that were taken from a lane are from its port
+  own : (q : ℕ) (below : q < limits.ports) → AreOwn (w q below).0.port.lanes
+  own q below s = ⊎_elim
+      (λ (inner : s < limits.ports).
+      own_lane s (lane_at (one s inner).0.port.lanes q) (lane_at (w q below).0.port.lanes s) (rings_match s q inner below)
+      (λ i e is is'.
+      holds_between (λ (x : Inlet) (y : Outlet). (left : LaneLeft) × (y.taken ++ left.left.items ≡ x.placed)) 0 rows columns
+      (left_of_each (lanes_of 0 rows columns) report.report.lanes.items lefts_are) s q i e
+      (ap (λ (r : List (Option Inlet)). lane_at r q) (row_is s inner) ∙ is)
+      (ap (λ (r : List (Option Outlet)). lane_at r s) (column_is q below) ∙ is'))
+      (subst (λ (l : List FrameCopy). All (λ (c : FrameCopy). c.from ≡ s) l) (sym (placed_is s inner q))
+      (placed_from s q (did s inner).frames (one s inner).0.outcomes.items)))
+      (λ (outer : limits.ports ≤ s).
+      subst (λ (x : Option Outlet). All (λ (c : FrameCopy). c.from ≡ s) (taken_list x))
+      (sym (get_or_past (w q below).0.port.lanes s None (let n = column_width q below in omega arith)))
+      (λ k d inside. absurd (omega arith)))
+      (cases_lt s limits.ports)
+
+  taken_are : (q : ℕ) (below : q < limits.ports) (s : ℕ)
+      → taken_list (lane_at (w q below).0.port.lanes s) ≡ from_port s (copies_of report q)
+  taken_are q below s =
+      taken_from_port (t q below).0.port (w q below).0.out.items (w q below).0.port (took q below).takes (own q below) s
+      ∙ ap (λ (l : List FrameCopy). l ++ from_port s (w q below).0.out.items) (nothing_taken q below s)
+      ∙ ap (from_port s) (sym (copies_are q below))
+
+  sent_are : map (λ (e : Egress). e.ledger) (map (λ (x : Taking). x.port) run.taken)
+      ≡ map sent_of (map (λ (x : Taking). x.out) run.taken)
+  sent_are =
+      let n = many_taken.1 in
+      let ports = length-map run.taken (λ (x : Taking). x.port) in
+      let ledgers = length-map (map (λ (x : Taking). x.port) run.taken) (λ (e : Egress). e.ledger) in
+      let lists = length-map run.taken (λ (x : Taking). x.out) in
+      let counts = length-map (map (λ (x : Taking). x.out) run.taken) sent_of in
+      same_lists (map (λ (e : Egress). e.ledger) (map (λ (x : Taking). x.port) run.taken))
+      (map sent_of (map (λ (x : Taking). x.out) run.taken))
+      (ledgers ∙ ports ∙ sym lists ∙ sym counts)
+      (λ k d below.
+      let inner : k < limits.ports = omega arith in
+      let it = w k inner in
+      get_or-map (λ (e : Egress). e.ledger) (map (λ (x : Taking). x.port) run.taken) k it.0.port d (omega arith)
+      ∙ ap (λ (e : Egress). e.ledger) (get_or-map (λ (x : Taking). x.port) run.taken k it.0 it.0.port (omega arith)
+      ∙ ap (λ (x : Taking). x.port) (it.1 it.0))
+      ∙ sent_counted (t k inner).0.port it.0.out.items it.0.port (took k inner).takes (own k inner)
+      ∙ ap (λ (l : OutLedger). fold and_sent l it.0.out.items)
+      (ap (λ (e : Egress). e.ledger) (new_out k inner))
+      ∙ ap sent_of (sym (get_or-map (λ (x : Taking). x.out) run.taken k it.0 it.0.out (omega arith)
+      ∙ ap (λ (x : Taking). x.out) (it.1 it.0)))
+      ∙ sym (get_or-map sent_of (map (λ (x : Taking). x.out) run.taken) k it.0.out d (omega arith)))
+
+  -- on the lane between two ports
+  copied_between : (p q : ℕ) (below : p < limits.ports) (below' : q < limits.ports) (inlet : Inlet) (outlet : Outlet)
+      (left : List FrameCopy) → lane_at (one p below).0.port.lanes q ≡ Some inlet
+      → lane_at (w q below').0.port.lanes p ≡ Some outlet → outlet.taken ++ left ≡ inlet.placed
+      → from_port p (copies_of report q) ++ left ≡ copies_to p q (frames_of chosen.0 p) (outcomes_of report p)
+  unfolding asked
+  copied_between p q below below' inlet outlet left is is' copies =
+      let it = did p below in
+      let many = as_many_outcomes [] (o p below).0.port it.frames (one p below).0.outcomes.items (one p below).0.port it.done in
+      ap (λ (l : List FrameCopy). l ++ left) (sym (sym (ap taken_list is') ∙ taken_are q below' p))
+      ∙ copies ∙ sym (ap placed_list is) ∙ placed_is p below q
+      ∙ sym (copies_of_more p q it.frames it.whole.0.0 (one p below).0.outcomes.items (omega arith))
+      ∙ ap (λ (l : List (List ℕ)). copies_to p q l (one p below).0.outcomes.items) it.whole.0.1
+      ∙ ap (λ (l : List Outcome). copies_to p q (frames_of chosen.0 p) l) (sym (outcomes_are p below))
+
+  copied : All (λ left. from_port left.from (copies_of report left.to) ++ left.left.items
+      ≡ copies_to left.from left.to (frames_of chosen.0 left.from) (outcomes_of report left.from)) report.report.lanes.items
+  copied k d below =
+      let left = get_or report.report.lanes.items k d in
+      let at =
+      left_at (IsAmong 0 rows columns) (lanes_of 0 rows columns) report.report.lanes.items lefts_are (all_among 0 rows columns)
+      k d below in
+      let lane = at.0 in
+      let among = at.2 in
+      let p = among.place in
+      let q = lane.destination in
+      let n = enough_rows in
+      let m = enough_columns in
+      let low = inside rows p q lane.inlet among.inlet in
+      let low' = inside columns q p lane.outlet among.outlet in
+      let below_p : p < limits.ports = omega arith in
+      let below_q : q < limits.ports = omega arith in
+      let from : left.from ≡ p = let a = at.1.source in let b = among.from in omega arith in
+      let all =
+      copied_between p q below_p below_q lane.inlet lane.outlet left.left.items
+      (ap (λ (r : List (Option Inlet)). lane_at r q) (sym (row_is p below_p)) ∙ among.inlet)
+      (ap (λ (r : List (Option Outlet)). lane_at r p) (sym (column_is q below_q)) ∙ among.outlet) at.1.copies in
+      subst (λ f. from_port f (copies_of report left.to) ++ left.left.items
+      ≡ copies_to f left.to (frames_of chosen.0 f) (outcomes_of report f)) (sym from)
+      (subst (λ to. from_port p (copies_of report to) ++ left.left.items
+      ≡ copies_to p to (frames_of chosen.0 p) (outcomes_of report p)) (sym at.1.destination) all)
+
+  lanes_are : map (λ left. (left.from, left.to)) report.report.lanes.items ≡ lanes_between limits.ports
+  lanes_are =
+      same_ports (lanes_of 0 rows columns) report.report.lanes.items lefts_are
+      ∙ all_ports limits.ports 0 rows columns
+      (λ k d below.
+      let n = enough_rows in
+      let inner : k < limits.ports = omega arith in
+      ap length (get_or_default rows k d [] below ∙ row_is k inner) ∙ row_width k inner)
+      enough_columns
+      (λ j i below inner.
+      let n = enough_rows in
+      let inner' : j < limits.ports = omega arith in
+      subst (λ n. IsThere n i (lane_at (get_or rows j []) i) (lane_at (get_or columns i []) j)) (sym (zero-add j))
+      (subst (λ (r : List (Option Inlet)). IsThere j i (lane_at r i) (lane_at (get_or columns i []) j)) (sym (row_is j inner'))
+      (subst (λ (r : List (Option Outlet)). IsThere j i (lane_at (one j inner').0.port.lanes i) (lane_at r j))
+      (sym (column_is i inner)) (both_there j i inner' inner))))
+      ∙ ap (λ n. flat_map (lanes_from_port limits.ports) (range_with_len 0 n)) enough_rows
+
   few_fronts : length report.fronts.items ≤ length batches
   few_fronts = few report.refused run.published.published
     where
@@ -369,6 +672,9 @@ module _ {S : Type 0} (steps : S → Option (List ℕ) → S → Type 0) (limits
       counted =
           run.closed.taken ∙ ledgers_are
           ∙ ap (λ (l : List (Vec Outcome Global)). map counts_of l) (sym run.outcomes_are);
+      sent = run.closed.sent ∙ sent_are ∙ ap (λ (l : List (Vec FrameCopy Global)). map sent_of l) (sym run.out_is);
+      lanes = lanes_are;
+      copies = copied;
       balances = run.closed.balances;
     };
   }
@@ -382,6 +688,32 @@ ends_on_more limits frames more outcomes (Some FramesSpent) begins whole ends =
     let longer = prefix_length frames more begins in let few = ends.0 in (omega arith, ends.1)
 ends_on_more limits frames more outcomes (Some NoReading) begins whole ends =
     let longer = prefix_length frames more begins in omega arith
+
+no_copies : (source destination : ℕ) (frames : List (List ℕ)) → copies_to source destination frames [] ≡ []
+no_copies source destination [] = refl
+no_copies source destination (f ∷ frames) = refl
+
+same_copies : (limits : Bounds) (first : List Pair) (inputs more : List (List (List ℕ))) (batches : List (List Pair))
+    (report : RunReport) → IsReport limits first inputs batches report
+    → ((port : ℕ) → port < limits.ports → IsPrefix (frames_of inputs port) (frames_of more port)
+    × (stop_of report port ≡ None → frames_of inputs port ≡ frames_of more port))
+    → (source destination : ℕ) → copies_to source destination (frames_of inputs source) (outcomes_of report source)
+    ≡ copies_to source destination (frames_of more source) (outcomes_of report source)
+same_copies limits first inputs more batches report is longer source destination = ⊎_elim
+    (λ (inner : source < limits.ports).
+    let begins = (longer source inner).0 in
+    sym (copies_of_more source destination (frames_of inputs source) begins.0 (outcomes_of report source)
+    (is.judged source inner).few)
+    ∙ ap (λ (l : List (List ℕ)). copies_to source destination l (outcomes_of report source)) begins.1)
+    (λ (outer : limits.ports ≤ source).
+    let none : outcomes_of report source ≡ [] =
+    get_or_past (map (λ (v : Vec Outcome Global). v.items) report.outcomes.items) source []
+    (let n = is.ports.0 in let m = length-map report.outcomes.items (λ (v : Vec Outcome Global). v.items) in omega arith) in
+    ap (λ (l : List Outcome). copies_to source destination (frames_of inputs source) l) none
+    ∙ no_copies source destination (frames_of inputs source)
+    ∙ sym (no_copies source destination (frames_of more source))
+    ∙ ap (λ (l : List Outcome). copies_to source destination (frames_of more source) l) (sym none))
+    (cases_lt source limits.ports)
 
 pub reported_of_more : (limits : Bounds) (first : List Pair) (inputs more : List (List (List ℕ))) (batches : List (List Pair))
     (report : RunReport) → IsReport limits first inputs batches report
@@ -400,6 +732,12 @@ reported_of_more limits first inputs more batches report is longer = record {
   published = is.published;
   front = is.front;
   counted = is.counted;
+  sent = is.sent;
+  lanes = is.lanes;
+  copies = λ k d below.
+      let left = get_or report.report.lanes.items k d in
+      is.copies k d below
+      ∙ same_copies limits first inputs more batches report is longer left.from left.to;
   balances = is.balances;
 }
 

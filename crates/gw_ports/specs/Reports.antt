@@ -1,7 +1,8 @@
 -- What a run reports, in plain data: what became of each frame, and which batches were published. Lists by port have the ports
 -- in ascending order, from 0 on; a list of batches, and one of frames, has the oldest first.
 use Rattle.std.specs.Prelude.{◌≡◌, ℕ, ◌+◌, ◌<◌, ◌≤◌, List, [], ◌∷◌, fold, length, map, reverse, take, slice_index_or}
-use Rattle.std.specs.Prelude.{Option, Some, None, IfSome, MatchOption, sum_by}
+use Rattle.std.specs.Prelude.{Option, Some, None, IfSome, MatchOption, All, filter, flat_map, not, replicate, sum_by, ◌++◌, ◌==◌}
+use Rattle.std.specs.Prelude.{if◌then◌else◌}
 use Rattle.std.specs.List.{range_with_len}
 use Rattle.std.specs.Iterator.{Drains, Yields}
 use Rattle.gw_board.specs.Refusals.{PortsBelow}
@@ -10,11 +11,14 @@ use Rattle.gw_board.specs.declared.refusals.ReplaceRefusal.TheVariants.{NoSuchPo
 use Rattle.gw_claims.specs.Claims.{is_local}
 use Rattle.gw_ledger.specs.Bounds.{Bounds}
 use Rattle.gw_ledger.specs.Ledgers.{AreBalanced, ledger_with}
-use Rattle.gw_ledger.specs.Ports.{IsPartOf}
+use Rattle.gw_ledger.specs.Ports.{has_port, IsPartOf}
+use Rattle.gw_ledger.specs.declared.ledger.OutLedger.{OutLedger}
+use Rattle.gw_ledger.specs.declared.outcome.FrameCopy.{FrameCopy}
 use Rattle.gw_ledger.specs.declared.outcome.Outcome.{Outcome}
 use Rattle.gw_policy.specs.Allowed.{allowed_ports}
 use Rattle.gw_policy.specs.Batches.{Pair}
 use Rattle.gw_ports.specs.Making.{nothing_counted}
+use Rattle.gw_ports.specs.Sending.{sent_with}
 use Rattle.gw_ports.specs.declared.refusals.OfferRefusal.{OfferRefusal}
 use Rattle.gw_ports.specs.declared.refusals.OfferRefusal.TheVariants.{FramesSpent, NoReading}
 use Rattle.gw_ports.specs.declared.running.RunReport.{RunReport}
@@ -28,6 +32,40 @@ outcomes_of report port = slice_index_or (map (λ outcomes. outcomes.items) repo
 
 abbrev pub stop_of : RunReport → ℕ → Option OfferRefusal
 stop_of report port = slice_index_or report.stops.items port None
+
+-- the copies that were taken out at a port, and those of them that are from one source
+abbrev pub copies_of : RunReport → ℕ → List FrameCopy
+copies_of report port = slice_index_or (map (λ copies. copies.items) report.out.items) port []
+
+abbrev pub from_port : ℕ → List FrameCopy → List FrameCopy
+from_port source copies = filter (λ copy. copy.from == source) copies
+
+-- the copies that the outcomes of a port's frames placed for a destination, in order and each once
+abbrev pub placed_copy : ℕ → ℕ → List ℕ → Outcome → List FrameCopy
+placed_copy source destination octets outcome =
+    if has_port destination outcome.placed then record { from = source; number = outcome.number; frame = octets } ∷ [] else []
+
+abbrev pub copies_to : ℕ → ℕ → List (List ℕ) → List Outcome → List FrameCopy
+copies_to source destination [] outcomes = []
+copies_to source destination (octets ∷ frames) [] = []
+copies_to source destination (octets ∷ frames) (outcome ∷ outcomes) =
+    placed_copy source destination octets outcome ++ copies_to source destination frames outcomes
+
+-- the lanes of a gateway, by source and then destination: one from each port to each other
+abbrev pub lanes_between : ℕ → List (ℕ × ℕ)
+lanes_between ports = flat_map
+    (λ source. map (λ to. (source, to)) (filter (λ to. not (to == source)) (range_with_len 0 ports)))
+    (range_with_len 0 ports)
+
+-- the counts of the copies that were taken out at a port
+abbrev pub nothing_sent : OutLedger
+nothing_sent = record { sent = replicate 16 0 }
+
+abbrev pub and_sent : OutLedger → FrameCopy → OutLedger
+and_sent ledger copy = sent_with ledger copy.from
+
+abbrev pub sent_by : List FrameCopy → OutLedger
+sent_by copies = fold and_sent nothing_sent copies
 
 -- the batches that were published in a run: the first one, and those after it that have a front
 abbrev pub batches_of : List Pair → List (List Pair) → RunReport → List (List Pair)
@@ -87,6 +125,10 @@ pub record IsReport (limits : Bounds) (first : List Pair) (inputs : List (List (
   pub front : report.report.front ≡ 1 + length report.fronts.items
   pub counted : report.report.ins.items
       ≡ map (λ outcomes. fold ledger_with nothing_counted outcomes.items) report.outcomes.items
+  pub sent : report.report.outs.items ≡ map (λ copies. sent_by copies.items) report.out.items
+  pub lanes : map (λ lane. (lane.from, lane.to)) report.report.lanes.items ≡ lanes_between limits.ports
+  pub copies : All (λ lane. from_port lane.from (copies_of report lane.to) ++ lane.left.items
+      ≡ copies_to lane.from lane.to (frames_of inputs lane.from) (outcomes_of report lane.from)) report.report.lanes.items
   pub balances : AreBalanced report.report.ins.items report.report.outs.items
       (sum_by (λ lane. length lane.left.items) report.report.lanes.items)
 
