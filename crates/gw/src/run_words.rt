@@ -74,7 +74,8 @@ pub fn run_words<'a>(alloc: Global) -> Result<Command<'a>, AllocError> {
             "Forwards the frames of a trace in threads, and tells what each port took and let leave",
         )
         .override_usage(
-            "gw run --ports N [--lane N] [--program LISTING] [--table P=FILE].. [--listing P=FILE].. [--lanes] [--progress] < TRACE",
+            "gw run --ports N [--lane N] [--program LISTING] [--table P=FILE].. [--listing P=FILE].. \
+            [--lanes] [--progress] < TRACE",
         )
         .after_help("Example: gw run --ports 2 --program '1,6 0 0 1,' < TRACE")
         .arg(ports)?

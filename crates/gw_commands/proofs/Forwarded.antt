@@ -50,12 +50,11 @@ at_own : (i port ports : ℕ) → port < ports → i % ports ≡ port
 at_own i port ports below own =
     let q = i / ports in
     floor_is (i + 1 + (ports - 1 - port)) (q + 1) ports 0
-    (later (q * ports) (i % ports) i port ports ((q + 1) * ports) (div-add-mod' i ports) own below (one_whole q ports)) (some
-    ports below)
+    (later (q * ports) (i % ports) i port ports ((q + 1) * ports) (div-add-mod' i ports) own below (one_whole q ports))
+    (some ports below)
     ∙ ap (λ n. n + 1)
-    (sym (floor_is (i + (ports - 1 - port)) q ports (ports - 1) (now (q * ports) (i % ports) i port ports (div-add-mod' i
-    ports) own below)
-    (less ports below)))
+    (sym (floor_is (i + (ports - 1 - port)) q ports (ports - 1)
+    (now (q * ports) (i % ports) i port ports (div-add-mod' i ports) own below) (less ports below)))
   where
     later : (x r i port ports y : ℕ) → x + r ≡ i → r ≡ port → port < ports → y ≡ x + ports → i + 1 + (ports - 1 - port) ≡ y + 0
     later x r i port ports y e own below more = omega arith

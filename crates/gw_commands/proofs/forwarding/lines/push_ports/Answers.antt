@@ -7,7 +7,8 @@ pub loop-port-preserved : goal.loop-port-preserved
 loop-port-preserved c =
     line_more (line_of c.args.ledgers.now) c.loop-port.port (string_bytes c.args.text.now) (string_bytes c.loop-port.text) _
     (string_bytes c.push_port.new.text) c.loop-port.invariant
-    (line_there c.args.ledgers.now c.loop-port.port _ (let below = c.loop-port-test.true in omega arith)) c.in_ok-push_port.ensures
+    (line_there c.args.ledgers.now c.loop-port.port _ (let below = c.loop-port-test.true in omega arith))
+    c.in_ok-push_port.ensures
 
 pub returns : goal.returns
 returns c =
