@@ -1,8 +1,8 @@
 /*
  * Times the gateway's machine beside libpcap's bpf_filter, and a table's rules beside its program: the same records, one
- * process, in turn; then the event machine, scripts, the assembler, and traces beside libpcap's reader. Prints tables in markdown.
- * Fails where two answers to the same question differ. With one word more, `tables`, `texts`, `traces` or `scripts`, it times that
- * alone.
+ * process, in turn; then the event machine, scripts, runs beside libpcap's reader and filter, the assembler, and traces beside
+ * libpcap's reader. Prints tables in markdown. Fails where two answers to the same question differ. With one word more, `tables`,
+ * `texts`, `traces`, `scripts` or `runs`, it times that alone.
  */
 #include "bench.h"
 
@@ -179,41 +179,38 @@ static bool time_rules(const char *name, const uint8_t (*records)[16])
     printf("| %zu | %.1f | %d of %d | %.1f | %.1f | %.1f | %.2f | %.2f |\n", length, (double)steps / RECORDS, passed, RECORDS,
            rules_best / frames, our_best / frames, their_best / frames, our_best / rules_best, our_best / their_best);
     return time_tables(text, text_length, records) && time_events(text, text_length, records)
-           && time_scripts(text, text_length, records);
+           && time_scripts(text, text_length, records) && time_runs(name, text, text_length, records);
 }
 
-/* Times scripts with the table of a file. */
-static bool time_scripts_of(const char *name, const uint8_t (*records)[16])
+/* One part alone, with the table of a file where it needs one. */
+static bool time_part(const char *part, const char *name, const uint8_t (*records)[16])
 {
     static char text[LONGEST_TEXT];
     size_t length = read_text(name, text);
-    return length == 0 ? is_refused(name, "no text") : time_scripts(text, length, records);
-}
-
-/* The tables of tables.c alone, with that of a file. */
-static bool time_tables_of(const char *name, const uint8_t (*records)[16])
-{
-    static char text[LONGEST_TEXT];
-    size_t length = read_text(name, text);
-    return length > 0 ? time_tables(text, length, records) : is_refused(name, "no text");
+    if (length == 0)
+        return is_refused(name, "no text");
+    if (strcmp(part, "tables") == 0)
+        return time_tables(text, length, records);
+    if (strcmp(part, "texts") == 0)
+        return time_texts();
+    if (strcmp(part, "traces") == 0)
+        return time_traces(records);
+    if (strcmp(part, "scripts") == 0)
+        return time_scripts(text, length, records);
+    if (strcmp(part, "runs") == 0)
+        return time_runs(name, text, length, records);
+    return is_refused(part, "no such part");
 }
 
 int main(int argc, char **argv)
 {
     static uint8_t records[RECORDS][16];
     if (argc != 2 && argc != 3) {
-        fprintf(stderr, "usage: bench TABLE.toml [tables|texts|traces|scripts]\n");
+        fprintf(stderr, "usage: bench TABLE.toml [tables|texts|traces|scripts|runs]\n");
         return 2;
     }
-    const char *alone = argc == 3 ? argv[2] : "";
     write_records(records);
-    if (strcmp(alone, "tables") == 0)
-        return time_tables_of(argv[1], records) ? 0 : 1;
-    if (strcmp(alone, "texts") == 0)
-        return time_texts() ? 0 : 1;
-    if (strcmp(alone, "traces") == 0)
-        return time_traces(records) ? 0 : 1;
-    if (strcmp(alone, "scripts") == 0)
-        return time_scripts_of(argv[1], records) ? 0 : 1;
+    if (argc == 3)
+        return time_part(argv[2], argv[1], records) ? 0 : 1;
     return time_programs(records) && time_rules(argv[1], records) && time_texts() && time_traces(records) ? 0 : 1;
 }

@@ -58,8 +58,15 @@ uint64_t steps_on(const struct bpf_insn *code, const uint8_t *record);
 /* Times `gw replay`, with the table of a text for sixteen ports. */
 bool time_scripts(const char *text, size_t length, const uint8_t (*records)[16]);
 
+/* Times `gw run`, with the table of a text, which a file of this name has, for each port. */
+bool time_runs(const char *name, const char *text, size_t length, const uint8_t (*records)[16]);
+
 /* Times the assembler. */
 bool time_texts(void);
+
+/* A trace of as many whole records as there is room for: these again and again, a tenth of a millisecond apart. */
+enum { TRACE_HEADER = 24, TRACE_RECORD_HEADER = 16 };
+size_t write_trace(uint8_t *trace, size_t room, const uint8_t (*records)[16]);
 
 /* Times the reading of traces of these records. */
 bool time_traces(const uint8_t (*records)[16]);

@@ -10,7 +10,7 @@
 #include <string.h>
 #include <time.h>
 
-enum { HEADER = 24, RECORD_HEADER = 16, TRACE = 100000000, PIECE = 65536, PORTS = 2, TRACE_REPEATS = 12 };
+enum { TRACE = 100000000, PIECE = 65536, PORTS = 2, TRACE_REPEATS = 12 };
 
 static double now(void)
 {
@@ -25,8 +25,7 @@ static void put(uint8_t **to, uint32_t number, int octets)
     *to += octets;
 }
 
-/* A trace of as many whole records as 100 MB hold: those of the bus again and again, a tenth of a millisecond apart. */
-static size_t write_trace(uint8_t *trace, const uint8_t (*records)[16])
+size_t write_trace(uint8_t *trace, size_t room, const uint8_t (*records)[16])
 {
     uint8_t *to = trace;
     put(&to, 0xa1b2c3d4, 4);
@@ -36,7 +35,7 @@ static size_t write_trace(uint8_t *trace, const uint8_t (*records)[16])
     put(&to, 0, 4);
     put(&to, 16, 4);
     put(&to, 227, 4);
-    for (uint32_t number = 0; to + RECORD_HEADER + 16 <= trace + TRACE; number++) {
+    for (uint32_t number = 0; to + TRACE_RECORD_HEADER + 16 <= trace + room; number++) {
         put(&to, number / 10000, 4);
         put(&to, number % 10000 * 100, 4);
         put(&to, 16, 4);
@@ -89,7 +88,7 @@ bool time_traces(const uint8_t (*records)[16])
     uint8_t *trace = malloc(TRACE);
     if (trace == NULL)
         return false;
-    size_t length = write_trace(trace, records);
+    size_t length = write_trace(trace, TRACE, records);
     double best[WAYS] = {1e30, 1e30, 1e30, 1e30};
     struct tally tallies[WAYS];
     for (int repeat = 0; repeat < TRACE_REPEATS; repeat++)

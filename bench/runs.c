@@ -1,0 +1,155 @@
+/*
+ * Times `gw run` beside libpcap's reader and filter, both as whole processes on the same file: a trace of four million frames of the
+ * vehicle's bus, on which libpcap runs `ret #1`, or the program of a table of 40 rules, on each frame and counts those that pass.
+ * `gw run` forwards them between 2 ports, and with the table also between 4, 8 and 16. Prints a table in markdown. Fails where a
+ * process fails, or `gw run` takes other than all frames.
+ */
+#define _GNU_SOURCE
+#include "bench.h"
+
+#include <stdio.h>
+#include <stdlib.h>
+#include <sys/resource.h>
+#include <sys/wait.h>
+#include <time.h>
+#include <unistd.h>
+
+enum { FRAMES = 4000000, RUN_REPEATS = 5 };
+
+static const char *const trace_name = "out/trace.pcap";
+
+/* What a process took: on the clock, and of all its threads' processors. */
+struct cost {
+    double clock;
+    double processors;
+};
+
+static double now(void)
+{
+    struct timespec t;
+    clock_gettime(CLOCK_MONOTONIC, &t);
+    return (double)t.tv_sec * 1e9 + (double)t.tv_nsec;
+}
+
+static double nanoseconds(struct timeval t)
+{
+    return (double)t.tv_sec * 1e9 + (double)t.tv_usec * 1e3;
+}
+
+static bool write_file(const uint8_t (*records)[16])
+{
+    size_t room = TRACE_HEADER + (size_t)FRAMES * (TRACE_RECORD_HEADER + 16);
+    uint8_t *trace = malloc(room);
+    FILE *file = fopen(trace_name, "wb");
+    if (trace == NULL || file == NULL)
+        return false;
+    size_t length = write_trace(trace, room, records);
+    bool is_written = fwrite(trace, 1, length, file) == length;
+    free(trace);
+    return fclose(file) == 0 && is_written;
+}
+
+/* libpcap's whole work, in a process of its own; its status tells whether it saw every frame. */
+static int filter_by_libpcap(const struct bpf_insn *code)
+{
+    char error[PCAP_ERRBUF_SIZE];
+    pcap_t *pcap = pcap_open_offline(trace_name, error);
+    if (pcap == NULL)
+        return 1;
+    struct pcap_pkthdr *header;
+    const u_char *octets;
+    uint64_t frames = 0, passed = 0;
+    while (pcap_next_ex(pcap, &header, &octets) == 1) {
+        frames++;
+        passed += bpf_filter(code, octets, header->len, header->caplen) != 0;
+    }
+    pcap_close(pcap);
+    FILE *file = fopen("out/passed", "w");
+    if (file == NULL || fprintf(file, "%llu\n", (unsigned long long)passed) < 0 || fclose(file) != 0)
+        return 1;
+    return frames == FRAMES ? 0 : 1;
+}
+
+/* Runs a shell's command, or libpcap on a program where there is none, and tells what it cost. */
+static bool run_process(const char *command, const struct bpf_insn *code, struct cost *cost)
+{
+    struct rusage usage;
+    int status;
+    double start = now();
+    pid_t process = fork();
+    if (process < 0)
+        return false;
+    if (process == 0) {
+        if (command == NULL)
+            _exit(filter_by_libpcap(code));
+        execl("/bin/sh", "sh", "-c", command, (char *)NULL);
+        _exit(127);
+    }
+    if (wait4(process, &status, 0, &usage) != process)
+        return false;
+    *cost = (struct cost){now() - start, nanoseconds(usage.ru_utime) + nanoseconds(usage.ru_stime)};
+    return WIFEXITED(status) && WEXITSTATUS(status) == 0;
+}
+
+/* How many frames the ports took, as `gw run` says. */
+static uint64_t taken(void)
+{
+    FILE *file = fopen("out/counts", "r");
+    unsigned long long port, count, sum = 0;
+    if (file == NULL)
+        return 0;
+    while (fscanf(file, "port %llu taken %llu local %*u allowed %*u\n", &port, &count) == 2)
+        sum += count;
+    fclose(file);
+    return sum;
+}
+
+/* Both in turn; the least clock time of each counts, with the processor time of that run. */
+static bool time_pair(int ports, const char *policies, const struct bpf_insn *code, const char *name)
+{
+    char command[512];
+    struct cost ours = {1e30, 0}, theirs = {1e30, 0}, cost;
+    snprintf(command, sizeof command, "exec ../crates/gw/out/gw run --ports %d %s < %s > out/counts", ports, policies, trace_name);
+    for (int repeat = 0; repeat < RUN_REPEATS; repeat++) {
+        if (!run_process(command, NULL, &cost) || taken() != FRAMES)
+            return false;
+        ours = cost.clock < ours.clock ? cost : ours;
+        if (!run_process(NULL, code, &cost))
+            return false;
+        theirs = cost.clock < theirs.clock ? cost : theirs;
+    }
+    printf("| %s | %d | %.1f | %.1f | %.1f | %.1f | %.1f | %.2f |\n", name, ports, ours.clock / FRAMES, ours.processors / FRAMES,
+           ours.clock / FRAMES / (ports - 1), theirs.clock / FRAMES, theirs.processors / FRAMES, ours.clock / theirs.clock);
+    fflush(stdout);
+    return true;
+}
+
+/* The table of a file for each port, as words of `gw run`. */
+static void name_table(char *words, size_t room, const char *name, int ports)
+{
+    size_t at = 0;
+    for (int port = 0; port < ports; port++)
+        at += (size_t)snprintf(words + at, room - at, "--table %d=%s ", port, name);
+}
+
+bool time_runs(const char *name, const char *text, size_t length, const uint8_t (*records)[16])
+{
+    static struct bpf_insn code[LONGEST];
+    static const struct bpf_insn pass[] = {{0x06, 0, 0, 1}};
+    char words[400];
+    if (gw_bench_compile(text, length, code, LONGEST) == 0 || !write_file(records)) {
+        fprintf(stderr, "runs: no trace\n");
+        return false;
+    }
+    printf("\n| policy | ports | `gw run`, ns a frame | its processors | ns a frame and other port | libpcap, ns a frame "
+           "| its processor | `gw run` / libpcap |\n|---|---|---|---|---|---|---|---|\n");
+    bool is_done = time_pair(2, "--program '1,6 0 0 1,'", pass, "`ret #1`");
+    for (int ports = 2; is_done && ports <= 16; ports *= 2) {
+        name_table(words, sizeof words, name, ports);
+        is_done = time_pair(ports, words, code, "the table");
+    }
+    if (!is_done)
+        fprintf(stderr, "runs: a process failed, or frames are missing\n");
+    remove(trace_name);
+    return is_done;
+}
