@@ -20,7 +20,7 @@ static void run_libpcap(const struct bpf_insn *code, const uint8_t (*records)[16
             answers[i] = bpf_filter(code, records[i], 16, 16);
 }
 
-static double now(void)
+double now(void)
 {
     struct timespec t;
     clock_gettime(CLOCK_MONOTONIC, &t);

@@ -37,6 +37,9 @@ struct tally {
 bool gw_bench_shares(const uint8_t *octets, size_t length, size_t ports, struct tally *tally);
 bool gw_bench_feed(const uint8_t *octets, size_t length, size_t piece, struct tally *tally);
 
+/* The time by the clock, in nanoseconds. */
+double now(void);
+
 struct program {
     const char *name;
     size_t length;

@@ -5,16 +5,8 @@
 #include "bench.h"
 
 #include <stdio.h>
-#include <time.h>
 
 enum { EVENT_REPEATS = 10, STEP_REPEATS = 200, STEP_ROUNDS = 100 };
-
-static double now(void)
-{
-    struct timespec t;
-    clock_gettime(CLOCK_MONOTONIC, &t);
-    return (double)t.tv_sec * 1e9 + (double)t.tv_nsec;
-}
 
 /* The least time of a call, in nanoseconds. */
 static double events_time(const char *text, size_t length, const uint8_t (*records)[16], bool run, size_t *events)

@@ -11,7 +11,6 @@
 #include <stdlib.h>
 #include <sys/resource.h>
 #include <sys/wait.h>
-#include <time.h>
 #include <unistd.h>
 
 enum { FRAMES = 4000000, RUN_REPEATS = 5 };
@@ -23,13 +22,6 @@ struct cost {
     double clock;
     double processors;
 };
-
-static double now(void)
-{
-    struct timespec t;
-    clock_gettime(CLOCK_MONOTONIC, &t);
-    return (double)t.tv_sec * 1e9 + (double)t.tv_nsec;
-}
 
 static double nanoseconds(struct timeval t)
 {
@@ -104,12 +96,17 @@ static uint64_t taken(void)
     return sum;
 }
 
+/* What a run finds in its environment: nothing, or that glibc asks the system for large pages. */
+static const char *const plain = "";
+static const char *const large_pages = "GLIBC_TUNABLES=glibc.malloc.hugetlb=1";
+
 /* Both in turn; the least clock time of each counts, with the processor time of that run. */
-static bool time_pair(int ports, const char *policies, const struct bpf_insn *code, const char *name)
+static bool time_pair(const char *settings, int ports, const char *policies, const struct bpf_insn *code, const char *name)
 {
-    char command[512];
+    char command[600];
     struct cost ours = {1e30, 0}, theirs = {1e30, 0}, cost;
-    snprintf(command, sizeof command, "exec ../crates/gw/out/gw run --ports %d %s < %s > out/counts", ports, policies, trace_name);
+    snprintf(command, sizeof command, "exec env %s ../crates/gw/out/gw run --ports %d %s < %s > out/counts", settings, ports,
+             policies, trace_name);
     for (int repeat = 0; repeat < RUN_REPEATS; repeat++) {
         if (!run_process(command, NULL, &cost) || taken() != FRAMES)
             return false;
@@ -143,10 +140,11 @@ bool time_runs(const char *name, const char *text, size_t length, const uint8_t 
     }
     printf("\n| policy | ports | `gw run`, ns a frame | its processors | ns a frame and other port | libpcap, ns a frame "
            "| its processor | `gw run` / libpcap |\n|---|---|---|---|---|---|---|---|\n");
-    bool is_done = time_pair(2, "--program '1,6 0 0 1,'", pass, "`ret #1`");
+    const char *all = "--program '1,6 0 0 1,'";
+    bool is_done = time_pair(plain, 2, all, pass, "`ret #1`") && time_pair(large_pages, 2, all, pass, "`ret #1`, large pages");
     for (int ports = 2; is_done && ports <= 16; ports *= 2) {
         name_table(words, sizeof words, name, ports);
-        is_done = time_pair(ports, words, code, "the table");
+        is_done = time_pair(plain, ports, words, code, "the table");
     }
     if (!is_done)
         fprintf(stderr, "runs: a process failed, or frames are missing\n");

@@ -7,18 +7,10 @@
 
 #include <stdio.h>
 #include <stdlib.h>
-#include <time.h>
 
 enum { PORTS = 16, LINES = 200000, SCRIPT_REPEATS = 10 };
 
 static const char *const command = "exec ../crates/gw/out/gw replay < out/script > out/answers 2> out/said";
-
-static double now(void)
-{
-    struct timespec t;
-    clock_gettime(CLOCK_MONOTONIC, &t);
-    return (double)t.tv_sec * 1e9 + (double)t.tv_nsec;
-}
 
 static void write_octets(FILE *file, const uint8_t *octets, size_t length)
 {

@@ -24,7 +24,7 @@ static uint64_t walk[WALK] __attribute__((aligned(PAGE)));
 static const char *const ways[WAYS] = {"index", "rule by rule", "program", "libpcap"};
 
 /* The processor time of this thread, which other work on the machine does not lengthen. */
-static double now(void)
+static double thread_now(void)
 {
     struct timespec t;
     clock_gettime(CLOCK_THREAD_CPUTIME_ID, &t);
@@ -96,14 +96,14 @@ static bool time_ways(const struct table *t, const uint8_t (*records)[16], doubl
     for (int way = 0; way < WAYS; way++) {
         double with = 1e30, without = 1e30;
         for (int repeat = 0; repeat < TABLE_REPEATS; repeat++) {
-            double start = now();
+            double start = thread_now();
             if (!judge(t, way, records, 0, verdicts[way]))
                 return false;
-            double between = now();
+            double between = thread_now();
             if (!judge(t, way, records, TABLE_ROUNDS, verdicts[way]))
                 return false;
             without = least(without, between - start);
-            with = least(with, now() - between);
+            with = least(with, thread_now() - between);
         }
         if (memcmp(verdicts[way], verdicts[0], sizeof verdicts[0]) != 0)
             return false;
@@ -145,7 +145,7 @@ static uint8_t *const first_page = (uint8_t *)walk, *const last_page = (uint8_t 
 static void at_fault(int number, siginfo_t *fault, void *context)
 {
     static double began;
-    double time = now();
+    double time = thread_now();
     uint8_t *at = fault->si_addr;
     (void)context;
     if (at >= first_page && at < first_page + PAGE) {
@@ -155,7 +155,7 @@ static void at_fault(int number, siginfo_t *fault, void *context)
     } else if (at >= last_page && at < last_page + PAGE) {
         mprotect(last_page, PAGE, PROT_READ | PROT_WRITE);
         mprotect(first_page, PAGE, PROT_NONE);
-        began = now();
+        began = thread_now();
     } else {
         signal(number, SIG_DFL);
     }
@@ -181,10 +181,10 @@ static double cold_libpcap_time(const struct bpf_insn **copies, const uint8_t (*
     *passed = 0;
     for (rounds_found = 0; rounds_found < COLD_ROUNDS; rounds_found++) {
         *passed += walked();
-        double start = now();
+        double start = thread_now();
         for (int i = 0; i < COPIES; i++)
             *passed += bpf_filter(copies[i], records[i], 16, 16) != 0;
-        found[rounds_found] = now() - start;
+        found[rounds_found] = thread_now() - start;
     }
     return median_found();
 }
@@ -237,9 +237,9 @@ static double load_time(const uint8_t *const *blocks, const uint32_t (*places)[L
     for (int repeat = 0; repeat < COLD_REPEATS; repeat++) {
         for (rounds_found = 0; rounds_found < COLD_ROUNDS; rounds_found++) {
             *sum += walked();
-            double start = now();
+            double start = thread_now();
             *sum += load(blocks, places, loads, apart);
-            found[rounds_found] = now() - start;
+            found[rounds_found] = thread_now() - start;
         }
         time = least(time, median_found());
     }

@@ -7,16 +7,8 @@
 
 #include <stdio.h>
 #include <stdlib.h>
-#include <time.h>
 
 enum { LONGEST_LINE = 64, TEXT_REPEATS = 50, PROGRAM_REPEATS = 5 };
-
-static double now(void)
-{
-    struct timespec t;
-    clock_gettime(CLOCK_MONOTONIC, &t);
-    return (double)t.tv_sec * 1e9 + (double)t.tv_nsec;
-}
 
 /* How many labels a text of so many instructions has: 2000 of 4096. */
 static size_t labels_of(size_t instructions)
