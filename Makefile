@@ -1,6 +1,7 @@
 # `rt` is the Rattle kit's command: it proves a crate, and builds only what is proved.
 
-# The main job: a record and a listing from crates/gw/stdin, one verdict out; and a stored trace, forwarded by a gateway of two ports.
+# The main job: a record and a listing from crates/gw/stdin, one verdict out; and a stored trace, forwarded by a gateway of two
+# ports.
 .PHONY: run
 run:
 	@cd crates/gw && rt run < stdin

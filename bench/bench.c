@@ -100,13 +100,15 @@ static bool time_program(const struct program *p, const uint8_t (*records)[16], 
 
 static bool time_programs(const uint8_t (*records)[16])
 {
-    static struct program programs[] = {{.name = "one PGN of one source"}, {.name = "the empty table"}, {.name = "57 rules"}, {.name = "256 rules"}};
+    static struct program programs[] = {
+        {.name = "one PGN of one source"}, {.name = "the empty table"}, {.name = "57 rules"}, {.name = "256 rules"}};
     double ratios = 0;
     write_filter(&programs[0]);
     write_empty_table(&programs[1]);
     write_rules(&programs[2]);
     write_long_table(&programs[3]);
-    printf("| program | instructions | run per frame | gw_machine, ns a frame | an instruction | libpcap, ns a frame | an instruction | ratio |\n");
+    printf("| program | instructions | run per frame | gw_machine, ns a frame | an instruction "
+           "| libpcap, ns a frame | an instruction | ratio |\n");
     printf("|---|---|---|---|---|---|---|---|\n");
     for (int n = 0; n < 4; n++)
         if (!time_program(&programs[n], records, &ratios))
@@ -174,7 +176,8 @@ static bool time_rules(const char *name, const uint8_t (*records)[16])
     if (passed < 0)
         return is_refused(name, "the answers differ");
     double frames = (double)RULE_ROUNDS * RECORDS;
-    printf("\n| instructions | run per frame | frames passed | rule by rule, ns a frame | gw_machine, ns a frame | libpcap, ns a frame | gw_machine / rule by rule | gw_machine / libpcap |\n");
+    printf("\n| instructions | run per frame | frames passed | rule by rule, ns a frame | gw_machine, ns a frame "
+           "| libpcap, ns a frame | gw_machine / rule by rule | gw_machine / libpcap |\n");
     printf("|---|---|---|---|---|---|---|---|\n");
     printf("| %zu | %.1f | %d of %d | %.1f | %.1f | %.1f | %.2f | %.2f |\n", length, (double)steps / RECORDS, passed, RECORDS,
            rules_best / frames, our_best / frames, their_best / frames, our_best / rules_best, our_best / their_best);

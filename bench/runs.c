@@ -1,8 +1,8 @@
 /*
- * Times `gw run` beside libpcap's reader and filter, both as whole processes on the same file: a trace of four million frames of the
- * vehicle's bus, on which libpcap runs `ret #1`, or the program of a table of 40 rules, on each frame and counts those that pass.
- * `gw run` forwards them between 2 ports, and with the table also between 4, 8 and 16. Prints a table in markdown. Fails where a
- * process fails, or `gw run` takes other than all frames.
+ * Times `gw run` beside libpcap's reader and filter, both as whole processes on the same file: a trace of four million frames of
+ * the vehicle's bus, on which libpcap runs `ret #1`, or the program of a table of 40 rules, on each frame and counts those that
+ * pass. `gw run` forwards them between 2 ports, and with the table also between 4, 8 and 16. Prints a table in markdown. Fails
+ * where a process fails, or `gw run` takes other than all frames.
  */
 #define _GNU_SOURCE
 #include "bench.h"

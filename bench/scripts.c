@@ -1,7 +1,7 @@
 /*
- * Times `gw replay` on a script of 200000 lines: sixteen ports, each with the table of a text, take the vehicle's records in turn,
- * step each frame to its end and send its copies. A time is that of the program from its start to its end, from a file to a file.
- * Prints a table in markdown. Fails where the program fails, or gives another number of answers.
+ * Times `gw replay` on a script of 200000 lines: sixteen ports, each with the table of a text, take the vehicle's records in
+ * turn, step each frame to its end and send its copies. A time is that of the program from its start to its end, from a file to
+ * a file. Prints a table in markdown. Fails where the program fails, or gives another number of answers.
  */
 #include "bench.h"
 

@@ -12,7 +12,10 @@
 #include <sys/mman.h>
 #include <time.h>
 
-enum { WAYS = 4, TABLE_REPEATS = 15, TABLE_ROUNDS = 200, COPIES = 512, COLD_ROUNDS = 101, COLD_REPEATS = 9, WALK = 1048576, PAGE = 4096 };
+enum { WAYS = 4, TABLE_REPEATS = 15, TABLE_ROUNDS = 200, COPIES = 512, COLD_ROUNDS = 101, COLD_REPEATS = 9 };
+
+/* What is walked: so many words, and the size of a page. */
+enum { WALK = 1048576, PAGE = 4096 };
 
 /* Loads are timed from blocks as large as the rules of a table of 40 and as its index, of so many a row at most. */
 enum { SMALL = 1536, LARGE = 12288, LINE = 64, LOADS = 4 };
@@ -37,19 +40,19 @@ static double least(double a, double b)
 }
 
 /*
- * Rules with ranges that overlap: no two that follow one another have the same range of groups, so the compiler shares no test between
- * them. The even ones hold for nearly all groups of most sources; the odd ones for six sources and a range of groups.
+ * Rules with ranges that overlap: no two that follow one another have the same range of groups, so the compiler shares no test
+ * between them. The even ones hold for nearly all groups of most sources; the odd ones for six sources and a range of groups.
  */
 size_t write_table(char *text, size_t room, int rules)
 {
     int length = snprintf(text, room, "default = \"block\"\n");
     for (int rule = 0; rule < rules; rule++) {
         int at = rule % 2 ? snprintf(text + length, room - (size_t)length,
-                                     "[[rule]]\naction = \"%s\"\npgn = [%d, %d]\nsource = [%d, %d]\n", rule % 3 ? "pass" : "block",
-                                     61184 + rule, 65500 - rule, rule % 64, rule % 64 + 5)
+                                     "[[rule]]\naction = \"%s\"\npgn = [%d, %d]\nsource = [%d, %d]\n",
+                                     rule % 3 ? "pass" : "block", 61184 + rule, 65500 - rule, rule % 64, rule % 64 + 5)
                           : snprintf(text + length, room - (size_t)length,
-                                     "[[rule]]\naction = \"pass\"\npgn = [%d, %d]\nsource = [0, %d]\ndestination = [0, %d]\n", rule,
-                                     262143 - rule, 150 + rule % 50, 100 + rule % 100);
+                                     "[[rule]]\naction = \"pass\"\npgn = [%d, %d]\nsource = [0, %d]\ndestination = [0, %d]\n",
+                                     rule, 262143 - rule, 150 + rule % 50, 100 + rule % 100);
         length += at;
     }
     return (size_t)length;
@@ -139,8 +142,8 @@ static double median_found(void)
 static uint8_t *const first_page = (uint8_t *)walk, *const last_page = (uint8_t *)(walk + WALK) - PAGE;
 
 /*
- * The library walks and judges in one call, so the walk's own pages tell when: the last is shut while a walk has not come to it, and
- * the first while verdicts are made. The fault at the last begins a round's verdicts, that at the first ends them.
+ * The library walks and judges in one call, so the walk's own pages tell when: the last is shut while a walk has not come to it,
+ * and the first while verdicts are made. The fault at the last begins a round's verdicts, that at the first ends them.
  */
 static void at_fault(int number, siginfo_t *fault, void *context)
 {
@@ -189,7 +192,7 @@ static double cold_libpcap_time(const struct bpf_insn **copies, const uint8_t (*
     return median_found();
 }
 
-/* The time of one verdict in each way with what it reads in no near cache: the median of the rounds, and the least of the repeats. */
+/* The time of one verdict in each way with what it reads in no near cache: the rounds' median, and the least of the repeats. */
 static bool time_cold(const struct table *t, const uint8_t (*records)[16], double *times)
 {
     static const struct bpf_insn *copies[COPIES];
@@ -285,7 +288,8 @@ static void print_line(int rules, const struct table *t, const double *times)
     printf(" %.2f | %.3f | %.2f |\n", times[0] / times[2], times[0] / times[3], times[0] / times[1]);
 }
 
-static bool time_kind(const char *kind, struct table *tables, const int *rules, int count, const uint8_t (*records)[16], bool cold)
+static bool time_kind(const char *kind, struct table *tables, const int *rules, int count, const uint8_t (*records)[16],
+                      bool cold)
 {
     printf("\n%s\n\n| rules | instructions |", kind);
     for (int way = 0; way < WAYS; way++)
