@@ -1,6 +1,7 @@
 -- What a run of a gateway tells.
 use Rattle.std.specs.Prelude.{◌≡◌, ℕ, List, [], ◌∷◌, map, Option, All}
-use Rattle.gw_board.specs.Ends.{Publishing, new_operator}
+use Rattle.gw_board.specs.Ends.{Board, Publishing, new_operator}
+use Rattle.gw_board.specs.Refusals.{MayPublish, PortsBelow}
 use Rattle.gw_ledger.specs.Bounds.{Bounds}
 use Rattle.gw_policy.specs.Batches.{Pair}
 use Rattle.gw_ports.specs.Ends.{Ingress, Egress}
@@ -47,6 +48,16 @@ pub record IsRun {S : Type 0} (steps : S → Option (List ℕ) → S → Type 0)
   pub stops_are : report.stops.items ≡ map (λ one. one.stop) done
   pub out_is : report.out.items ≡ map (λ one. one.out) taken
   pub closed : Closes closing (map (λ one. one.port) done) (map (λ one. one.port) taken) report.report
+
+-- why there was no run, or no report of one. Whether the first batch names a port that is not there is seen once the gateway is
+-- made, and before all else. 82 is want of memory alone: nothing else stands against the batch at a new operator
+abbrev pub RefusesRun : Bounds → List Pair → RunRefusal → Type 0
+RefusesRun limits first (NotMade why) = Unit {0}
+RefusesRun limits first NoSuchPort = ¬ PortsBelow limits.ports first
+RefusesRun limits first NotPublished = (board : Board) × MayPublish (new_operator board limits) first
+RefusesRun limits first OutOfMemory = PortsBelow limits.ports first
+RefusesRun limits first NoThread = PortsBelow limits.ports first
+RefusesRun limits first NoReading = PortsBelow limits.ports first
 
 abbrev pub run_refusal_number : RunRefusal → ℕ
 run_refusal_number (NotMade why) = make_refusal_number why

@@ -1,6 +1,7 @@
 //! Running a gateway in threads of its own.
 
-ghost use Rattle.std.specs.Prelude.{◌≡◌, ◌<◌, ℕ, List, [], All, Err, IfOk, length, map, slice_index, slice_index_or, vec_len};
+ghost use Rattle.std.specs.Prelude.{◌≡◌, ◌<◌, ◌⊎◌, ℕ, List, [], All, IfErr, IfOk, OnOk, length, map, slice_index, slice_index_or};
+ghost use Rattle.std.specs.Prelude.{vec_len};
 ghost use Rattle.std.specs.Vec.Iter.{into_iter_items, into_iter_len, into_iter_steps};
 ghost use Rattle.std.specs.Iterator.{UpTo};
 ghost use Rattle.std.specs.declared.vec.IntoIter.{IntoIter};
@@ -8,8 +9,8 @@ ghost use Rattle.std.specs.declared.alloc.Global.{Global};
 ghost use Rattle.gw_board.specs.Refusals.{PortsBelow};
 ghost use Rattle.gw_ports.specs.Ends.{Ingress};
 ghost use Rattle.gw_ports.specs.Reports.{IsReport, IsReportOf};
-ghost use Rattle.gw_ports.specs.Runs.{IsOpened, IsRun};
-ghost use Rattle.gw_ports.specs.declared.running.RunRefusal.TheVariants.{NoSuchPort};
+ghost use Rattle.gw_ports.specs.Runs.{IsOpened, IsRun, RefusesRun};
+ghost use Rattle.gw_ports.specs.declared.running.RunRefusal.TheVariants.{OutOfMemory};
 
 use crate::closing::CloseRefusal;
 use crate::{Gate, MakeRefusal, OfferRefusal, Parts, PortIn, Report, close, gateway};
@@ -127,7 +128,9 @@ pub fn run<R: Threads + Wait + Sync, G: Gate>(
         × (map into_iter_items made ≡ map (λ list. list.items) inputs.items)
         × IsRun into_iter_steps limits first made batches.items report) }
     ensures reported { IfOk result (IsReport limits first (map (λ list. list.items) inputs.items) batches.items) }
-    ensures refused { result ≡ Err NoSuchPort → ¬ PortsBelow limits.ports first }
+    ensures ports { OnOk result (PortsBelow limits.ports first) }
+    // Memory for the lists' iterators is wanted before the first batch is looked at.
+    ensures refused { IfErr result (λ why. (why ≡ OutOfMemory) ⊎ RefusesRun limits first why) }
 {
     let Ok((inputs, sizes)) = iterators(alloc, inputs) else {
         return Err(RunRefusal::OutOfMemory);
@@ -172,7 +175,8 @@ pub fn run_from<R: Threads + Wait + Sync, G: Gate, I: Iterator<Item = Frame> + S
         × UpTo (I.remaining (slice_index_or inputs.items k d)) (slice_index sizes.items k) }
     ensures ran { IfOk result (IsRun I.next_gives limits first inputs.items batches.items) }
     ensures reported { IfOk result (IsReportOf I.next_gives limits first inputs.items batches.items) }
-    ensures refused { result ≡ Err NoSuchPort → ¬ PortsBelow limits.ports first }
+    ensures ports { OnOk result (PortsBelow limits.ports first) }
+    ensures refused { IfErr result (RefusesRun limits first) }
 {
     let parts = match open(rt, alloc, limits, first) {
         Ok(parts) => parts,
@@ -231,16 +235,21 @@ pub fn run_from<R: Threads + Wait + Sync, G: Gate, I: Iterator<Item = Frame> + S
 /// The parts of a new gateway, each port of which knows the first batch.
 fn open<R: Wait>(rt: &R, alloc: Global, limits: Limits, first: Batch) -> Result<Parts, RunRefusal>
     ensures opened { IfOk result (λ parts. IsOpened limits first parts.operator parts.ins.items parts.outs.items) }
-    ensures refused { result ≡ Err NoSuchPort → ¬ PortsBelow limits.ports first }
+    ensures ports { OnOk result (PortsBelow limits.ports first) }
+    ensures refused { IfErr result (RefusesRun limits first) }
 {
     let mut parts = match gateway(alloc, limits) {
         Ok(parts) => parts,
         Err(why) => return Err(RunRefusal::NotMade(why)),
     };
+    // A new operator has published nothing, may publish one batch at least, and is not stopped.
+    let _versions = limits.versions();
     match parts.operator.replace(rt, first) {
         Ok(_) => {}
         Err(ReplaceRefusal::NoSuchPort(_)) => return Err(RunRefusal::NoSuchPort),
-        Err(_) => return Err(RunRefusal::NotPublished),
+        Err(ReplaceRefusal::OutOfMemory(_)) => return Err(RunRefusal::NotPublished),
+        Err(ReplaceRefusal::VersionsSpent(_)) => unreachable!(),
+        Err(ReplaceRefusal::Stopped(_)) => unreachable!(),
     }
     let told = parts.operator.tell();
     learn_all(&mut parts.ins, &told);
