@@ -11,10 +11,16 @@ pub mod Rooms
 pub mod SettlingAll
 pub mod Finishing
 pub mod OneGateway
+pub mod Elementwise
 pub mod Runs
 pub mod Opening
 pub mod Judged
 pub mod Copied
 pub mod Lanes
+pub mod ReportPublishing
+pub mod ReportOutcomes
+pub mod ReportLanes
+pub mod ReportCounts
 pub mod Reports
+pub mod ReportLists
 pub mod ReportExamples

@@ -3,7 +3,7 @@ use Rattle.std.proofs.lemmas.List.{length-map}
 use Rattle.std.proofs.lemmas.Result.{IfErr-weaker}
 use Rattle.gw_ports.specs.Runs.{RefusesRun}
 use Rattle.gw_ports.specs.declared.running.RunRefusal.TheVariants.{OutOfMemory}
-use Rattle.gw_ports.proofs.Reports.{answer_of_lists}
+use Rattle.gw_ports.proofs.ReportLists.{answer_of_lists}
 use Rattle.gw_ports.proofs.running.run.Goals as goal
 
 -- The lists are the inputs.
