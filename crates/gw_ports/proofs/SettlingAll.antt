@@ -1,14 +1,14 @@
 -- Settling what each port knows, port by port.
-use Rattle.std.proofs.Common.{◌≡◌, ◌∙◌, ℕ, ◌+◌, ◌<◌, ◌≤◌, List, [], ◌∷◌, Option, length, slice_set, get_or, ⊎_elim, sym, ap}
-use Rattle.std.proofs.Common.{subst, refl, arith}
+use Rattle.std.proofs.Common.{◌≡◌, ◌∙◌, ℕ, ◌+◌, ◌<◌, ◌≤◌, List, [], ◌∷◌, ◌++◌, Option, Vec, Global, length, drop, take, slice_set}
+use Rattle.std.proofs.Common.{get_or, ⊎_elim, sym, ap, subst, refl, arith}
 use mathlib.Core.List.{IsPrefix}
 use Rattle.std.proofs.lemmas.Bool.{cases_eq, cases_lt}
 use Rattle.std.specs.List.{All}
 use Rattle.std.proofs.lemmas.List.{get_or-map, get_or-set_same, get_or-set_other, get_or_default, length-map, length-set}
-use Rattle.std.proofs.lemmas.List.{same_lists}
+use Rattle.std.proofs.lemmas.List.{same_lists, with_items_is}
 use Rattle.gw_policy.specs.Batches.{Pair}
 use Rattle.gw_board.proofs.Prefixes.{prefix_self}
-use Rattle.gw_ports.specs.Ends.{Ingress}
+use Rattle.gw_ports.specs.Ends.{Ingress, Egress}
 use Rattle.gw_ports.specs.Closing.{KnowsMore, rows_of}
 use Rattle.gw_lanes.specs.Ends.{Inlet}
 
@@ -102,3 +102,44 @@ pub knew_less : (told : List (List Pair)) (ins now : List Ingress)
     → ((k : ℕ) (d : Ingress) → k < length ins → Settles told (get_or ins k d) (get_or now k d))
     → All (λ ingress. IsPrefix ingress.known told) ins
 knew_less told ins now settled = λ k d below. (settled k d below).1
+
+-- the ends out, which are as they were, are written back
+pub kept_out : (outs : Vec Egress Global) (prepared : List Egress) → prepared ≡ outs.items
+    → take outs.len (prepared ++ drop (length prepared) outs.items) ≡ outs.items
+kept_out outs prepared kept = with_items_is outs prepared (ap length kept ∙ sym outs.ok.0) ∙ kept
+
+-- the ports' list where a close lent it twice: what was prepared on is as it was, and what was settled after that is written back
+module _ (ins : Vec Ingress Global) (prepared lent now : List Ingress) (kept : prepared ≡ ins.items)
+    (is : lent ≡ take ins.len (prepared ++ drop (length prepared) ins.items)) (size : length now ≡ length lent) where
+  -- the list after the preparation
+  abbrev first_written : List Ingress
+  first_written = take ins.len (prepared ++ drop (length prepared) ins.items)
+
+  abbrev pub written : List Ingress
+  written = take ins.len (now ++ drop (length now) first_written)
+
+  kept_through : first_written ≡ ins.items
+  kept_through = with_items_is ins prepared (ap length kept ∙ sym ins.ok.0) ∙ kept
+
+  pub lent_is : lent ≡ ins.items
+  lent_is = is ∙ kept_through
+
+  pub as_many_settled : length now ≡ length ins.items
+  as_many_settled = size ∙ ap length lent_is
+
+  pub written_is : written ≡ now
+  written_is =
+      ap (λ (l : List Ingress). take ins.len (now ++ drop (length now) l)) kept_through
+      ∙ with_items_is ins now (as_many_settled ∙ sym ins.ok.0)
+
+  pub all_settled : (told : List (List Pair))
+      → ((k : ℕ) (d : Ingress) → k < length lent → Settles told (get_or lent k d) (get_or now k d))
+      → (k : ℕ) (d : Ingress) → k < length ins.items → Settles told (get_or ins.items k d) (get_or now k d)
+  all_settled told settled = subst
+      (λ (l : List Ingress). (k : ℕ) (d : Ingress) → k < length l → Settles told (get_or l k d) (get_or now k d)) lent_is settled
+
+  pub written_rows : (told : List (List Pair))
+      → ((k : ℕ) (d : Ingress) → k < length lent → Settles told (get_or lent k d) (get_or now k d))
+      → rows_of written ≡ rows_of ins.items
+  written_rows told settled =
+      ap rows_of written_is ∙ rows_stay told ins.items now as_many_settled (all_settled told settled)

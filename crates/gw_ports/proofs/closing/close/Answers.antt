@@ -14,7 +14,7 @@ use Rattle.gw_ports.specs.Closing.{AreLeft, AreRooms, KnowsMore, Match, columns_
 use Rattle.gw_ports.specs.declared.closing.LaneLeft.{LaneLeft}
 use Rattle.gw_ports.proofs.Balancing.{balanced}
 use Rattle.gw_ports.proofs.OneGateway.{lanes_match, of_board, whole_out}
-use Rattle.gw_ports.proofs.SettlingAll.{Settles, knew_less, rows_stay}
+use Rattle.gw_ports.proofs.SettlingAll.{all_settled, as_many_settled, knew_less, kept_out, lent_is, written_is, written_rows}
 use Rattle.gw_ports.proofs.closing.close.Goals as goal
 
 pub prepare-requires-clause-lanes : goal.prepare-requires-clause-lanes
@@ -42,22 +42,19 @@ returns-in_default-settle_all-clause-back c =
     let ins = c.args.parts.ins in
     let outs = c.args.parts.outs in
     let now = c.settle_all.new.ins in
+    let lent = c.deref_mut-3.result.now in
     let kept : c.prepare.new.ins ≡ ins.items = c.prepare.ensures.same.0 ∙ c.deref_mut.ensures.value in
     let kept_outs : c.prepare.new.outs ≡ outs.items = c.prepare.ensures.same.1 ∙ c.deref_mut-2.ensures.value in
-    let before : take ins.len (c.prepare.new.ins ++ drop (length c.prepare.new.ins) ins.items) ≡ ins.items =
-    with_items_is ins c.prepare.new.ins (ap length kept ∙ sym ins.ok.0) ∙ kept in
-    let lent : c.deref_mut-3.result.now ≡ ins.items = c.deref_mut-3.ensures.value ∙ before in
-    let size : length now ≡ length ins.items = c.settle_all.ensures.size ∙ ap length lent in
-    let after : take ins.len
-    (now ++ drop (length now) (take ins.len (c.prepare.new.ins ++ drop (length c.prepare.new.ins) ins.items))) ≡ now =
-    ap (λ l. take ins.len (now ++ drop (length now) l)) before ∙ with_items_is ins now (size ∙ sym ins.ok.0) in (
+    let same = lent_is ins c.prepare.new.ins lent now kept c.deref_mut-3.ensures.value c.settle_all.ensures.size in
+    let size = as_many_settled ins c.prepare.new.ins lent now kept c.deref_mut-3.ensures.value c.settle_all.ensures.size in
+    let after = written_is ins c.prepare.new.ins lent now kept c.deref_mut-3.ensures.value c.settle_all.ensures.size in (
       refl,
-      with_items_is outs c.prepare.new.outs (ap length kept_outs ∙ sym outs.ok.0) ∙ kept_outs,
+      kept_out outs c.prepare.new.outs kept_outs,
       ap length after ∙ size,
       (λ k d below.
           subst (λ (l : List Ingress). KnowsMore (slice_index_or ins.items k d) (slice_index_or l k d)) (sym after)
-          (subst (λ (l : List Ingress). KnowsMore (slice_index_or l k d) (slice_index_or now k d)) lent
-          (c.settle_all.ensures.more k d (let n = ap length lent in omega arith)))),
+          (subst (λ (l : List Ingress). KnowsMore (slice_index_or l k d) (slice_index_or now k d)) same
+          (c.settle_all.ensures.more k d (let n = ap length same in omega arith)))),
     )
 
 -- Settling leaves the lanes as they are, so that rows and columns still match, and the rooms are theirs.
@@ -69,26 +66,12 @@ finish_all-requires-clause-pairs c =
     let now = c.settle_all.new.ins in
     let told = c.tell-told.result.batches in
     let kept : c.prepare.new.ins ≡ ins.items = c.prepare.ensures.same.0 ∙ c.deref_mut.ensures.value in
-    let before : take ins.len (c.prepare.new.ins ++ drop (length c.prepare.new.ins) ins.items) ≡ ins.items =
-    with_items_is ins c.prepare.new.ins (ap length kept ∙ sym ins.ok.0) ∙ kept in
-    let lent : c.deref_mut-3.result.now ≡ ins.items = c.deref_mut-3.ensures.value ∙ before in
-    let size : length now ≡ length ins.items = c.settle_all.ensures.size ∙ ap length lent in
-    let after : take ins.len
-    (now ++ drop (length now) (take ins.len (c.prepare.new.ins ++ drop (length c.prepare.new.ins) ins.items))) ≡ now =
-    ap (λ l. take ins.len (now ++ drop (length now) l)) before ∙ with_items_is ins now (size ∙ sym ins.ok.0) in
-    let settled : (k : ℕ) (d : Ingress) → k < length ins.items
-    → Settles told (slice_index_or ins.items k d) (slice_index_or now k d) =
-    subst
-    (λ (l : List Ingress). (k : ℕ) (d : Ingress) → k < length l → Settles told (slice_index_or l k d) (slice_index_or now k d))
-    lent c.in-Ok-settle_all.ensures.settled in
-    let rows : rows_of (take ins.len
-    (now ++ drop (length now) (take ins.len (c.prepare.new.ins ++ drop (length c.prepare.new.ins) ins.items))))
-    ≡ rows_of ins.items =
-    ap rows_of after ∙ rows_stay told ins.items now size settled in
-    let kept_outs : c.prepare.new.outs ≡ outs.items = c.prepare.ensures.same.1 ∙ c.deref_mut-2.ensures.value in
+    let rows =
+    written_rows ins c.prepare.new.ins c.deref_mut-3.result.now now kept c.deref_mut-3.ensures.value
+    c.settle_all.ensures.size told c.in-Ok-settle_all.ensures.settled in
     let columns : map into_iter_items c.take_columns-columns.result.items ≡ columns_of outs.items =
     c.take_columns-columns.ensures
-    ∙ ap columns_of (with_items_is outs c.prepare.new.outs (ap length kept_outs ∙ sym outs.ok.0) ∙ kept_outs) in
+    ∙ ap columns_of (kept_out outs c.prepare.new.outs (c.prepare.ensures.same.1 ∙ c.deref_mut-2.ensures.value)) in
     subst (λ (r : List (List (Option Inlet))). Match r (map into_iter_items c.take_columns-columns.result.items)) (sym rows)
     (subst (λ (cs : List (List (Option Outlet))). Match (rows_of ins.items) cs) (sym columns)
     (lanes_match c.args.parts.operator ins.items outs.items c.requires))
@@ -100,26 +83,12 @@ finish_all-requires-clause-rooms c =
     let now = c.settle_all.new.ins in
     let told = c.tell-told.result.batches in
     let kept : c.prepare.new.ins ≡ ins.items = c.prepare.ensures.same.0 ∙ c.deref_mut.ensures.value in
-    let before : take ins.len (c.prepare.new.ins ++ drop (length c.prepare.new.ins) ins.items) ≡ ins.items =
-    with_items_is ins c.prepare.new.ins (ap length kept ∙ sym ins.ok.0) ∙ kept in
-    let lent : c.deref_mut-3.result.now ≡ ins.items = c.deref_mut-3.ensures.value ∙ before in
-    let size : length now ≡ length ins.items = c.settle_all.ensures.size ∙ ap length lent in
-    let after : take ins.len
-    (now ++ drop (length now) (take ins.len (c.prepare.new.ins ++ drop (length c.prepare.new.ins) ins.items))) ≡ now =
-    ap (λ l. take ins.len (now ++ drop (length now) l)) before ∙ with_items_is ins now (size ∙ sym ins.ok.0) in
-    let settled : (k : ℕ) (d : Ingress) → k < length ins.items
-    → Settles told (slice_index_or ins.items k d) (slice_index_or now k d) =
-    subst
-    (λ (l : List Ingress). (k : ℕ) (d : Ingress) → k < length l → Settles told (slice_index_or l k d) (slice_index_or now k d))
-    lent c.in-Ok-settle_all.ensures.settled in
-    let rows : rows_of (take ins.len
-    (now ++ drop (length now) (take ins.len (c.prepare.new.ins ++ drop (length c.prepare.new.ins) ins.items))))
-    ≡ rows_of ins.items =
-    ap rows_of after ∙ rows_stay told ins.items now size settled in
-    let kept_outs : c.prepare.new.outs ≡ outs.items = c.prepare.ensures.same.1 ∙ c.deref_mut-2.ensures.value in
+    let rows =
+    written_rows ins c.prepare.new.ins c.deref_mut-3.result.now now kept c.deref_mut-3.ensures.value
+    c.settle_all.ensures.size told c.in-Ok-settle_all.ensures.settled in
     let columns : map into_iter_items c.take_columns-columns.result.items ≡ columns_of outs.items =
     c.take_columns-columns.ensures
-    ∙ ap columns_of (with_items_is outs c.prepare.new.outs (ap length kept_outs ∙ sym outs.ok.0) ∙ kept_outs) in
+    ∙ ap columns_of (kept_out outs c.prepare.new.outs (c.prepare.ensures.same.1 ∙ c.deref_mut-2.ensures.value)) in
     let rooms = c.in-Ok.prepared.rooms.items in
     let made : AreRooms (lanes_of 0 (rows_of ins.items) (columns_of outs.items)) rooms =
     subst (λ (o : List Egress). AreRooms (lanes_of 0 (rows_of ins.items) (columns_of o)) rooms) c.deref_mut-2.ensures.value
@@ -137,26 +106,15 @@ returns-clause-closed c =
     let now = c.settle_all.new.ins in
     let told = c.tell-told.result.batches in
     let kept : c.prepare.new.ins ≡ ins.items = c.prepare.ensures.same.0 ∙ c.deref_mut.ensures.value in
-    let before : take ins.len (c.prepare.new.ins ++ drop (length c.prepare.new.ins) ins.items) ≡ ins.items =
-    with_items_is ins c.prepare.new.ins (ap length kept ∙ sym ins.ok.0) ∙ kept in
-    let lent : c.deref_mut-3.result.now ≡ ins.items = c.deref_mut-3.ensures.value ∙ before in
-    let size : length now ≡ length ins.items = c.settle_all.ensures.size ∙ ap length lent in
-    let after : take ins.len
-    (now ++ drop (length now) (take ins.len (c.prepare.new.ins ++ drop (length c.prepare.new.ins) ins.items))) ≡ now =
-    ap (λ l. take ins.len (now ++ drop (length now) l)) before ∙ with_items_is ins now (size ∙ sym ins.ok.0) in
-    let settled : (k : ℕ) (d : Ingress) → k < length ins.items
-    → Settles told (slice_index_or ins.items k d) (slice_index_or now k d) =
-    subst
-    (λ (l : List Ingress). (k : ℕ) (d : Ingress) → k < length l → Settles told (slice_index_or l k d) (slice_index_or now k d))
-    lent c.in-Ok-settle_all.ensures.settled in
-    let rows : rows_of (take ins.len
-    (now ++ drop (length now) (take ins.len (c.prepare.new.ins ++ drop (length c.prepare.new.ins) ins.items))))
-    ≡ rows_of ins.items =
-    ap rows_of after ∙ rows_stay told ins.items now size settled in
-    let kept_outs : c.prepare.new.outs ≡ outs.items = c.prepare.ensures.same.1 ∙ c.deref_mut-2.ensures.value in
+    let rows =
+    written_rows ins c.prepare.new.ins c.deref_mut-3.result.now now kept c.deref_mut-3.ensures.value
+    c.settle_all.ensures.size told c.in-Ok-settle_all.ensures.settled in
     let columns : map into_iter_items c.take_columns-columns.result.items ≡ columns_of outs.items =
     c.take_columns-columns.ensures
-    ∙ ap columns_of (with_items_is outs c.prepare.new.outs (ap length kept_outs ∙ sym outs.ok.0) ∙ kept_outs) in
+    ∙ ap columns_of (kept_out outs c.prepare.new.outs (c.prepare.ensures.same.1 ∙ c.deref_mut-2.ensures.value)) in
+    let settled =
+    all_settled ins c.prepare.new.ins c.deref_mut-3.result.now now kept c.deref_mut-3.ensures.value
+    c.settle_all.ensures.size told c.in-Ok-settle_all.ensures.settled in
     let lefts = c.finish_all.result.items in
     let published : told ≡ c.args.parts.operator.published = ap (λ t. t.batches) c.tell-told.ensures in
     let taken : c.in-Ok.prepared.ins.items ≡ map (λ (i : Ingress). i.ledger) ins.items =
