@@ -1,12 +1,14 @@
 -- Worked examples of what a run reports.
-use Rattle.std.proofs.Common.{◌≡◌, ℕ, true, false, List, [], ◌∷◌, Some, None, refl, arith}
+use Rattle.std.proofs.Common.{◌≡◌, ℕ, true, false, List, [], ◌∷◌, ◌++◌, Some, None, refl, arith}
+use Rattle.std.proofs.Math.ListN.{replicate}
 use Rattle.std.specs.List.{fold}
 use Rattle.gw_board.specs.declared.refusals.ReplaceRefusal.TheVariants.{VersionsSpent}
 use Rattle.gw_ledger.specs.Bounds.{Bounds}
 use Rattle.gw_ledger.specs.Ledgers.{ledger_with}
+use Rattle.gw_ledger.specs.declared.outcome.FrameCopy.{FrameCopy}
 use Rattle.gw_ledger.specs.declared.outcome.Outcome.{Outcome}
 use Rattle.gw_ports.specs.Making.{nothing_counted}
-use Rattle.gw_ports.specs.Reports.{EndsAt, RefusesNext}
+use Rattle.gw_ports.specs.Reports.{EndsAt, RefusesNext, copies_to, from_port, lanes_between, sent_by}
 use Rattle.gw_ports.specs.declared.refusals.OfferRefusal.TheVariants.{FramesSpent}
 
 -- a frame that was allowed to two ports, of which one had a full lane; and a local one
@@ -36,3 +38,40 @@ stopped_by_76 = (omega arith, refl)
 -- a third batch is refused with 75 where two may be published
 refused_by_75 : RefusesNext limits 2 [] (VersionsSpent [])
 refused_by_75 = (refl, (λ k d below. absurd (omega arith)), refl)
+
+-- the lanes of three ports, by source and then destination
+lanes_of_three : lanes_between 3 ≡ (0, 1) ∷ (0, 2) ∷ (1, 0) ∷ (1, 2) ∷ (2, 0) ∷ (2, 1) ∷ []
+lanes_of_three = refl
+
+-- a record that ports 0 and 1 of three offer twice. Between the two a replacement lets port 2 have nothing more
+abbrev twice : List (List ℕ)
+twice = frame 0 ∷ frame 0 ∷ []
+
+abbrev offered : ℕ → ℕ → List ℕ → Outcome
+offered number front to = record { number = number; front = front; local = false; allowed = to; placed = to }
+
+abbrev of_0 : List Outcome
+of_0 = offered 0 1 (1 ∷ 2 ∷ []) ∷ offered 1 2 (1 ∷ []) ∷ []
+
+abbrev of_1 : List Outcome
+of_1 = offered 0 1 (0 ∷ 2 ∷ []) ∷ offered 1 2 (0 ∷ []) ∷ []
+
+abbrev copy : ℕ → ℕ → FrameCopy
+copy source number = record { from = source; number = number; frame = frame 0 }
+
+from_0_to_1 : copies_to 0 1 twice of_0 ≡ copy 0 0 ∷ copy 0 1 ∷ []
+from_0_to_1 = refl
+
+from_0_to_2 : copies_to 0 2 twice of_0 ≡ copy 0 0 ∷ []
+from_0_to_2 = refl
+
+-- at port 2, where each of the others has one copy, whichever was taken out first
+from_1_to_2 : from_port 1 (copy 0 0 ∷ copy 1 0 ∷ []) ++ [] ≡ copies_to 1 2 twice of_1
+from_1_to_2 = refl
+
+-- where the second copy is left on the lane
+one_left : from_port 0 (copy 0 0 ∷ []) ++ copy 0 1 ∷ [] ≡ copies_to 0 1 twice of_0
+one_left = refl
+
+sent_from_0 : sent_by (copy 0 0 ∷ []) ≡ record { sent = 1 ∷ replicate 15 0 }
+sent_from_0 = refl
