@@ -1,4 +1,4 @@
-use Rattle.std.proofs.Common.{◌≡◌, ℕ, ◌<◌, ◌∙◌, ◌++◌, List, Option, drop, length, map, take, slice_index_or, sum_by, arith, ap}
+use Rattle.std.proofs.Common.{◌≡◌, ◌∙◌, List, Option, length, map, slice_index_or, sum_by, arith, ap}
 use Rattle.std.proofs.Common.{refl, sym, subst}
 use Rattle.std.specs.List.{All}
 use Rattle.std.specs.Vec.Iter.{into_iter_items}
