@@ -4,7 +4,7 @@ ghost use Rattle.std.specs.Prelude.{◌≡◌, ◌+◌, ◌≤◌, ◌++◌, ◌
 ghost use Rattle.gw_ledger.specs.declared.outcome.FrameCopy.{FrameCopy};
 
 use gw_ledger::FrameCopy;
-use rtrb::{Consumer, Producer, PushError};
+use rtrb::{Consumer, Producer};
 use std::marker::Model;
 
 /// The end on which copies are placed. Contracts see it as `Inlet`.
@@ -66,10 +66,11 @@ impl LaneIn {
             (λ _. self.new ≡ record self.old { placed = self.old.placed ++ copy ∷ [] })
             (λ back. (back ≡ copy) × (self.new ≡ self.old) × (self.old.room ≤ length self.old.placed)) }
     {
-        match self.producer.push(copy) {
-            Ok(()) => Ok(()),
-            Err(PushError::Full(back)) => Err(back),
+        if self.producer.is_full() {
+            return Err(copy);
         }
+        self.producer.push_reserved(copy);
+        Ok(())
     }
 }
 
