@@ -79,12 +79,16 @@ impl PortOut {
         ensures sent { MatchOption result (self.new ≡ self.old) (λ copy. (source : ℕ) × Sends source self.old copy self.new) }
     {
         let ports = self.lanes.len();
-        for step in 0..ports {
-            let source = (self.turn + step) % ports;
+        let mut source = self.turn;
+        'round: for _ in 0..ports {
+            if source >= ports {
+                source = 0;
+            }
             if let Some(copy) = self.next_from(source as u8) {
                 self.turn = source + 1;
                 return Some(copy);
             }
+            source += 1;
         }
         None
     }
