@@ -208,7 +208,14 @@ pub fn run_from<R: Threads + Wait + Sync, G: Gate, I: Iterator<Item = Frame> + S
             fronts,
         },
     };
-    let Some((taken, done, published)) = start_taking(rt, gate, takings, taken, feeding) else {
+    let Some((taken, done, published)) = start_taking(
+        rt,
+        gate,
+        limits.lane(),
+        takings,
+        taken,
+        feeding,
+    ) else {
         return Err(RunRefusal::NoThread);
     };
     let sources = sources.gather(done);

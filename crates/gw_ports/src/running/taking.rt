@@ -11,6 +11,7 @@ use super::publishing::{Published, Publishing};
 use crate::{Gate, PortOut};
 use gw_frame::Frame;
 use gw_ledger::FrameCopy;
+use std::hint::spin_loop;
 use std::marker::{Send, Sync};
 use std::snapshot::Snapshot;
 use std::sync::Wait;
@@ -29,7 +30,7 @@ impl Taking {
     ghost use Rattle.gw_ports.specs.Running.{HasTaken};
 
     // Takes copies until a round over the lanes that began after the last offer gave none.
-    fn take_all<R: Wait>(self, rt: &R, is_over: &AtomicBool) -> Taking
+    fn take_all<R: Wait>(self, rt: &R, is_over: &AtomicBool, lane: u32) -> Taking
         requires { self.out.items ≡ [] }
         ensures { HasTaken self.port result }
     {
@@ -40,10 +41,19 @@ impl Taking {
                 if is_last {
                     break;
                 }
+                pause(lane);
                 yield_now();
             }
         }
         Taking { port, out }
+    }
+}
+
+// Lets some copies gather, for about as long as an offer takes for each of half those that a lane has room for. A look at an empty
+// lane takes the lane's words from the thread that fills it, and takes time from whoever shares the core.
+fn pause(lane: u32) {
+    for _ in 0..lane {
+        spin_loop();
     }
 }
 
@@ -91,6 +101,7 @@ fn take_out<'s, E, R, G, I>(
     rt: &'s R,
     gate: &G,
     is_over: &'s AtomicBool,
+    lane: u32,
     mut ports: Vec<Taking>,
     all: Vec<Taking>,
     feeding: Feeding<I>,
@@ -127,12 +138,12 @@ where
                 promise,
                 move || -> Taking
                     requires { port.out.items ≡ [] }
-                { port.take_all(rt, is_over) },
+                { port.take_all(rt, is_over, lane) },
             ) else {
                 is_over.store(true, Ordering::SeqCst);
                 return None;
             };
-            let others = take_out(threads, rt, gate, is_over, ports, all, feeding);
+            let others = take_out(threads, rt, gate, is_over, lane, ports, all, feeding);
             let taken = thread.join(rt);
             let (mut all, done, published) = others?;
             all.push_reserved(taken);
@@ -141,10 +152,11 @@ where
     }
 }
 
-/// Starts all threads of a run, and joins them. None where no thread could be made.
+/// Starts all threads of a run, whose lanes have room for so many copies, and joins them. None where no thread could be made.
 pub(super) fn start_taking<R, G, I>(
     rt: &R,
     gate: &G,
+    lane: u32,
     ports: Vec<Taking>,
     all: Vec<Taking>,
     feeding: Feeding<I>,
@@ -181,6 +193,6 @@ where
                 × (vec_len feeding.publishing.batches ≤ vec_capacity feeding.publishing.fronts)
                 × All (λ t. t.out.items ≡ []) ports.items
                 × (all.items ≡ []) × (vec_len ports ≤ vec_capacity all) }
-        { take_out(threads, rt, gate, over, ports, all, feeding) },
+        { take_out(threads, rt, gate, over, lane, ports, all, feeding) },
     )
 }
