@@ -61,10 +61,14 @@ abbrev pub found_status : Result Answer Refusal → ℕ
 found_status (Ok answer) = 0
 found_status (Err refusal) = 1
 
--- the text for what was found was written, with its status; where a write failed, a beginning of it, with status 1
+-- a text was written, with the status `done`; where a write failed, a beginning of it, with status 1
+abbrev pub WritesText : List ℕ → ℕ → ℕ → Option (List ℕ) → Option (List ℕ) → Bool → Type 0
+WritesText text done status old new false = (status ≡ done) × Appends old new text
+WritesText text done status old new true = (status ≡ 1) × WritesPart old new text
+
+-- the text for what was found was written, with its status
 abbrev pub Writes : Result Answer Refusal → ℕ → Option (List ℕ) → Option (List ℕ) → Bool → Type 0
-Writes found status old new false = (status ≡ found_status found) × Appends old new (found_text found)
-Writes found status old new true = (status ≡ 1) × WritesPart old new (found_text found)
+Writes found status old new failed = WritesText (found_text found) (found_status found) status old new failed
 
 -- a command: `before` and `after` are what its reader has left, `old` and `new` what its writer took
 pub record Does (Answers : List ℕ → Answer → Type 0) (Refuses : List ℕ → Refusal → Type 0) (before after : Option (List ℕ))

@@ -2,7 +2,7 @@
 -- writer took.
 use Rattle.std.specs.Prelude.{◌≡◌, ℕ, ◌<◌, ◌⊎◌, ◌==◌, Bool, true, false, not, ◌&&◌, if◌then◌else◌, List, [], ◌∷◌, ◌++◌, length}
 use Rattle.std.specs.Prelude.{codes, decimal, map, slice_get, slice_index_or, Option, Some, None, Result, Ok, Err, MatchResult}
-use Rattle.std.specs.Prelude.{All}
+use Rattle.std.specs.Prelude.{All, Any}
 use Rattle.std.specs.Borrow.{Bor}
 use Rattle.std.specs.Option.{option_map_or}
 use Rattle.std.specs.List.{flat_map, count_by, range_with_len}
@@ -34,7 +34,8 @@ use Rattle.gw_commands.specs.declared.forwarding.Source.{Source}
 use Rattle.gw_commands.specs.declared.forwarding.Source.TheVariants as made_of
 use Rattle.gw_commands.specs.declared.forwarding.Source.TheVariants.{Opening, Program, Listing}
 use Rattle.gw_commands.specs.declared.refusal.Refusal.{Refusal}
-use Rattle.gw_commands.specs.declared.refusal.Refusal.TheVariants.{Trace, Run, Stopped, OutOfMemory}
+use Rattle.gw_commands.specs.declared.refusal.Refusal.TheVariants as refused
+use Rattle.gw_commands.specs.declared.refusal.Refusal.TheVariants.{Trace, Run, Stopped, TooMuchInput, OutOfMemory}
 use Rattle.gw_commands.specs.Commands.{Writes}
 use Rattle.gw_commands.specs.Tables.{IsTable, RefusesText}
 use Rattle.gw_replay.specs.Policies.{NamesProgram}
@@ -242,10 +243,28 @@ pub record AreNamed (named : List Named) (sources : List Source) : Type 0 where
   pub enough : length sources ≡ length named
   pub each : (k : ℕ) (d : Named) (e : Source) → k < length named → IsNamed (slice_index_or named k d) (slice_index_or sources k e)
 
+-- a name that stands for a file
+abbrev pub NamesFile : Named → Type 0
+NamesFile (word.Listing file) = Unit {0}
+NamesFile (word.Table file) = Unit {0}
+NamesFile _ = ⊥
+
+-- what refuses a file: a read of it failed, it has too many octets, or memory was wanting for what it holds
+abbrev pub RefusesFile : Refusal → Type 0
+RefusesFile refused.ReadFault = Unit {0}
+RefusesFile TooMuchInput = Unit {0}
+RefusesFile OutOfMemory = Unit {0}
+RefusesFile _ = ⊥
+
+-- what refuses the names: that of a file, where there is a name that stands for one; memory may be wanting in any case
+abbrev pub RefusesNamed : List Named → Refusal → Type 0
+RefusesNamed named OutOfMemory = Unit {0}
+RefusesNamed named refusal = Any NamesFile named × RefusesFile refusal
+
 -- the trace was forwarded under the policies of the sources that are named; or a file was refused, and nothing was read
 abbrev pub ForwardsNamed : Bounds → List Named → Bool → Option (List ℕ) → Option (List ℕ) → Bool → ℕ → Option (List ℕ)
     → Option (List ℕ) → Bool → ℕ → Type 0
 ForwardsNamed limits named lanes before after failed reads old new write_failed status =
     ((sources : List Source) × AreNamed named sources
     × Forwards limits sources lanes before after failed reads old new write_failed status)
-    ⊎ ((refusal : Refusal) × (after ≡ before) × Writes (Err refusal) status old new write_failed)
+    ⊎ ((refusal : Refusal) × RefusesNamed named refusal × (after ≡ before) × Writes (Err refusal) status old new write_failed)

@@ -1,8 +1,8 @@
 //! The files of policies that a command line names.
 
-ghost use Rattle.std.specs.Prelude.{◌≡◌, length, vec_len, false, IfOk};
+ghost use Rattle.std.specs.Prelude.{◌≡◌, length, vec_len, false, IfOk, IfErr};
 ghost use Rattle.gw_trace.specs.Tries.{inner_of, has_failed, reads_of};
-ghost use Rattle.gw_commands.specs.Forwarding.{AreNamed, ForwardsNamed};
+ghost use Rattle.gw_commands.specs.Forwarding.{AreNamed, ForwardsNamed, RefusesFile, RefusesNamed};
 
 use super::watching::Watch;
 use super::{Source, forward};
@@ -81,6 +81,7 @@ fn texts<R: Files, F: Write>(
     faults: &mut Tried<F>,
 ) -> Result<Vec<Vec<u8>>, Refusal>
     ensures count { IfOk result (λ texts. vec_len texts ≡ length named.now) }
+    ensures refused { IfErr result (RefusesNamed named.now) }
 {
     let mut texts = Vec::new(alloc);
     for port in 0..named.len() {
@@ -102,7 +103,9 @@ fn read_file<R: Files, F: Write>(
     port: usize,
     path: &str,
     faults: &mut Tried<F>,
-) -> Result<Vec<u8>, Refusal> {
+) -> Result<Vec<u8>, Refusal>
+    ensures { IfErr result RefusesFile }
+{
     let read = match fs::open(rt, path) {
         Ok(file) => read_input(alloc, &mut Tried::new(file)),
         Err(_) => Err(Refusal::ReadFault),

@@ -20,4 +20,4 @@ returns g c =
     )
 
 pub returns-in_default : goal.returns-in_default
-returns-in_default g c = inr (OutOfMemory, refl, c.respond-in_default.ensures)
+returns-in_default g c = inr (OutOfMemory, tt, refl, c.respond-in_default.ensures)
