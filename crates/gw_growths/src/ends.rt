@@ -4,9 +4,9 @@ ghost use Rattle.std.specs.Prelude.{IfOk};
 ghost use Rattle.gw_ports.specs.Making.{AreOfOneGateway};
 
 use crate::answer::Answer;
-use crate::call::{ENGINE_SPEED, PASS, batch_of, say_ready};
 use crate::fault::Fault;
 use crate::gateway::limits_of;
+use crate::inputs::{ENGINE_SPEED, PASS, batch_of, say_ready};
 use gw_board::{ReplaceRefusal, board};
 use gw_frame::Frame;
 use gw_lanes::lanes;

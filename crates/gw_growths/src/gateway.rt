@@ -3,8 +3,8 @@
 ghost use Rattle.std.specs.Prelude.{◌≡◌, IfOk};
 
 use crate::answer::Answer;
-use crate::call::{ENGINE_SPEED, PASS, PORT, batch_of, say_ready};
 use crate::fault::Fault;
+use crate::inputs::{ENGINE_SPEED, PASS, PORT, batch_of, say_ready};
 use gw_core::{Core, Event};
 use gw_frame::Frame;
 use gw_ledger::Limits;

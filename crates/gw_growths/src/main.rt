@@ -9,7 +9,10 @@ mod call;
 mod ends;
 mod fault;
 mod gateway;
+mod inputs;
+mod programs;
 mod runs;
+mod tables;
 mod traces;
 
 use call::Call;

@@ -4,8 +4,8 @@ ghost use Rattle.std.specs.Prelude.{◌≡◌, ◌≤◌, All, IfOk, vec_len};
 ghost use Rattle.std.specs.Iterator.{at_most};
 
 use crate::answer::Answer;
-use crate::call::{ENGINE_SPEED, PASS, batch_for, say_ready};
 use crate::fault::Fault;
+use crate::inputs::{ENGINE_SPEED, PASS, batch_for, say_ready};
 use gw_frame::Frame;
 use gw_ledger::Limits;
 use gw_policy::Batch;

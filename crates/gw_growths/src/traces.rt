@@ -1,8 +1,8 @@
 //! The calls that read traces.
 
 use crate::answer::Answer;
-use crate::call::say_ready;
 use crate::fault::Fault;
+use crate::inputs::say_ready;
 use gw_trace::{Trace, TraceRefusal, Tried, frames};
 use std::alloc::Global;
 use std::io::Write;

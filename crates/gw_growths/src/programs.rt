@@ -1,0 +1,98 @@
+//! The calls that read, check and write programs.
+
+use crate::answer::Answer;
+use crate::fault::Fault;
+use crate::inputs::{PASS, code_of, say_ready};
+use gw_insn::{read_listing, write_listing};
+use gw_text::{assemble, disassemble};
+use gw_verify::{Program, explain};
+use std::alloc::Global;
+use std::io::Write;
+
+/// `ldh [12]`, `jne #0x806, drop`, `ret #-1`, `drop: ret #0`.
+const LISTING: &str = "4,40 0 0 12,21 0 1 2054,6 0 0 4294967295,6 0 0 0,";
+
+/// The same as assembler text.
+const ASSEMBLER_TEXT: &str = "ldh [12]\njne #0x806, drop\nret #-1\ndrop: ret #0\n";
+
+/// The same, cut within instruction 2.
+const CUT_LISTING: &str = "4,40 0 0 12,21 0 1 2054,6 0 0 42949";
+
+/// A load of an unset word that no path reaches: accepted.
+const UNREACHABLE_LOAD: &str = "3,5 0 0 1,96 0 0 3,6 0 0 1,";
+
+/// A load, at place 2, of word 3, which one branch leaves unset: not accepted.
+const UNSET_WORD: &str = "4,21 0 1 0,2 0 0 3,96 0 0 3,22 0 0 0,";
+
+pub fn make_read_listing<W: Write>(alloc: Global, output: &mut W) -> Result<Answer, Fault> {
+    read(alloc, LISTING, output)
+}
+
+pub fn make_read_cut_listing<W: Write>(alloc: Global, output: &mut W) -> Result<Answer, Fault> {
+    read(alloc, CUT_LISTING, output)
+}
+
+fn read<W: Write>(alloc: Global, text: &str, output: &mut W) -> Result<Answer, Fault> {
+    say_ready(output)?;
+    Ok(match read_listing(alloc, text.as_bytes()) {
+        Ok(code) => Answer::Instructions(code.len()),
+        Err(why) => Answer::NoListing(why),
+    })
+}
+
+pub fn make_write_listing<W: Write>(alloc: Global, output: &mut W) -> Result<Answer, Fault> {
+    let code = code_of(alloc, LISTING)?;
+    say_ready(output)?;
+    Ok(match write_listing(alloc, &code) {
+        Ok(listing) => Answer::Listing(listing),
+        Err(_) => Answer::OutOfMemory,
+    })
+}
+
+pub fn make_check<W: Write>(alloc: Global, output: &mut W) -> Result<Answer, Fault> {
+    check(alloc, UNREACHABLE_LOAD, output)
+}
+
+pub fn make_check_unset_word<W: Write>(alloc: Global, output: &mut W) -> Result<Answer, Fault> {
+    check(alloc, UNSET_WORD, output)
+}
+
+fn check<W: Write>(alloc: Global, listing: &str, output: &mut W) -> Result<Answer, Fault> {
+    let code = code_of(alloc, listing)?;
+    let copy = code.clone()?;
+    say_ready(output)?;
+    Ok(match Program::check(alloc, code) {
+        Ok(program) => Answer::Accepted(program.len()),
+        Err(refused) => Answer::NotAccepted {
+            why: refused.why,
+            place: refused.place,
+            is_back: refused.code == copy,
+        },
+    })
+}
+
+pub fn make_explain<W: Write>(alloc: Global, output: &mut W) -> Result<Answer, Fault> {
+    let code = code_of(alloc, UNSET_WORD)?;
+    say_ready(output)?;
+    Ok(match explain(alloc, &code, 2, 3) {
+        Ok(path) => Answer::Path(path),
+        Err(_) => Answer::OutOfMemory,
+    })
+}
+
+pub fn make_assemble<W: Write>(alloc: Global, output: &mut W) -> Result<Answer, Fault> {
+    say_ready(output)?;
+    Ok(match assemble(alloc, ASSEMBLER_TEXT) {
+        Ok(code) => Answer::Instructions(code.len()),
+        Err(why) => Answer::NoAssembly(why),
+    })
+}
+
+pub fn make_disassemble<W: Write>(alloc: Global, output: &mut W) -> Result<Answer, Fault> {
+    let program = Program::check(alloc, code_of(alloc, PASS)?).map_err(|_| Fault::Unprepared)?;
+    say_ready(output)?;
+    Ok(match disassemble(alloc, &program) {
+        Ok(text) => Answer::Listing(text.into_bytes()),
+        Err(_) => Answer::OutOfMemory,
+    })
+}

@@ -1,0 +1,124 @@
+//! The calls that make policies of tables, and put policies in force.
+
+use crate::answer::Answer;
+use crate::fault::Fault;
+use crate::inputs::{ENGINE_SPEED, PASS, PORT, batch_of, say_ready};
+use gw_frame::Frame;
+use gw_policy::{Policy, PolicySet};
+use gw_table::{Table, compile};
+use std::alloc::Global;
+use std::io::Write;
+
+/// A table of two rules with one PGN.
+const TABLE: &str = r#"default = "pass"
+[[rule]]
+action = "pass"
+pgn = 61184
+source = 1
+[[rule]]
+action = "block"
+pgn = 61184
+"#;
+
+/// A table of sixteen rules: so many are judged by an index.
+const INDEXED: &str = r#"
+[[rule]]
+action = "pass"
+source = 0
+[[rule]]
+action = "pass"
+source = 1
+[[rule]]
+action = "pass"
+source = 2
+[[rule]]
+action = "pass"
+source = 3
+[[rule]]
+action = "pass"
+source = 4
+[[rule]]
+action = "pass"
+source = 5
+[[rule]]
+action = "pass"
+source = 6
+[[rule]]
+action = "pass"
+source = 7
+[[rule]]
+action = "pass"
+source = 8
+[[rule]]
+action = "pass"
+source = 9
+[[rule]]
+action = "pass"
+source = 10
+[[rule]]
+action = "pass"
+source = 11
+[[rule]]
+action = "pass"
+source = 12
+[[rule]]
+action = "pass"
+source = 13
+[[rule]]
+action = "pass"
+source = 14
+[[rule]]
+action = "pass"
+source = 15
+"#;
+
+/// `ret #0`.
+const BLOCK: &str = "1,6 0 0 0,";
+
+pub fn make_read_table<W: Write>(alloc: Global, output: &mut W) -> Result<Answer, Fault> {
+    say_ready(output)?;
+    Ok(match Table::read(alloc, TABLE) {
+        Ok(table) => Answer::Rules(table.rules().len()),
+        Err(why) => Answer::NoTable(why),
+    })
+}
+
+pub fn make_compile<W: Write>(alloc: Global, output: &mut W) -> Result<Answer, Fault> {
+    let table = Table::read(alloc, TABLE).map_err(|_| Fault::Unprepared)?;
+    say_ready(output)?;
+    Ok(match compile(alloc, &table) {
+        Ok(program) => Answer::Instructions(program.len()),
+        Err(_) => Answer::OutOfMemory,
+    })
+}
+
+pub fn make_from_table<W: Write>(alloc: Global, output: &mut W) -> Result<Answer, Fault> {
+    let table = Table::read(alloc, INDEXED).map_err(|_| Fault::Unprepared)?;
+    let (default, other) = (table.default(), table.other());
+    let rules = table.rules().to_vec(alloc)?;
+    say_ready(output)?;
+    Ok(match Policy::from_table(alloc, table) {
+        Ok(policy) => Answer::Instructions(policy.program().len()),
+        Err(back) => Answer::NoPolicy {
+            is_back: back.default() == default
+                && back.other() == other
+                && back.rules() == rules.as_slice(),
+        },
+    })
+}
+
+/// The set has one batch, which blocks, and is to absorb one that passes.
+pub fn make_absorb<W: Write>(alloc: Global, output: &mut W) -> Result<Answer, Fault> {
+    let frame = Frame::read(&ENGINE_SPEED).map_err(|_| Fault::Unprepared)?;
+    let mut set = PolicySet::new();
+    set.absorb(&batch_of(alloc, BLOCK)?)?;
+    let batch = batch_of(alloc, PASS)?;
+    say_ready(output)?;
+    Ok(match set.absorb(&batch) {
+        Ok(()) => Answer::InForce {
+            front: set.front(),
+            passes: set.verdict(PORT, &frame, 0),
+        },
+        Err(_) => Answer::OutOfMemory,
+    })
+}
