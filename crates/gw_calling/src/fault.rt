@@ -1,13 +1,15 @@
-//! Why there is no verdict.
+//! Why there is no verdict, or no outcome.
 
+use gw_board::ReplaceRefusal;
 use gw_frame::FrameRefusal;
 use gw_insn::ListRefusal;
+use gw_ports::{CloseRefusal, MakeRefusal, OfferRefusal};
 use gw_table::TableRefusal;
 use gw_verify::Cause;
 use std::fmt::{Display, Formatter};
 use std::{fmt, io};
 
-/// Why there is no verdict.
+/// Why there is no verdict, or no outcome.
 #[derive(Drop, Debug)]
 pub enum Fault {
     /// 1 to 4: octets that are no record.
@@ -20,6 +22,14 @@ pub enum Fault {
     Table(TableRefusal),
     /// 100: memory was refused for a policy, or for an owner of one.
     OutOfMemory,
+    /// 71, 80 or 83: the memory for a gateway was refused.
+    NotMade(MakeRefusal),
+    /// 75, 81, 82 or 84: a batch that was not published.
+    NotPublished(ReplaceRefusal),
+    /// 76 or 77: a frame that was not taken.
+    NotTaken(OfferRefusal),
+    /// 77 or 85: a gateway that was not closed.
+    NotClosed(CloseRefusal),
     /// A write failed.
     WriteFailed,
 }
@@ -44,6 +54,22 @@ impl Display for Fault {
                 write!(f, "refused {number}")
             }
             Fault::OutOfMemory => f.write_str("refused 100"),
+            Fault::NotMade(why) => {
+                let number = why.number();
+                write!(f, "refused {number}")
+            }
+            Fault::NotPublished(why) => {
+                let number = why.number();
+                write!(f, "refused {number}")
+            }
+            Fault::NotTaken(why) => {
+                let number = why.number();
+                write!(f, "refused {number}")
+            }
+            Fault::NotClosed(why) => {
+                let number = why.number();
+                write!(f, "refused {number}")
+            }
             Fault::WriteFailed => f.write_str("a write failed"),
         }
     }

@@ -1,6 +1,6 @@
 //! Two policies in force, and what they say of a frame.
 
-ghost use Rattle.std.specs.Prelude.{◌≡◌, IfOk, IfErr};
+ghost use Rattle.std.specs.Prelude.{◌≡◌, ◌∷◌, [], IfOk, IfErr};
 ghost use Rattle.gw_calling.specs.declared.fault.Fault.TheVariants.{OutOfMemory};
 ghost use Rattle.gw_calling.specs.Calls.{IsInForce, IsPolicyFault, AreVerdicts, IsFault};
 
@@ -60,6 +60,18 @@ fn shared(alloc: Global, policy: Policy) -> Result<Arc<Policy>, Fault>
         Ok(shared) => Ok(shared),
         Err(_) => Err(Fault::OutOfMemory),
     }
+}
+
+/// A batch of one policy, for a port.
+pub fn batch_for(alloc: Global, port: u8, policy: Policy) -> Result<Batch, Fault>
+    ensures batch { IfOk result (λ batch. batch ≡ record { port = port; policy = policy } ∷ []) }
+    ensures refused { IfErr result (λ fault. fault ≡ OutOfMemory) }
+{
+    let mut batch = Batch::new();
+    let Ok(()) = batch.add(port, shared(alloc, policy)?) else {
+        unreachable!()
+    };
+    Ok(batch)
 }
 
 /// Where a record's frame leaves that was taken at port 0: at port 1 by what the listing's program answers, and at port 2

@@ -1,33 +1,42 @@
 //! How the crates are called: a listing and a table become policies, a batch puts both in force, and frames are judged.
 //!
 //! The program takes three frames at port 0 and tells which of them leave at port 1, whose policy is a program, and at port 2,
-//! whose policy is a table. docs/CALLING.md goes through it.
+//! whose policy is a table. Then it replaces the policy of port 1 between two offers of a frame. docs/CALLING.md goes through
+//! it.
 #![tactic(auto)]
 
 mod fault;
 mod gateway;
 mod policies;
+mod replacing;
 
 use fault::Fault;
-use gateway::judge;
+use gateway::{batch_for, judge};
+use gw_frame::Frame;
+use gw_ledger::Outcome;
+use policies::{program_policy, table_policy};
+use replacing::replace_between;
 use std::alloc::Global;
 use std::io::Write;
 use std::process::ExitCode;
+use std::sync::Wait;
 
 /// Passes the frames of PDU2 groups, whose PDU format, octet 1 of the record, is 240 or more.
 const PROGRAM: &[u8] = b"4,48 0 0 1,53 0 1 240,6 0 0 1,6 0 0 0,";
 
+/// The port whose policy is replaced.
+const PORT: u8 = 1;
+
 /// Passes engine hours alone.
 const TABLE: &str = "[[rule]]\naction = \"pass\"\npgn = 65253\n";
 
+const EEC1: [u8; 16] = [
+    0x8C, 0xF0, 0x04, 0x00, 8, 0, 0, 0, 0xFF, 0xFF, 0xFF, 0xE0, 0x2E, 0xFF, 0xFF, 0xFF,
+];
+
 /// EEC1 (61444), engine hours (65253) and a request (59904), as the engine and an instrument cluster send them.
 const RECORDS: [(&str, [u8; 16]); 3] = [
-    (
-        "EEC1",
-        [
-            0x8C, 0xF0, 0x04, 0x00, 8, 0, 0, 0, 0xFF, 0xFF, 0xFF, 0xE0, 0x2E, 0xFF, 0xFF, 0xFF,
-        ],
-    ),
+    ("EEC1", EEC1),
     (
         "engine hours",
         [
@@ -43,7 +52,7 @@ const RECORDS: [(&str, [u8; 16]); 3] = [
 ];
 
 fn main(rt: HostRuntime) -> ExitCode {
-    match tell(rt.alloc(), &mut rt.stdout()) {
+    match tell_all(&rt, rt.alloc(), &mut rt.stdout()) {
         Ok(()) => ExitCode::SUCCESS,
         Err(fault) => {
             let _ = writeln!(rt.stderr(), "{fault}");
@@ -52,8 +61,14 @@ fn main(rt: HostRuntime) -> ExitCode {
     }
 }
 
+/// Writes what becomes of the records, and of a frame around a replacement.
+fn tell_all<R: Wait, W: Write>(rt: &R, alloc: Global, output: &mut W) -> Result<(), Fault> {
+    tell_verdicts(alloc, output)?;
+    tell_outcomes(rt, alloc, output)
+}
+
 /// Writes a line for each record: its name, and where it leaves.
-fn tell<W: Write>(alloc: Global, output: &mut W) -> Result<(), Fault> {
+fn tell_verdicts<W: Write>(alloc: Global, output: &mut W) -> Result<(), Fault> {
     for (name, octets) in &RECORDS {
         let verdicts = judge(alloc, PROGRAM, TABLE, octets)?;
         let by_program = verdict_word(verdicts.by_program);
@@ -65,4 +80,35 @@ fn tell<W: Write>(alloc: Global, output: &mut W) -> Result<(), Fault> {
 
 fn verdict_word(passes: bool) -> &'static str {
     if passes { "pass" } else { "block" }
+}
+
+/// Writes a line for each offer of EEC1: before the table that is port 1's policy is replaced by the program, and after.
+fn tell_outcomes<R: Wait, W: Write>(rt: &R, alloc: Global, output: &mut W) -> Result<(), Fault> {
+    let frame = Frame::read(&EEC1).map_err(|why| Fault::Record(why))?;
+    let table = batch_for(alloc, PORT, table_policy(alloc, TABLE)?)?;
+    let program = batch_for(alloc, PORT, program_policy(alloc, PROGRAM)?)?;
+    let replaced = replace_between(rt, alloc, frame, table, program)?;
+    tell_outcome(&replaced.before, output)?;
+    tell_outcome(&replaced.after, output)
+}
+
+/// Writes the number of a frame, by how many batches it was judged, and for which ports a copy was placed.
+fn tell_outcome<W: Write>(outcome: &Outcome, output: &mut W) -> Result<(), Fault> {
+    let Outcome {
+        number,
+        front,
+        placed,
+        ..
+    } = *outcome;
+    write!(output, "frame {number}: front {front}, placed for")?;
+    if placed.len() == 0 {
+        write!(output, " none")?;
+    }
+    for port in 0..16 {
+        if placed.has(port) {
+            write!(output, " {port}")?;
+        }
+    }
+    writeln!(output, "")?;
+    Ok(())
 }
