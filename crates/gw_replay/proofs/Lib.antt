@@ -9,3 +9,6 @@ pub mod KeptLines
 pub mod Reaching
 pub mod Streams
 pub mod Answering
+pub mod OneListing
+pub mod OneRead
+pub mod OneAnswer

@@ -4,6 +4,7 @@
 mod command;
 mod fault;
 mod hex_record;
+mod laws;
 mod line;
 mod lines;
 mod number;
@@ -15,4 +16,5 @@ mod script;
 mod whole;
 
 pub use hex_record::{RecordFault, record};
+pub use laws::scripts_have_one_answer;
 pub use whole::{ReplayFault, replay, replay_told};

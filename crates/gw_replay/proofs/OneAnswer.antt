@@ -1,0 +1,132 @@
+-- A script has one text of answers, of which the answers of its first lines are the beginning.
+use Rattle.std.proofs.Common.{ℕ, ◌≡◌, List, [], ◌∷◌, ◌++◌, reverse, codes, Option, Some, None, Result, Ok, Err, refl, subst, sym}
+use Rattle.std.proofs.Common.{ap, ◌∙◌, append_assoc}
+use Rattle.std.proofs.lemmas.List.{append-nil, reverse-append}
+use Rattle.gw_core.specs.declared.event.Event.TheVariants as event
+use Rattle.gw_policy.specs.Filter.{Filter}
+use Rattle.gw_replay.specs.declared.fault.Fault.{Fault}
+use Rattle.gw_replay.specs.declared.hex_record.RecordFault.{RecordFault}
+use Rattle.gw_replay.specs.Faults.{line_of, refused_line}
+use Rattle.gw_replay.specs.Lines.{lines_of}
+use Rattle.gw_replay.specs.Requests.{Request, limits_of, program_of, table_of, publish_all, take_at, step_at, send_to, ledger_of}
+use Rattle.gw_replay.specs.Replies.{Session, Reply, Replies, after_event, after_taking, after_joining, joined_line}
+use Rattle.gw_replay.specs.Scripts.{Meaning, silent, wrong, asks, meaning_of, Told, Obeys, Answers, AreAnswers, IsAnswer}
+use Rattle.gw_replay.specs.Scripts.{BeginsAnswer}
+use Rattle.gw_replay.proofs.OneRead.{OneRefusal, told_policy, told_record, program_alone, table_alone, record_alone}
+
+-- what a script tells of a reply
+abbrev told_of : Reply → Told
+told_of reply = record { text = line_of reply.said; session = Some reply.session }
+
+-- what a script tells of a policy that was read: it joins the open batch, or the line of its refusal
+abbrev joined : Session → List ℕ → ℕ → Result Filter (List ℕ) → Told
+joined s line port (Ok filter) = told_of (after_joining s line port (Ok filter))
+joined s line port (Err text) = record { text = text; session = Some s }
+
+-- the reply to a policy depends on what was read only as far as a script tells that
+joins : (s : Session) (line : List ℕ) (port : ℕ) (read : Result Filter Fault)
+    → told_of (after_joining s line port read) ≡ joined s line port (told_policy read)
+joins s line port (Ok filter) = refl
+joins s line port (Err why) = refl
+
+-- so readings that are told alike have one reply
+join_alone : (s : Session) (line : List ℕ) (port : ℕ) (read other : Result Filter Fault) → told_policy read ≡ told_policy other
+    → told_of (after_joining s line port read) ≡ told_of (after_joining s line port other)
+join_alone s line port read other same =
+    joins s line port read ∙ ap (joined s line port) same ∙ sym (joins s line port other)
+
+-- what a script tells of a record that was read: the answer to its taking, or the number of its fault
+abbrev taken : Session → ℕ → Result (List ℕ) ℕ → Told
+taken s port (Ok octets) = told_of (after_event s (event.Take port octets))
+taken s port (Err number) = record { text = refused_line number []; session = Some s }
+
+-- the reply to a record depends on what was read only as far as a script tells that
+takes : (s : Session) (port : ℕ) (read : Result (List ℕ) RecordFault)
+    → told_of (after_taking s port read) ≡ taken s port (told_record read)
+takes s port (Ok octets) = refl
+takes s port (Err why) = refl
+
+-- so readings that are told alike have one reply
+take_alone : (s : Session) (port : ℕ) (read other : Result (List ℕ) RecordFault) → told_record read ≡ told_record other
+    → told_of (after_taking s port read) ≡ told_of (after_taking s port other)
+take_alone s port read other same = takes s port read ∙ ap (taken s port) same ∙ sym (takes s port other)
+
+-- a command has one reply
+replies_alone : OneRefusal → (s : Session) (request : Request) (p q : Reply) → Replies s request p → Replies s request q
+    → told_of p ≡ told_of q
+replies_alone law s (limits_of ports lane versions frames) p q h k = ap told_of (h ∙ sym k)
+replies_alone law s (program_of port listing) p q h k =
+    ap told_of h.2
+    ∙ join_alone s (joined_line (codes "program ") port) port h.0 k.0 (program_alone law listing h.0 k.0 h.1 k.1)
+    ∙ sym (ap told_of k.2)
+replies_alone law s (table_of port hex) p q h k =
+    ap told_of h.2
+    ∙ join_alone s (joined_line (codes "table ") port) port h.0 k.0 (table_alone hex h.0 k.0 h.1 k.1)
+    ∙ sym (ap told_of k.2)
+replies_alone law s publish_all p q h k = ap told_of (h ∙ sym k)
+replies_alone law s (take_at port hex) p q h k =
+    ap told_of h.2 ∙ take_alone s port h.0 k.0 (record_alone hex h.0 k.0 h.1 k.1) ∙ sym (ap told_of k.2)
+replies_alone law s (step_at port) p q h k = ap told_of (h ∙ sym k)
+replies_alone law s (send_to to from) p q h k = ap told_of (h ∙ sym k)
+replies_alone law s (ledger_of port) p q h k = ap told_of (h ∙ sym k)
+
+-- a line has one answer
+answers_alone : OneRefusal → (s : Option Session) (meaning : Meaning) (a b : Told) → Answers s meaning a → Answers s meaning b
+    → a ≡ b
+answers_alone law s silent a b h k = h ∙ sym k
+answers_alone law s (wrong fault) a b h k = h ∙ sym k
+answers_alone law s (asks request) a b h k = obeyed s h k
+  where
+    obeyed : (s : Option Session) → Obeys s request a → Obeys s request b → a ≡ b
+    obeyed None h k = h ∙ sym k
+    obeyed (Some s) h k = h.2 ∙ replies_alone law s request h.0 k.0 h.1 k.1 ∙ sym k.2
+
+-- what stands after one line more
+abbrev after_one : Told → Told → Told
+after_one earlier one = record { text = earlier.text ++ one.text; session = one.session }
+
+-- and so have all lines up to it
+lines_alone : OneRefusal → (lines : List (List ℕ)) (a b : Told) → AreAnswers lines a → AreAnswers lines b → a ≡ b
+lines_alone law [] a b h k = h ∙ sym k
+lines_alone law (line ∷ before) a b h k =
+    let earlier : h.0 ≡ k.0 = lines_alone law before h.0 k.0 h.2 k.2 in
+    let moved : Answers k.0.session (meaning_of line) h.1 =
+    subst (λ (e : Told). Answers e.session (meaning_of line) h.1) earlier h.3 in
+    let one : h.1 ≡ k.1 = answers_alone law k.0.session (meaning_of line) h.1 k.1 moved k.3 in
+    h.4 ∙ ap (λ (t : Told). after_one t h.1) earlier ∙ ap (after_one k.0) one ∙ sym k.4
+
+-- a script has one text of answers
+pub one_text : OneRefusal → (script text other : List ℕ) → IsAnswer script text → IsAnswer script other → text ≡ other
+one_text law script text other a b =
+    ap (λ (t : Told). t.text) (lines_alone law (reverse (lines_of script)) (record { text = text; session = a.session })
+    (record { text = other; session = b.session }) a.answers b.answers)
+
+-- the answers of more lines begin with those of the lines before them
+lines_behind : (later lines : List (List ℕ)) (a : Told) → AreAnswers (later ++ lines) a
+    → (earlier : Told) × AreAnswers lines earlier × ((rest : List ℕ) × (a.text ≡ earlier.text ++ rest))
+lines_behind [] lines a h = (a, h, ([], sym (append-nil a.text)))
+lines_behind (line ∷ later) lines a h =
+    let found = lines_behind later lines h.0 h.2 in
+    let rest = found.2.0 in (
+      found.0,
+      found.1,
+      (
+        rest ++ h.1.text,
+        ap (λ (t : Told). t.text) h.4
+            ∙ ap (λ (t : List ℕ). t ++ h.1.text) found.2.1
+            ∙ append_assoc found.0.text rest h.1.text,
+      ),
+    )
+
+-- what is answered to a script's first lines is the beginning of what is answered to it
+pub begins_text : OneRefusal → (script text whole : List ℕ) → BeginsAnswer script text → IsAnswer script whole
+    → (rest : List ℕ) × (whole ≡ text ++ rest)
+begins_text law script text whole b a =
+    let turned : reverse (lines_of script) ≡ reverse b.later ++ reverse b.first =
+    ap (λ (ls : List (List ℕ)). reverse ls) b.lines ∙ reverse-append b.first b.later in
+    let told : Told = record { text = whole; session = a.session } in
+    let found = lines_behind (reverse b.later) (reverse b.first) told
+    (subst (λ (ls : List (List ℕ)). AreAnswers ls told) turned a.answers) in
+    let same = ap (λ (t : Told). t.text) (lines_alone law (reverse b.first) found.0
+    (record { text = text; session = b.session }) found.1 b.answers) in
+    (found.2.0, found.2.1 ∙ ap (λ (t : List ℕ). t ++ found.2.0) same)
