@@ -40,7 +40,13 @@ fn main(rt: HostRuntime) -> ExitCode {
 }
 
 #[cfg(test)]
+mod command_tests;
+#[cfg(test)]
+mod program_tests;
+#[cfg(test)]
 mod run_tests;
+#[cfg(test)]
+mod run_word_tests;
 #[cfg(test)]
 mod stream_tests;
 #[cfg(test)]

@@ -1,81 +1,16 @@
-//! The command `run`: worked examples, refusals in their order, wrong words, and streams that fail.
+//! The command `run` on traces: worked examples, refusals in their order, and streams that fail.
 
-use crate::run_command::{Console, run_command};
+use crate::run_command::run_command;
 use crate::stream_tests::{Breaking, Filling};
-use crate::tests::Outcome;
+use crate::tests::{HEADER, SPEED, TWO_PORTS, run_outcome_of, runs, trace_of};
 use gw_trace::Tried;
-use std::alloc::{AllocError, Global};
-use std::marker::Sync;
-use std::path::PathBuf;
-use std::process::Abort;
-use std::rt::{Clock, Files};
-use std::sync::Wait;
 use std::test::Fail;
-use std::thread::Threads;
-use std::{env, fs};
 
-/// The little-endian header of a trace by microseconds, and that of a record of 16 octets.
-const HEADER: &[u8] = b"\xD4\xC3\xB2\xA1\x02\0\x04\0\0\0\0\0\0\0\0\0\0\0\x04\0\xE3\0\0\0";
-
-const RECORD: &[u8] = b"\0\0\0\0\0\0\0\0\x10\0\0\0\x10\0\0\0";
-
-/// The engine's speed (PGN 61444) from address 0, and a claim of address 128 by NAME 5.
-const SPEED: &[u8] = b"\x8C\xF0\x04\0\x08\0\0\0\xFF\xFF\xFF\xFF\xFF\xFF\xFF\xFF";
-
+/// A claim of address 128 by NAME 5.
 const CLAIM: &[u8] = b"\x98\xEE\xFF\x80\x08\0\0\0\x05\0\0\0\0\0\0\0";
 
 /// A frame to address 128.
 const TO_128: &[u8] = b"\x98\xEF\x80\x34\x08\0\0\0\xFF\xFF\xFF\xFF\xFF\xFF\xFF\xFF";
-
-/// The words of the worked example.
-const TWO_PORTS: &[&str] = &["run", "--ports", "2", "--program", "1,6 0 0 1,"];
-
-/// A trace of these records.
-fn trace_of(alloc: Global, records: &[&[u8]]) -> Result<Vec<u8>, AllocError> {
-    let mut trace = Vec::from_slice(alloc, HEADER)?;
-    for record in records {
-        trace.extend_from_slice(RECORD)?;
-        trace.extend_from_slice(record)?;
-    }
-    Ok(trace)
-}
-
-/// What `run_command` did.
-fn outcome_of<R>(rt: &R, alloc: Global, words: &[&str], input: &[u8]) -> Outcome
-where
-    R: Threads + Wait + Sync + Files + Clock + Eprint + Console,
-{
-    let mut output = Vec::new(alloc);
-    let mut faults = Vec::new(alloc);
-    let mut reader = input;
-    let status = run_command(
-        rt,
-        alloc,
-        words,
-        &mut Tried::new(&mut reader),
-        &mut Tried::new(&mut output),
-        &mut Tried::new(&mut faults),
-    );
-    Outcome {
-        status,
-        output,
-        faults,
-    }
-}
-
-/// Whether the words on an input give this status and this output.
-fn runs<R>(rt: &R, alloc: Global, words: &[&str], input: &[u8], status: u8, output: &str)
-where
-    R: Threads + Wait + Sync + Files + Clock + Eprint + Console + Abort,
-{
-    let outcome = outcome_of(rt, alloc, words, input);
-    assert_eq!(rt;
-        outcome.output.as_slice(),
-        output.as_bytes(),
-        "by {words:?}"
-    );
-    assert_eq!(rt; outcome.status, status, "by {words:?}");
-}
 
 #[test]
 fn runs_on_traces(rt: HostRuntime) -> Result<(), Fail> {
@@ -217,7 +152,7 @@ fn refuses(rt: HostRuntime) -> Result<(), Fail> {
     let mut long = Vec::from_slice(alloc, HEADER)?;
     long.extend_from_slice(b"\0\0\0\0\0\0\0\0\x11\0\0\0\x10\0\0\0")?;
     runs(&rt, alloc, TWO_PORTS, &long, 1, "refused 93 0 2\n");
-    let link = outcome_of(
+    let link = run_outcome_of(
         &rt,
         alloc,
         TWO_PORTS,
@@ -229,192 +164,6 @@ fn refuses(rt: HostRuntime) -> Result<(), Fail> {
         b"gw: the trace has another link type than 227 (LINKTYPE_CAN_SOCKETCAN)\n".as_slice()
     );
     Ok(())
-}
-
-/// A file of this name and text in the folder for such.
-fn file_of(rt: &HostRuntime, name: &str, text: &str) -> Result<PathBuf, Fail> {
-    let mut path = env::temp_dir(rt)?;
-    path.push(name)?;
-    fs::write(rt, &path, text)?;
-    Ok(path)
-}
-
-/// The word that names a file for a port.
-fn word_of(alloc: Global, port: &str, path: &PathBuf) -> Result<String, AllocError> {
-    let path = path.display();
-    format!(in alloc; "{port}={path}")
-}
-
-#[test]
-fn takes_policies_of_files(rt: HostRuntime) -> Result<(), Fail> {
-    let alloc = rt.alloc();
-    let trace = trace_of(alloc, &[SPEED, SPEED, SPEED])?;
-    let table = file_of(
-        &rt,
-        "gw_run_from_1.toml",
-        "[[rule]]\naction = \"pass\"\nfrom = 1\n",
-    )?;
-    let listing = file_of(&rt, "gw_run_block.listing", "1,6 0 0 0,\n")?;
-    let tables = word_of(alloc, "0", &table)?;
-    // What no option names keeps the opening block.
-    runs(
-        &rt,
-        alloc,
-        &["run", "--ports", "2", "--table", tables.as_str()],
-        &trace,
-        0,
-        "port 0 taken 2 local 0 allowed 0\nport 1 taken 1 local 0 allowed 1\n",
-    );
-    // A file stands in place of the program.
-    let listings = word_of(alloc, "1", &listing)?;
-    runs(
-        &rt,
-        alloc,
-        &[
-            "run",
-            "--ports",
-            "2",
-            "--program",
-            "1,6 0 0 1,",
-            "--listing",
-            listings.as_str(),
-        ],
-        &trace,
-        0,
-        "port 0 taken 2 local 0 allowed 0\nport 1 taken 1 local 0 allowed 1\n",
-    );
-    fs::remove_file(&rt, &table)?;
-    fs::remove_file(&rt, &listing)?;
-    Ok(())
-}
-
-/// Runs with a file for port 1 that is refused: this is the output, and a person is told which file it is.
-fn refuses_file<R>(
-    rt: &R,
-    alloc: Global,
-    option: &str,
-    path: &PathBuf,
-    output: &str,
-) -> Result<(), Fail>
-where
-    R: Threads + Wait + Sync + Files + Clock + Eprint + Console + Abort,
-{
-    let word = word_of(alloc, "1", path)?;
-    let refused = outcome_of(
-        rt,
-        alloc,
-        &["run", "--ports", "2", option, word.as_str()],
-        b"",
-    );
-    assert_eq!(rt; refused.status, 1);
-    assert_eq!(rt; refused.output.as_slice(), output.as_bytes());
-    let faults = str::from_utf8(refused.faults.as_slice())?;
-    let name = path.display();
-    let told = format!(in alloc; "of port 1, {name}, is refused:\n")?;
-    assert!(rt; faults.contains(told.as_str()), "told {faults}");
-    Ok(())
-}
-
-#[test]
-fn refuses_files(rt: HostRuntime) -> Result<(), Fail> {
-    let alloc = rt.alloc();
-    let range = file_of(
-        &rt,
-        "gw_run_range.toml",
-        "[[rule]]\naction = \"pass\"\nsource = 256\n",
-    )?;
-    let cut = file_of(&rt, "gw_run_cut.listing", "2,6 0 0 1,\n")?;
-    refuses_file(&rt, alloc, "--table", &range, "refused 53 0\n")?;
-    refuses_file(&rt, alloc, "--listing", &cut, "refused 11 1\n")?;
-    fs::remove_file(&rt, &range)?;
-    fs::remove_file(&rt, &cut)?;
-    let missing = outcome_of(
-        &rt,
-        alloc,
-        &["run", "--ports", "2", "--table", "1=no/such.toml"],
-        b"",
-    );
-    assert_eq!(rt; missing.output.as_slice(), b"refused 96\n".as_slice());
-    assert_eq!(rt;
-        missing.faults.as_slice(),
-        b"gw: the file of port 1, no/such.toml, is refused:\ngw: the input could not be read\n".as_slice()
-    );
-    Ok(())
-}
-
-#[test]
-fn wrong_words(rt: HostRuntime) {
-    let alloc = rt.alloc();
-    let wrong: [(&[&str], &str); 12] = [
-        (&["run"], "--ports"),
-        (&["run", "--ports", "2"], "no policy is given"),
-        (&["run", "--program", "1,6 0 0 1,"], "--ports"),
-        (
-            &["run", "--ports", "1", "--program", "1,6 0 0 1,"],
-            "2..=16",
-        ),
-        (
-            &["run", "--ports", "17", "--program", "1,6 0 0 1,"],
-            "2..=16",
-        ),
-        (
-            &[
-                "run",
-                "--ports",
-                "2",
-                "--lane",
-                "0",
-                "--program",
-                "1,6 0 0 1,",
-            ],
-            "1..=1024",
-        ),
-        (
-            &[
-                "run",
-                "--ports",
-                "2",
-                "--lane",
-                "1025",
-                "--program",
-                "1,6 0 0 1,",
-            ],
-            "1..=1024",
-        ),
-        (
-            &["run", "--ports", "2", "--table", "3=x"],
-            "`3=x` names no port of 2: write a number from 0 to 1 before the `=`",
-        ),
-        (
-            &["run", "--ports", "2", "--listing", "x"],
-            "`x` is no `P=FILE`",
-        ),
-        (
-            &["run", "--ports", "2", "--table", "1=x", "--listing", "1=y"],
-            "port 1 is named twice",
-        ),
-        (
-            &["run", "--ports", "2", "--table", "1=x", "--table", "1=y"],
-            "port 1 is named twice",
-        ),
-        (&["check"], "not the command `run`"),
-    ];
-    for (words, text) in wrong {
-        let refused = outcome_of(&rt, alloc, words, HEADER);
-        assert_eq!(rt; refused.status, 2, "by {words:?}");
-        assert!(rt; refused.output.is_empty(), "by {words:?}");
-        let faults = str::from_utf8(refused.faults.as_slice()).unwrap_or("");
-        assert!(rt; faults.contains(text), "by {words:?}: {faults}");
-    }
-}
-
-#[test]
-fn helps(rt: HostRuntime) {
-    let help = outcome_of(&rt, rt.alloc(), &["run", "--help"], b"");
-    assert_eq!(rt; help.status, 0);
-    let text = str::from_utf8(help.output.as_slice()).unwrap_or("");
-    assert!(rt; text.contains("gw run --ports 2 --program '1,6 0 0 1,' < TRACE"));
-    assert!(rt; help.faults.is_empty());
 }
 
 #[test]

@@ -121,8 +121,8 @@ fn asked<'a>(alloc: Global, run: &ArgMatches<'a>) -> Result<RunRequest<'a>, Erro
     }
     let others = program.map_or(Named::Opening, Named::Program);
     let mut named = vec![in alloc; others; limits.ports() as usize]?;
-    name_files(alloc, tables, true, &mut named)?;
-    name_files(alloc, listings, false, &mut named)?;
+    name_files(alloc, tables, FileKind::Table, &mut named)?;
+    name_files(alloc, listings, FileKind::Listing, &mut named)?;
     Ok(RunRequest {
         limits,
         named,
@@ -131,11 +131,18 @@ fn asked<'a>(alloc: Global, run: &ArgMatches<'a>) -> Result<RunRequest<'a>, Erro
     })
 }
 
-/// Names the files of tables, or those of listings, for their ports.
+/// What a file has that is named for a port.
+#[derive(Clone, Copy)]
+enum FileKind {
+    Table,
+    Listing,
+}
+
+/// Names files of a kind for their ports.
 fn name_files<'a>(
     alloc: Global,
     words: &[&'a str],
-    are_tables: bool,
+    kind: FileKind,
     named: &mut [Named<'a>],
 ) -> Result<(), Error>
     ensures { length named.new ≡ length named.old }
@@ -143,10 +150,9 @@ fn name_files<'a>(
     for word in words {
         let (port, file) = named_port(alloc, word, named)?;
         if let Some(place) = named.get_mut(port) {
-            *place = if are_tables {
-                Named::Table(file)
-            } else {
-                Named::Listing(file)
+            *place = match kind {
+                FileKind::Table => Named::Table(file),
+                FileKind::Listing => Named::Listing(file),
             };
         }
     }
