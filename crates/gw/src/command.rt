@@ -1,22 +1,24 @@
 //! The program's commands, over a reader and two writers.
 
 ghost use Rattle.std.specs.Prelude.{◌≡◌, length, false, None};
+ghost use Rattle.clap.specs.Values.{kind_of};
 ghost use Rattle.gw_trace.specs.Tries.{inner_of, has_failed, reads_of};
-ghost use Rattle.gw_commands.specs.Commands.{Does};
+ghost use Rattle.gw_commands.specs.Commands.{Does, WritesText};
 ghost use Rattle.gw_commands.specs.Verdicts.{AnswersVerdict, RefusesVerdict};
+ghost use Rattle.gw.specs.Asked.{AnswersWords, DoesAsked, DoesWords};
 
 use crate::run_words::wrong;
 use crate::words::{Request, read_words};
 use clap::Error;
 use clap::error::ErrorKind;
 use gw_commands::{Refusal, asm, check, claims, list, replay, respond, table, verdict};
-use gw_trace::{Tried, write_all};
+use gw_trace::{Tried, WriteFault, write_all};
 use std::alloc::Global;
 use std::convert::AsStr;
 use std::io::{Read, Write};
 
 /// Does what the words of a command line, without the program's name, ask for, and answers the exit status: 0 done,
-/// 1 refused or a write failed, 2 wrong words.
+/// 1 refused or a write failed, 2 wrong words. Which words ask for what no clause says but for no words.
 pub fn command<S: AsStr, R: Read, W: Write, F: Write>(
     alloc: Global,
     words: &[S],
@@ -30,34 +32,59 @@ pub fn command<S: AsStr, R: Read, W: Write, F: Write>(
     requires faults { has_failed faults.old ≡ false }
 
     // Without words: the record's line and the listing, judged for port 0.
-    ensures { length words.now ≡ 0 → Does (AnswersVerdict None 0) (RefusesVerdict None)
+    ensures first { length words.now ≡ 0 → Does (AnswersVerdict None 0) (RefusesVerdict None)
         (R.remaining (inner_of input.old)) (R.remaining (inner_of input.new)) (has_failed input.new)
         (W.contents (inner_of output.old)) (W.contents (inner_of output.new)) (has_failed output.new) result }
+    ensures does { DoesWords (R.remaining (inner_of input.old)) (R.remaining (inner_of input.new))
+        (has_failed input.new) (reads_of input.new)
+        (W.contents (inner_of output.old)) (W.contents (inner_of output.new)) (has_failed output.new)
+        (F.contents (inner_of faults.old)) (F.contents (inner_of faults.new)) (has_failed faults.new) result }
 {
     if words.is_empty() {
         return verdict(alloc, 0, None, input, output, faults);
     }
     match read_words(alloc, words) {
-        Ok(Request::Verdict { port, record }) => {
-            verdict(alloc, port, record, input, output, faults)
-        }
-        Ok(Request::Check) => check(alloc, input, output, faults),
-        Ok(Request::Asm) => asm(alloc, input, output, faults),
-        Ok(Request::List) => list(alloc, input, output, faults),
-        Ok(Request::Claims) => claims(alloc, input, output, faults),
-        Ok(Request::Replay) => replay(alloc, input, output, faults),
-        Ok(Request::Table { port, frame, why }) => {
-            table(alloc, port, frame, why, input, output, faults)
-        }
-        Ok(Request::Run) => {
-            let error = wrong(alloc, "`run` must be the first word");
-            answer_words(alloc, &error, output, faults)
-        }
+        Ok(request) => do_asked(alloc, request, input, output, faults),
         Err(error) => answer_words(alloc, &error, output, faults),
     }
 }
 
-/// Writes `clap`'s answer: help with status 0, or what is wrong with status 2.
+/// Does what is asked for. Words that name `run`, but not first, are wrong.
+fn do_asked<R: Read, W: Write, F: Write>(
+    alloc: Global,
+    request: Request,
+    input: &mut Tried<R>,
+    output: &mut Tried<W>,
+    faults: &mut Tried<F>,
+) -> u8
+    requires unread { reads_of input.old ≡ 0 }
+    requires input { has_failed input.old ≡ false }
+    requires output { has_failed output.old ≡ false }
+    requires faults { has_failed faults.old ≡ false }
+    ensures { DoesAsked request.entry (R.remaining (inner_of input.old)) (R.remaining (inner_of input.new))
+        (has_failed input.new) (reads_of input.new)
+        (W.contents (inner_of output.old)) (W.contents (inner_of output.new)) (has_failed output.new)
+        (F.contents (inner_of faults.old)) (F.contents (inner_of faults.new)) (has_failed faults.new) result }
+{
+    match request {
+        Request::Verdict { port, record } => verdict(alloc, port, record, input, output, faults),
+        Request::Check => check(alloc, input, output, faults),
+        Request::Asm => asm(alloc, input, output, faults),
+        Request::List => list(alloc, input, output, faults),
+        Request::Claims => claims(alloc, input, output, faults),
+        Request::Replay => replay(alloc, input, output, faults),
+        Request::Table { port, frame, why } => {
+            table(alloc, port, frame, why, input, output, faults)
+        }
+        Request::Run => {
+            let error = wrong(alloc, "`run` must be the first word");
+            answer_words(alloc, &error, output, faults)
+        }
+    }
+}
+
+/// Writes `clap`'s answer: help on the output with status 0, or what is wrong on the fault stream with status 2. The status is 1
+/// where the write failed, or memory was wanting for the text.
 pub fn answer_words<W: Write, F: Write>(
     alloc: Global,
     error: &Error,
@@ -66,19 +93,29 @@ pub fn answer_words<W: Write, F: Write>(
 ) -> u8
     requires output { has_failed output.old ≡ false }
     requires faults { has_failed faults.old ≡ false }
+    ensures { AnswersWords (kind_of error.now)
+        (W.contents (inner_of output.old)) (W.contents (inner_of output.new)) (has_failed output.new)
+        (F.contents (inner_of faults.old)) (F.contents (inner_of faults.new)) (has_failed faults.new) result }
 {
     let text = match format!(in alloc; "{error}") {
         Ok(text) if error.kind() != ErrorKind::OutOfMemory => text,
         _ => return respond(&Err(Refusal::OutOfMemory), output, faults),
     };
-    let written = if error.use_stderr() {
-        write_all(faults, text.as_str().as_bytes())
+    if error.use_stderr() {
+        write_text(faults, text.as_str(), 2)
     } else {
-        write_all(output, text.as_str().as_bytes())
-    };
-    match written {
-        Ok(()) if error.use_stderr() => 2,
-        Ok(()) => 0,
-        Err(_) => 1,
+        write_text(output, text.as_str(), 0)
+    }
+}
+
+/// Writes a text, and gives its status, or 1 where a write failed.
+fn write_text<W: Write>(writer: &mut Tried<W>, text: &str, done: u8) -> u8
+    requires { has_failed writer.old ≡ false }
+    ensures { WritesText text.now done result
+        (W.contents (inner_of writer.old)) (W.contents (inner_of writer.new)) (has_failed writer.new) }
+{
+    match write_all(writer, text.as_bytes()) {
+        Ok(()) => done,
+        Err(WriteFault) => 1,
     }
 }

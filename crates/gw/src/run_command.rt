@@ -1,7 +1,9 @@
 //! The command `run`, over a reader and two writers.
 
 ghost use Rattle.std.specs.Prelude.{◌≡◌, false, vec_len};
-ghost use Rattle.gw_trace.specs.Tries.{has_failed, reads_of};
+ghost use Rattle.gw_trace.specs.Tries.{inner_of, has_failed, reads_of};
+ghost use Rattle.gw_commands.specs.Forwarding.{ForwardsNamed};
+ghost use Rattle.gw.specs.Asked.{RunsWords};
 
 use crate::command::answer_words;
 use crate::run_words::{RunRequest, read_run};
@@ -28,7 +30,7 @@ impl Console for HostRuntime {
 }
 
 /// Does what the words of a command line, without the program's name, ask for, where they name the command `run`; other commands
-/// are wrong words. The exit status is as for `command`. It may wait.
+/// are wrong words. The exit status is as for `command`. Which words give which limits and names no clause says. It may wait.
 pub fn run_command<R, S, I, W, F>(
     rt: &R,
     alloc: Global,
@@ -47,6 +49,10 @@ where
     requires input { has_failed input.old ≡ false }
     requires output { has_failed output.old ≡ false }
     requires faults { has_failed faults.old ≡ false }
+    ensures { RunsWords (I.remaining (inner_of input.old)) (I.remaining (inner_of input.new))
+        (has_failed input.new) (reads_of input.new)
+        (W.contents (inner_of output.old)) (W.contents (inner_of output.new)) (has_failed output.new)
+        (F.contents (inner_of faults.old)) (F.contents (inner_of faults.new)) (has_failed faults.new) result }
 {
     match read_run(alloc, words) {
         Ok(run) => forward_asked(rt, alloc, &run, input, output, faults),
@@ -72,7 +78,9 @@ where
     requires unread { reads_of input.old ≡ 0 }
     requires input { has_failed input.old ≡ false }
     requires output { has_failed output.old ≡ false }
-    requires faults { has_failed faults.old ≡ false }
+    ensures { ForwardsNamed run.now.limits run.now.named.items run.now.lanes
+        (I.remaining (inner_of input.old)) (I.remaining (inner_of input.new)) (has_failed input.new) (reads_of input.new)
+        (W.contents (inner_of output.old)) (W.contents (inner_of output.new)) (has_failed output.new) result }
 {
     if run.progress || rt.is_watched() {
         let watch = Progress::new(rt);
