@@ -49,8 +49,8 @@ impl Taking {
     }
 }
 
-// Lets some copies gather, for about as long as an offer takes for each of half those that a lane has room for. A look at an empty
-// lane takes the lane's words from the thread that fills it, and takes time from whoever shares the core.
+// Lets copies gather before the next look, by as many pauses of the processor as a lane has room for. At most some half of a lane
+// fills meanwhile. A look at an empty lane takes the lane's words from the thread that fills it.
 fn pause(lane: u32) {
     for _ in 0..lane {
         spin_loop();
