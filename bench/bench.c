@@ -194,6 +194,8 @@ static bool time_part(const char *part, const char *name, const uint8_t (*record
         return is_refused(name, "no text");
     if (strcmp(part, "tables") == 0)
         return time_tables(text, length, records);
+    if (strcmp(part, "events") == 0)
+        return time_events(text, length, records);
     if (strcmp(part, "texts") == 0)
         return time_texts();
     if (strcmp(part, "traces") == 0)
