@@ -129,7 +129,8 @@ module _ (ports port : ℕ) (published : List (List Pair)) where
         knows = omega arith;
       }
 
-  judged_one : (heard : List (List ℕ)) (old : Ingress) (octets : List ℕ) (outcome : Outcome) (new : Ingress)
+  -- an outcome is judged by what the port knows afterwards, which begins what was published
+  pub judged_one : (heard : List (List ℕ)) (old : Ingress) (octets : List ℕ) (outcome : Outcome) (new : Ingress)
       → HasHeard heard old → Offered heard old octets outcome new → IsPrefix new.known published
       → IsJudged ports port published heard octets outcome
   judged_one heard old octets outcome new has offered begins =
