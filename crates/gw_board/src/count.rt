@@ -68,7 +68,7 @@ impl CountWriter {
     pub fn append(&mut self, count: u64) -> Result<(), u64>
         ensures { MatchResult result
             (λ _. self.new ≡ record self.old { pending = self.old.pending ++ count ∷ [] })
-            (λ _. self.new ≡ self.old) }
+            (λ back. (self.new ≡ self.old) × (back ≡ count)) }
     {
         self.writer.append(count)
     }

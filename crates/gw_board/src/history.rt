@@ -150,7 +150,7 @@ impl Prefix {
         ensures board { self.new.board ≡ self.old.board }
         ensures added { MatchBool result
             (self.new.batches ≡ self.old.batches ++ batch.now ∷ [])
-            (IsPrefix self.old.batches self.new.batches) }
+            (IsPrefix self.old.batches self.new.batches × (length self.old.batches < length self.new.batches)) }
     {
         let mut offer: Offer<Batch, u64, LengthRule, NoTrade> = self
             .seen
