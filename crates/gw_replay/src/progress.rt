@@ -142,6 +142,7 @@ impl Progress {
         ensures fault { IfErr result (λ e. e ≡ ReplayFault.WriteFault) }
         ensures script { self.new.script ≡ self.old.script }
         ensures kept { self.new.kept ≡ self.old.kept }
+        ensures lines { self.new.lines ≡ self.old.lines }
         ensures empty { OnOk result (self.new.answers.items ≡ []) }
     {
         match write_all(writer, self.answers.as_slice()) {
