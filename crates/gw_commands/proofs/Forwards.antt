@@ -9,7 +9,7 @@ use Rattle.gw_commands.specs.declared.answer.Answer.TheVariants.{Text}
 use Rattle.gw_commands.specs.declared.forwarding.Source.{Source}
 use Rattle.gw_commands.specs.declared.refusal.Refusal.{Refusal}
 use Rattle.gw_commands.specs.declared.refusal.Refusal.TheVariants.{Trace}
-use Rattle.gw_commands.specs.Forwarding.{IsFirst, IsForwardFound, IsRunOn, IsTraceInput, NoneStopped, RefusesRun}
+use Rattle.gw_commands.specs.Forwarding.{IsFirst, IsForwardFound, IsRunOn, IsTraceInput, NoneStopped, RefusesShares}
 use Rattle.gw_commands.specs.Forwarding.{report_lines}
 
 pub by_octets : (limits : Bounds) (sources : List Source) (lanes : Bool) (before after : Option (List ℕ)) (failed : Bool)
@@ -21,7 +21,7 @@ by_octets limits sources lanes before after failed reads first octets why polici
 
 pub by_run : (limits : Bounds) (sources : List Source) (lanes : Bool) (before after : Option (List ℕ)) (failed : Bool) (reads : ℕ)
     (first : List Pair) (octets : List ℕ) (frames : List (List ℕ)) (refusal : Refusal) → IsFirst sources first
-    → IsTraceInput before after failed octets → whole_trace octets ≡ Ok frames → RefusesRun limits first frames refusal
+    → IsTraceInput before after failed octets → whole_trace octets ≡ Ok frames → RefusesShares limits first frames refusal
     → IsForwardFound limits sources lanes before after failed reads (Err refusal)
 by_run limits sources lanes before after failed reads first octets frames refusal policies read whole wrong =
     inr (record { first = first; policies = policies; why = inr (octets, read, inr (frames, whole, wrong)) })

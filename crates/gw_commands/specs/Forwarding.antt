@@ -17,7 +17,7 @@ use Rattle.gw_ledger.specs.Bounds.{Bounds}
 use Rattle.gw_ledger.specs.Ports.{has_port}
 use Rattle.gw_ledger.specs.declared.ledger.InLedger.{InLedger}
 use Rattle.gw_ledger.specs.declared.outcome.Outcome.{Outcome}
-use Rattle.gw_ports.specs.Runs.{IsRun}
+use Rattle.gw_ports.specs.Runs.{IsRun, RefusesRun}
 use Rattle.gw_ports.specs.declared.refusals.OfferRefusal.{OfferRefusal}
 use Rattle.gw_ports.specs.declared.running.RunRefusal.TheVariants.{NoSuchPort}
 use Rattle.gw_ports.specs.declared.running.RunReport.{RunReport}
@@ -192,21 +192,21 @@ AnswersRun limits sources lanes before after failed (Text text) =
     IsForwarded limits sources lanes before after failed text.items
 AnswersRun limits sources lanes before after failed _ = ⊥
 
--- what refuses a run on these frames: that of the gateway's, or the least port's that stopped; memory may be wanting for the
--- shares and for the lines
-abbrev pub RefusesRun : Bounds → List Pair → List (List ℕ) → Refusal → Type 0
-RefusesRun limits first frames (Run NoSuchPort) = ⊥
-RefusesRun limits first frames (Run why) = Unit {0}
-RefusesRun limits first frames (Stopped port why) =
+-- what refuses a run on these frames: what refuses the gateway's run, but for a port that is not there, which no source names;
+-- or the least port's that stopped; memory may be wanting for the shares and for the lines
+abbrev pub RefusesShares : Bounds → List Pair → List (List ℕ) → Refusal → Type 0
+RefusesShares limits first frames (Run NoSuchPort) = ⊥
+RefusesShares limits first frames (Run why) = RefusesRun limits first why
+RefusesShares limits first frames (Stopped port why) =
     (report : RunReport) × IsRunOn limits first frames report × IsFirstStop report.stops.items port why
-RefusesRun limits first frames OutOfMemory = Unit {0}
-RefusesRun limits first frames _ = ⊥
+RefusesShares limits first frames OutOfMemory = Unit {0}
+RefusesShares limits first frames _ = ⊥
 
 -- what refuses the octets of a trace: what is wrong with them, or what refuses a run on their frames
 abbrev pub RefusesOctets : Bounds → List Pair → List ℕ → Refusal → Type 0
 RefusesOctets limits first octets refusal =
     ((why : TraceRefusal) × (refusal ≡ Trace why) × (whole_trace octets ≡ Err why))
-    ⊎ ((frames : List (List ℕ)) × (whole_trace octets ≡ Ok frames) × RefusesRun limits first frames refusal)
+    ⊎ ((frames : List (List ℕ)) × (whole_trace octets ≡ Ok frames) × RefusesShares limits first frames refusal)
 
 -- the sources mean policies, and the trace is refused: its reading before its octets
 pub record RefusesForwarding (limits : Bounds) (sources : List Source) (before after : Option (List ℕ)) (failed : Bool)

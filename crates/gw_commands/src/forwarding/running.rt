@@ -3,7 +3,7 @@
 ghost use Rattle.std.specs.Prelude.{◌≡◌, ◌≤◌, ◌<◌, ℕ, List, length, slice_index, slice_index_or, vec_len};
 ghost use Rattle.std.specs.Prelude.{IfOk, IfErr, IfNone, IfSome, All};
 ghost use Rattle.gw_trace.specs.Shares.{share_of};
-ghost use Rattle.gw_commands.specs.Forwarding.{AreShares, IsFirstStop, IsRunOn, NoneStopped, RefusesRun};
+ghost use Rattle.gw_commands.specs.Forwarding.{AreShares, IsFirstStop, IsRunOn, NoneStopped, RefusesShares};
 
 use super::watching::Watch;
 use crate::refusal::Refusal;
@@ -28,7 +28,7 @@ pub(super) fn run_shares<R: Threads + Wait + Sync, G: Watch>(
 ) -> Result<RunReport, Refusal>
     requires { All (λ pair. pair.port < limits.ports) first }
     ensures ran { IfOk result (λ report. IsRunOn limits first trace.now report × NoneStopped report.stops.items) }
-    ensures refused { IfErr result (RefusesRun limits first trace.now) }
+    ensures refused { IfErr result (RefusesShares limits first trace.now) }
 {
     let Ok((inputs, sizes)) = shares(alloc, trace, limits.ports() as usize) else {
         return Err(Refusal::OutOfMemory);
