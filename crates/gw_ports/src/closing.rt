@@ -17,7 +17,7 @@ ghost use Rattle.gw_ports.specs.Closing.{
 
 use crate::{Parts, PortIn, PortOut};
 use finish::{finish_all, take_columns};
-use gw_board::{NoReading, Told};
+use gw_board::{NoReading, Operator, Told};
 use gw_lanes::LaneOut;
 use gw_ledger::{FrameCopy, InLedger, OutLedger};
 use room::rooms;
@@ -95,10 +95,23 @@ impl Debug for CloseRefusal {
 impl Error for CloseRefusal {}
 
 /// Closes a gateway. It takes its memory first. Then each port in learns the operator's list and reads once more, so that it
-/// knows just that list, which begins with what it knew. It waits for nobody.
+/// knows just that list, which begins with what it knew. It waits for nobody, so the operator is dropped and not ended: a few
+/// blocks of its memory stay (`gw_board::Operator`).
 pub fn close(alloc: Global, parts: Parts) -> Result<Report, CloseRefusal>
     requires { AreOfOneGateway parts.operator parts.ins.items parts.outs.items }
     ensures closed { IfOk result (Closes parts.operator parts.ins.items parts.outs.items) }
+    ensures back { IfErr result (HandsBack parts) }
+{
+    match close_ends(alloc, parts) {
+        Ok((report, _operator)) => Ok(report),
+        Err(why) => Err(why),
+    }
+}
+
+// Closes a gateway as `close` does, and hands the operator back, for a caller that may wait for its end.
+pub(crate) fn close_ends(alloc: Global, parts: Parts) -> Result<(Report, Operator), CloseRefusal>
+    requires { AreOfOneGateway parts.operator parts.ins.items parts.outs.items }
+    ensures closed { IfOk result (λ closed. Closes parts.operator parts.ins.items parts.outs.items closed.0) }
     ensures back { IfErr result (HandsBack parts) }
 {
     let Parts {
@@ -122,12 +135,13 @@ pub fn close(alloc: Global, parts: Parts) -> Result<Report, CloseRefusal>
         }));
     };
     let columns = take_columns(outs, prepared.columns);
-    Ok(Report {
+    let report = Report {
         ins: prepared.ins,
         outs: prepared.outs,
         lanes: finish_all(ins, columns, prepared.rooms, prepared.lanes),
         front: told.len() as u32,
-    })
+    };
+    Ok((report, operator))
 }
 
 // All the memory that a close takes.

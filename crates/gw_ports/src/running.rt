@@ -12,8 +12,8 @@ ghost use Rattle.gw_ports.specs.Reports.{IsReport, IsReportOf};
 ghost use Rattle.gw_ports.specs.Runs.{IsOpened, IsRun, RefusesRun};
 ghost use Rattle.gw_ports.specs.declared.running.RunRefusal.TheVariants.{OutOfMemory};
 
-use crate::closing::CloseRefusal;
-use crate::{Gate, MakeRefusal, OfferRefusal, Parts, PortIn, Report, close, gateway};
+use crate::closing::{CloseRefusal, close_ends};
+use crate::{Gate, MakeRefusal, OfferRefusal, Parts, PortIn, Report, gateway};
 use gw_board::{ReplaceRefusal, Told};
 use gw_frame::Frame;
 use gw_ledger::{FrameCopy, Limits, Outcome};
@@ -188,6 +188,7 @@ pub fn run_from<R: Threads + Wait + Sync, G: Gate, I: Iterator<Item = Frame> + S
         outs,
     } = parts;
     let Ok(prepared) = prepare(alloc, limits, ins, outs, inputs, &sizes, batches.len()) else {
+        operator.end(rt);
         return Err(RunRefusal::OutOfMemory);
     };
     let Prepared {
@@ -225,17 +226,26 @@ pub fn run_from<R: Threads + Wait + Sync, G: Gate, I: Iterator<Item = Frame> + S
         ins: sources.ports,
         outs: sinks.ports,
     };
-    match close(alloc, parts) {
-        Ok(report) => Ok(RunReport {
-            outcomes: sources.outcomes,
-            stops: sources.stops,
-            fronts: published.fronts,
-            refused: published.refused,
-            out: sinks.out,
-            report,
-        }),
-        Err(CloseRefusal::OutOfMemory(_)) => Err(RunRefusal::OutOfMemory),
-        Err(CloseRefusal::NoReading(_)) => Err(RunRefusal::NoReading),
+    match close_ends(alloc, parts) {
+        Ok((report, operator)) => {
+            operator.end(rt);
+            Ok(RunReport {
+                outcomes: sources.outcomes,
+                stops: sources.stops,
+                fronts: published.fronts,
+                refused: published.refused,
+                out: sinks.out,
+                report,
+            })
+        }
+        Err(CloseRefusal::OutOfMemory(parts)) => {
+            parts.operator.end(rt);
+            Err(RunRefusal::OutOfMemory)
+        }
+        Err(CloseRefusal::NoReading(parts)) => {
+            parts.operator.end(rt);
+            Err(RunRefusal::NoReading)
+        }
     }
 }
 
@@ -253,8 +263,14 @@ fn open<R: Wait>(rt: &R, alloc: Global, limits: Limits, first: Batch) -> Result<
     let _versions = limits.versions();
     match parts.operator.replace(rt, first) {
         Ok(_) => {}
-        Err(ReplaceRefusal::NoSuchPort(_)) => return Err(RunRefusal::NoSuchPort),
-        Err(ReplaceRefusal::OutOfMemory(_)) => return Err(RunRefusal::NotPublished),
+        Err(ReplaceRefusal::NoSuchPort(_)) => {
+            parts.operator.end(rt);
+            return Err(RunRefusal::NoSuchPort);
+        }
+        Err(ReplaceRefusal::OutOfMemory(_)) => {
+            parts.operator.end(rt);
+            return Err(RunRefusal::NotPublished);
+        }
         Err(ReplaceRefusal::VersionsSpent(_)) => unreachable!(),
         Err(ReplaceRefusal::Stopped(_)) => unreachable!(),
     }

@@ -76,8 +76,8 @@ gather-sinks-requires-clause-room g c =
     (omega arith, omega arith)
 
 -- The threads hand back the ends that they were given, so these are of one gateway still.
-pub close-requires : goal.close-requires
-close-requires g c =
+pub close_ends-requires : goal.close_ends-requires
+close_ends-requires g c =
     let parts = c.in-Ok.parts in
     let prepared = c.in-Ok-prepare.prepared in
     same_gateway parts.operator c.in-Some.published.operator parts.ins.items c.gather-sources.result.ports.items parts.outs.items
@@ -90,13 +90,13 @@ close-requires g c =
     ∙ ap (λ (l : List Egress). map end_out l) c.in-Ok-prepare.ensures.outs)
 
 -- The run is reported in plain data.
-pub returns-in-Ok-close-clause-reported : goal.returns-in-Ok-close-clause-reported
-returns-in-Ok-close-clause-reported g c =
+pub returns-in-Ok-close_ends-clause-reported : goal.returns-in-Ok-close_ends-clause-reported
+returns-in-Ok-close_ends-clause-reported g c =
     let parts = c.in-Ok.parts in
     let prepared = c.in-Ok-prepare.prepared in
     let some = c.in-Some in
     let closing = some.published.operator in
-    let report = c.in-Ok-close.report in
+    let report = c.in-Ok-close_ends.report in
     reported g.I.Iterator.next_gives c.args.limits c.args.first c.args.inputs.items c.args.batches.items (record {
       outcomes = c.gather-sources.result.outcomes;
       stops = c.gather-sources.result.stops;
@@ -127,5 +127,5 @@ returns-in-Ok-close-clause-reported g c =
           subst (λ (l : List Ingress). Closes closing l (map (λ (t : Taking). t.port) some.taken.items) report)
           c.gather-sources.ensures.ports
           (subst (λ (l : List Egress). Closes closing c.gather-sources.result.ports.items l report) c.gather-sinks.ensures.ports
-          c.in-Ok-close.ensures.closed);
+          c.in-Ok-close_ends.ensures.closed);
     })

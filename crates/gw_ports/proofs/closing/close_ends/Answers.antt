@@ -15,7 +15,7 @@ use Rattle.gw_ports.specs.declared.closing.LaneLeft.{LaneLeft}
 use Rattle.gw_ports.proofs.Balancing.{balanced}
 use Rattle.gw_ports.proofs.OneGateway.{lanes_match, of_board, whole_out}
 use Rattle.gw_ports.proofs.SettlingAll.{all_settled, as_many_settled, knew_less, kept_out, lent_is, written_is, written_rows}
-use Rattle.gw_ports.proofs.closing.close.Goals as goal
+use Rattle.gw_ports.proofs.closing.close_ends.Goals as goal
 
 pub prepare-requires-clause-lanes : goal.prepare-requires-clause-lanes
 prepare-requires-clause-lanes c =
