@@ -4,6 +4,7 @@ ghost use Rattle.std.specs.Prelude.{◌≡◌, length, vec_len, IfOk};
 
 use gw_frame::{Frame, FrameRefusal};
 use gw_insn::Raw;
+use gw_ledger::PortSet;
 use gw_policy::{Batch, Policy};
 use gw_verify::Program;
 use std::alloc::{AllocError, Global};
@@ -73,4 +74,15 @@ pub fn batch(alloc: Global, ports: &[u8], rows: &[Row]) -> Result<Batch, AllocEr
 /// The program `ret #answer`.
 pub fn returning(answer: u32) -> [Row; 1] {
     [(6, 0, 0, answer)]
+}
+
+/// A set of ports, as the bits of a number.
+pub fn bits(ports: PortSet) -> u32 {
+    let mut bits = 0;
+    for port in 0..16 {
+        if ports.has(port) {
+            bits |= 1 << port;
+        }
+    }
+    bits
 }

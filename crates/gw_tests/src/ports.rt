@@ -4,7 +4,7 @@ ghost use Rattle.std.specs.Prelude.{◌≡◌, All, map};
 ghost use Rattle.gw_ports.specs.Ends.{end_in, end_out};
 ghost use Rattle.gw_ports.specs.Making.{AreOfOneGateway};
 
-use crate::made::{ENGINE_SPEED, Row, batch, returning};
+use crate::made::{ENGINE_SPEED, Row, batch, bits, returning};
 use gw_board::Told;
 use gw_frame::Frame;
 use gw_ledger::{InLedger, Limits, balance};
@@ -36,17 +36,18 @@ fn publish<R: Wait>(rt: &R, parts: &mut Parts, batch: Batch) -> Option<u32>
     front
 }
 
-/// A frame's number, and whether it was allowed and placed for one port and for no other.
-type Offered = Result<(u32, bool, bool), OfferRefusal>;
+/// The number, the front, and the allowed and placed ports, as the bits of numbers, of a frame that was offered.
+type Offered = Result<(u32, u32, u32, u32), OfferRefusal>;
 
-fn offer(from: &mut PortIn, frame: Frame, port: u8) -> Offered
+fn offer(from: &mut PortIn, frame: Frame) -> Offered
     ensures { end_in from.new ≡ end_in from.old }
 {
     let outcome = from.offer(frame)?;
     Ok((
         outcome.number,
-        outcome.allowed.has(port) && outcome.allowed.len() == 1,
-        outcome.placed.has(port) && outcome.placed.len() == 1,
+        outcome.front,
+        bits(outcome.allowed),
+        bits(outcome.placed),
     ))
 }
 
@@ -93,11 +94,11 @@ fn room_again_and_the_circle_of_sources(rt: HostRuntime) -> Result<(), Fail> {
     else {
         return Err("no ports".into());
     };
-    assert_eq!(rt; offer(&mut first, frame, 2), Ok((0, true, true)));
-    assert_eq!(rt; offer(&mut first, frame, 2), Ok((1, true, false)));
-    assert_eq!(rt; offer(&mut second, frame, 2), Ok((0, true, true)));
+    assert_eq!(rt; offer(&mut first, frame), Ok((0, 1, 0b100, 0b100)));
+    assert_eq!(rt; offer(&mut first, frame), Ok((1, 1, 0b100, 0)));
+    assert_eq!(rt; offer(&mut second, frame), Ok((0, 1, 0b100, 0b100)));
     assert_eq!(rt; next(&mut out), Some((0, 0)));
-    assert_eq!(rt; offer(&mut first, frame, 2), Ok((2, true, true)));
+    assert_eq!(rt; offer(&mut first, frame), Ok((2, 1, 0b100, 0b100)));
     assert_eq!(rt; next(&mut out), Some((1, 0)));
     for port in 1..4 {
         assert_eq!(rt; next_from(&mut out, port), None);
@@ -120,7 +121,7 @@ fn a_lane_of_one_copy_a_thousand_times(rt: HostRuntime) -> Result<(), Fail> {
         return Err("no ports".into());
     };
     for round in 0..1000 {
-        assert_eq!(rt; offer(&mut first, frame, 1), Ok((round, true, true)));
+        assert_eq!(rt; offer(&mut first, frame), Ok((round, 1, 0b10, 0b10)));
         assert_eq!(rt; next(&mut last), Some((0, round)));
     }
     Ok(())
@@ -139,20 +140,20 @@ fn the_taking_port_is_handed_in(rt: HostRuntime) -> Result<(), Fail> {
     let (Some(mut first), Some(mut second)) = (ins.next(), ins.next()) else {
         return Err("no ports".into());
     };
-    assert_eq!(rt; offer(&mut first, frame, 2), Ok((0, false, false)));
-    assert_eq!(rt; offer(&mut second, frame, 2), Ok((0, true, true)));
+    assert_eq!(rt; offer(&mut first, frame), Ok((0, 1, 0, 0)));
+    assert_eq!(rt; offer(&mut second, frame), Ok((0, 1, 0b100, 0b100)));
     Ok(())
 }
 
 /// Offers a frame at a port.
-fn offer_at(parts: &mut Parts, port: usize, frame: Frame, to: u8) -> Option<Offered>
+fn offer_at(parts: &mut Parts, port: usize, frame: Frame) -> Option<Offered>
     requires { AreOfOneGateway parts.old.operator parts.old.ins.items parts.old.outs.items }
     ensures { AreOfOneGateway parts.new.operator parts.new.ins.items parts.new.outs.items }
 {
     if port >= parts.ins.len() {
         return None;
     }
-    Some(offer(&mut parts.ins[port], frame, to))
+    Some(offer(&mut parts.ins[port], frame))
 }
 
 /// The source and the number of the next copy at a port.
@@ -207,15 +208,15 @@ fn a_gateway_by_hand_and_its_close(rt: HostRuntime) -> Result<(), Fail> {
     assert_eq!(rt; refuse(&rt, &mut parts, no_port), Some(81));
     assert_eq!(rt; publish(&rt, &mut parts, pass), Some(1));
     assert_eq!(rt;
-        offer_at(&mut parts, 0, frame, 1),
-        Some(Ok((0, true, true)))
+        offer_at(&mut parts, 0, frame),
+        Some(Ok((0, 1, 0b10, 0b10)))
     );
     assert_eq!(rt;
-        offer_at(&mut parts, 0, frame, 1),
-        Some(Ok((1, true, true)))
+        offer_at(&mut parts, 0, frame),
+        Some(Ok((1, 1, 0b10, 0b10)))
     );
     assert_eq!(rt;
-        offer_at(&mut parts, 0, frame, 1),
+        offer_at(&mut parts, 0, frame),
         Some(Err(OfferRefusal::FramesSpent))
     );
     assert_eq!(rt; refuse(&rt, &mut parts, too_many), Some(75));
@@ -253,12 +254,12 @@ fn a_full_lane_and_its_close(rt: HostRuntime) -> Result<(), Fail> {
     assert_eq!(rt; publish(&rt, &mut parts, pass), Some(1));
     for number in 0..5 {
         assert_eq!(rt;
-            offer_at(&mut parts, 0, frame, 1),
-            Some(Ok((number, true, number < 2)))
+            offer_at(&mut parts, 0, frame),
+            Some(Ok((number, 1, 0b10, if number < 2 { 0b10 } else { 0 })))
         );
     }
     assert_eq!(rt;
-        offer_at(&mut parts, 0, frame, 1),
+        offer_at(&mut parts, 0, frame),
         Some(Err(OfferRefusal::FramesSpent))
     );
     let Ok(report) = close(alloc, parts) else {

@@ -3,9 +3,9 @@
 ghost use Rattle.std.specs.Prelude.{◌≡◌, ◌≤◌, All, IfOk, length, vec_len};
 ghost use Rattle.std.specs.Iterator.{at_most};
 
-use crate::made::{ENGINE_SPEED, batch, returning};
+use crate::made::{ENGINE_SPEED, batch, bits, returning};
 use gw_frame::Frame;
-use gw_ledger::{FrameCopy, Limits, Outcome, PortSet};
+use gw_ledger::{FrameCopy, Limits, Outcome};
 use gw_policy::Batch;
 use gw_ports::{Gate, OfferRefusal, RunReport, run, run_from};
 use std::alloc::{AllocError, Global};
@@ -105,17 +105,6 @@ fn inputs_of(alloc: Global, frame: Frame, counts: &[usize]) -> Result<Vec<Vec<Fr
         inputs.push(frames)?;
     }
     Ok(inputs)
-}
-
-/// A set of ports, as the bits of a number.
-fn bits(ports: PortSet) -> u32 {
-    let mut bits = 0;
-    for port in 0..16 {
-        if ports.has(port) {
-            bits |= 1 << port;
-        }
-    }
-    bits
 }
 
 /// The number, front, allowed and placed ports of an outcome.
@@ -311,11 +300,44 @@ fn a_port_and_the_operator_that_stop(rt: HostRuntime) -> Result<(), Fail> {
     Ok(())
 }
 
+/// A gate that notes whether anybody came to it.
+#[derive(Drop)]
+struct Noting {
+    somebody_came: AtomicBool,
+}
+
+impl Noting {
+    fn note(&self) {
+        self.somebody_came.store(true, Ordering::SeqCst);
+    }
+}
+
+impl Gate for Noting {
+    fn enter(&self, _port: u8, _index: usize) {
+        self.note();
+    }
+
+    fn leave(&self, _port: u8, _index: usize) {
+        self.note();
+    }
+
+    fn before_replace(&self, _index: usize) {
+        self.note();
+    }
+
+    fn replaced(&self, _index: usize) {
+        self.note();
+    }
+}
+
 #[test]
 fn a_first_batch_for_no_port(rt: HostRuntime) -> Result<(), Fail> {
     let alloc = rt.alloc();
     let first = batch(alloc, &[2], &returning(1))?;
     let inputs = inputs_of(alloc, Frame::read(&ENGINE_SPEED)?, &[2, 0])?;
+    let gate = Noting {
+        somebody_came: AtomicBool::new(false),
+    };
     let Err(why) = run(
         &rt,
         alloc,
@@ -323,10 +345,11 @@ fn a_first_batch_for_no_port(rt: HostRuntime) -> Result<(), Fail> {
         first,
         inputs,
         Vec::new(alloc),
-        &Open,
+        &gate,
     ) else {
         return Err("port 2 of 2 is there".into());
     };
     assert_eq!(rt; why.number(), 81);
+    assert!(rt; !gate.somebody_came.load(Ordering::SeqCst));
     Ok(())
 }
