@@ -254,59 +254,19 @@ fn threads_with_a_gate_from_iterators(rt: HostRuntime) -> Result<(), Fail> {
     expect_turns(&rt, alloc, &ran, &gate)
 }
 
-/// A gate that holds nobody back.
-#[derive(Clone, Copy)]
-struct Open;
-
-impl Gate for Open {
-    fn enter(&self, _port: u8, _index: usize) {}
-
-    fn leave(&self, _port: u8, _index: usize) {}
-
-    fn before_replace(&self, _index: usize) {}
-
-    fn replaced(&self, _index: usize) {}
-}
-
-#[test]
-fn a_port_and_the_operator_that_stop(rt: HostRuntime) -> Result<(), Fail> {
-    let alloc = rt.alloc();
-    let frame = Frame::read(&ENGINE_SPEED)?;
-    let first = batch(alloc, &[0, 1], &returning(1))?;
-    let mut batches = Vec::new(alloc);
-    batches.push(batch(alloc, &[1], &returning(1))?)?;
-    let inputs = inputs_of(alloc, frame, &[2, 0])?;
-    let Ok(ran) = run(
-        &rt,
-        alloc,
-        Limits::new(2, 4, 1, 1)?,
-        first,
-        inputs,
-        batches,
-        &Open,
-    ) else {
-        return Err("no run".into());
-    };
-    let (Some(zero), Some(one)) = (ran.outcomes.get(0), ran.outcomes.get(1)) else {
-        return Err("no outcomes of two ports".into());
-    };
-    assert_eq!(rt; (zero.len(), one.len()), (1, 0));
-    assert_eq!(rt;
-        ran.stops.as_slice(),
-        [Some(OfferRefusal::FramesSpent), None].as_slice()
-    );
-    assert_eq!(rt; ran.fronts.len(), 0);
-    assert_eq!(rt; ran.refused.map(|why| why.number()), Some(75));
-    Ok(())
-}
-
-/// A gate that notes whether anybody came to it.
+/// A gate that holds nobody back, and notes whether anybody came.
 #[derive(Drop)]
 struct Noting {
     somebody_came: AtomicBool,
 }
 
 impl Noting {
+    fn new() -> Noting {
+        Noting {
+            somebody_came: AtomicBool::new(false),
+        }
+    }
+
     fn note(&self) {
         self.somebody_came.store(true, Ordering::SeqCst);
     }
@@ -331,13 +291,45 @@ impl Gate for Noting {
 }
 
 #[test]
+fn a_port_and_the_operator_that_stop(rt: HostRuntime) -> Result<(), Fail> {
+    let alloc = rt.alloc();
+    let frame = Frame::read(&ENGINE_SPEED)?;
+    let first = batch(alloc, &[0, 1], &returning(1))?;
+    let mut batches = Vec::new(alloc);
+    batches.push(batch(alloc, &[1], &returning(1))?)?;
+    let inputs = inputs_of(alloc, frame, &[2, 0])?;
+    let gate = Noting::new();
+    let Ok(ran) = run(
+        &rt,
+        alloc,
+        Limits::new(2, 4, 1, 1)?,
+        first,
+        inputs,
+        batches,
+        &gate,
+    ) else {
+        return Err("no run".into());
+    };
+    let (Some(zero), Some(one)) = (ran.outcomes.get(0), ran.outcomes.get(1)) else {
+        return Err("no outcomes of two ports".into());
+    };
+    assert_eq!(rt; (zero.len(), one.len()), (1, 0));
+    assert_eq!(rt;
+        ran.stops.as_slice(),
+        [Some(OfferRefusal::FramesSpent), None].as_slice()
+    );
+    assert_eq!(rt; ran.fronts.len(), 0);
+    assert_eq!(rt; ran.refused.map(|why| why.number()), Some(75));
+    assert!(rt; gate.somebody_came.load(Ordering::SeqCst));
+    Ok(())
+}
+
+#[test]
 fn a_first_batch_for_no_port(rt: HostRuntime) -> Result<(), Fail> {
     let alloc = rt.alloc();
     let first = batch(alloc, &[2], &returning(1))?;
     let inputs = inputs_of(alloc, Frame::read(&ENGINE_SPEED)?, &[2, 0])?;
-    let gate = Noting {
-        somebody_came: AtomicBool::new(false),
-    };
+    let gate = Noting::new();
     let Err(why) = run(
         &rt,
         alloc,
