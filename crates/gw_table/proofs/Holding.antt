@@ -1,17 +1,20 @@
--- The set of the rules whose range holds a value, as far as a loop has come; and the lowest rule of four such sets.
-use Rattle.std.proofs.Common.{◌≡◌, ◌≢◌, ℕ, zero, suc, ◌+◌, ◌<◌, ◌≤◌, min, nat_lt, Bool, true, false, ◌&&◌, if◌then◌else◌}
-use Rattle.std.proofs.Common.{List, [], ◌∷◌, length, get_or, Option, Some, None, refl, sym, ap, ◌∙◌, inl, inr, arith}
+-- The set of the rules that have a property, word by word; and the lowest rule of four sets.
+use Rattle.std.proofs.Common.{◌≡◌, ◌≢◌, ℕ, zero, suc, ◌+◌, ◌*◌, ◌/◌, ◌%◌, ◌<◌, ◌≤◌, min, nat_lt, Bool, true, false, ◌&&◌}
+use Rattle.std.proofs.Common.{if◌then◌else◌, List, [], ◌∷◌, length, get_or, Option, Some, None, refl, sym, ap, ◌∙◌}
+use Rattle.std.proofs.Common.{inl, inr, arith}
 use Rattle.std.specs.Prelude.{slice_get}
 use Rattle.std.specs.List.{find}
 use Rattle.std.specs.Option.{option_map_or}
+use Rattle.std.specs.Int.{bit_at}
 use Rattle.std.proofs.lemmas.Bool.{lt-ltb, le-ltb, cases_lt}
-use Rattle.std.proofs.lemmas.Option.{slice_get-get_or, slice_get_past}
-use Rattle.gw_table.specs.declared.refusal.Field.{Field}
-use Rattle.gw_table.specs.declared.table.Rule.{Rule}
-use Rattle.gw_table.specs.declared.rule_set.RuleSet.{RuleSet}
-use Rattle.gw_table.specs.Table.{lies_in}
+use Rattle.std.proofs.lemmas.Option.{slice_get_past}
 use Rattle.gw_table.specs.declared.refusal.Field.TheVariants.{Pgn, Source, Destination, From}
-use Rattle.gw_table.specs.RuleSets.{has, span_of, holds, IsSetOf, common, IsLowest}
+use Rattle.gw_table.specs.declared.table.Rule.{Rule}
+use Rattle.gw_table.specs.declared.rule_set.Property.{Property}
+use Rattle.gw_table.specs.declared.rule_set.Property.TheVariants.{Holds}
+use Rattle.gw_table.specs.Table.{lies_in}
+use Rattle.gw_table.specs.RuleSets.{has_property, marks, has, IsSetOf, IsWordOf, common, IsLowest}
+use Rattle.gw_table.proofs.RuleBits.{has_past}
 
 -- 1 for true
 abbrev pub one_if : Bool → ℕ
@@ -21,60 +24,55 @@ one_if b = if b then 1 else 0
 abbrev pub mark : (Rule → Bool) → List Rule → ℕ → ℕ
 mark test rules number = option_map_or (λ rule. one_if (test rule)) (slice_get rules number) 0
 
-mark_past : (test : Rule → Bool) (rules : List Rule) (number : ℕ) → length rules ≤ number → mark test rules number ≡ 0
+pub mark_past : (test : Rule → Bool) (rules : List Rule) (number : ℕ) → length rules ≤ number → mark test rules number ≡ 0
 mark_past test rules number past =
     ap (λ rule. option_map_or (λ r. one_if (test r)) rule 0) (slice_get_past rules number past)
 
-pub mark_within : (test : Rule → Bool) (rules : List Rule) (number : ℕ) (d : Rule) → number < length rules
-    → mark test rules number ≡ one_if (test (get_or rules number d))
-mark_within test rules number d within =
-    ap (λ rule. option_map_or (λ r. one_if (test r)) rule 0) (slice_get-get_or rules number d within)
+module _ (property : Property) (rules : List Rule) (place : ℕ) where
+  -- the bits below n of a word are settled
+  abbrev pub SettledBelow : ℕ → ℕ → Type 0
+  SettledBelow n word = (i : ℕ) → bit_at word i ≡ (if nat_lt i n then marks property rules (place * 64 + i) else 0)
 
-module _ (field : Field) (value : ℕ) (rules : List Rule) where
-  -- the rules below n are settled
-  abbrev pub SettledBelow : ℕ → RuleSet → Type 0
-  SettledBelow n set = (number : ℕ) → has set number ≡ (if nat_lt number n then holds field value rules number else 0)
+  pub all_settled : (n word : ℕ) → 64 ≤ n → SettledBelow n word → IsWordOf property rules place word
+  all_settled n word all settled i below = let e = lt-ltb i n (omega arith) in settled i ∙ (rw e refl)
 
-  pub all_settled : (n : ℕ) (set : RuleSet) → length rules ≤ n → SettledBelow n set → IsSetOf field value rules set
-  all_settled n set all settled number =
-      elim (cases_lt number n) [
-        | inl below ↦ (let e = lt-ltb number n below in settled number ∙ (rw e refl))
-        | inr above ↦ (let e = le-ltb number n above in
-            settled number ∙ (rw e (sym (mark_past (λ rule. lies_in value (span_of field rule)) rules number (omega arith)))))
-      ]
-
-  settled_at : (n : ℕ) (old new : RuleSet) → SettledBelow n old → has new n ≡ holds field value rules n
-      → ((other : ℕ) → other ≢ n → has new other ≡ has old other) → SettledBelow (n + 1) new
-  settled_at n old new settled here others number =
-      elim (cases_lt number n) [
-        | inl below ↦ (let e = lt-ltb number n below in let f = lt-ltb number (n + 1) (omega arith) in
-            let same : has old number ≡ holds field value rules number = settled number ∙ (rw e refl) in
-            others number (λ is. absurd (omega arith)) ∙ same ∙ (rw f refl))
-        | inr above ↦ elim (cases_lt n number) [
-          | inl beyond ↦ (let e = le-ltb number n above in let f = le-ltb number (n + 1) (omega arith) in
-              let same : has old number ≡ 0 = settled number ∙ (rw e refl) in
-              others number (λ is. absurd (omega arith)) ∙ same ∙ (rw f refl))
-          | inr within ↦ (let is : number ≡ n = omega arith in let f = lt-ltb number (n + 1) (omega arith) in
-              ap (has new) is ∙ here ∙ ap (holds field value rules) (sym is) ∙ (rw f refl))
+  settled_at : (n old new : ℕ) → SettledBelow n old → bit_at new n ≡ marks property rules (place * 64 + n)
+      → ((other : ℕ) → other ≢ n → bit_at new other ≡ bit_at old other) → SettledBelow (n + 1) new
+  settled_at n old new settled here others i =
+      elim (cases_lt i n) [
+        | inl below ↦ (let e = lt-ltb i n below in let f = lt-ltb i (n + 1) (omega arith) in
+            let same : bit_at old i ≡ marks property rules (place * 64 + i) = settled i ∙ (rw e refl) in
+            others i (λ is. absurd (omega arith)) ∙ same ∙ (rw f refl))
+        | inr above ↦ elim (cases_lt n i) [
+          | inl beyond ↦ (let e = le-ltb i n above in let f = le-ltb i (n + 1) (omega arith) in
+              let same : bit_at old i ≡ 0 = settled i ∙ (rw e refl) in
+              others i (λ is. absurd (omega arith)) ∙ same ∙ (rw f refl))
+          | inr within ↦ (let is : i ≡ n = omega arith in let f = lt-ltb i (n + 1) (omega arith) in
+              ap (bit_at new) is ∙ here ∙ ap (λ k. marks property rules (place * 64 + k)) (sym is) ∙ (rw f refl))
         ]
       ]
 
-  -- one rule more
-  pub settled_with : (n : ℕ) (old new : RuleSet) (d : Rule) → n < length rules → SettledBelow n old
-      → lies_in value (span_of field (get_or rules n d)) ≡ true → has new n ≡ 1
-      → ((other : ℕ) → other ≢ n → has new other ≡ has old other) → SettledBelow (n + 1) new
-  settled_with n old new d within settled lies here others =
-      settled_at n old new settled
-      (here ∙ sym (mark_within (λ rule. lies_in value (span_of field rule)) rules n d within ∙ ap one_if lies)) others
+  -- one bit more
+  pub settled_with : (n old new : ℕ) → SettledBelow n old → marks property rules (place * 64 + n) ≡ 1 → bit_at new n ≡ 1
+      → ((other : ℕ) → other ≢ n → bit_at new other ≡ bit_at old other) → SettledBelow (n + 1) new
+  settled_with n old new settled one here others = settled_at n old new settled (here ∙ sym one) others
 
-  pub settled_without : (n : ℕ) (old : RuleSet) (d : Rule) → n < length rules → SettledBelow n old
-      → lies_in value (span_of field (get_or rules n d)) ≡ false → SettledBelow (n + 1) old
-  settled_without n old d within settled lies =
+  pub settled_without : (n old : ℕ) → SettledBelow n old → marks property rules (place * 64 + n) ≡ 0
+      → SettledBelow (n + 1) old
+  settled_without n old settled none =
       let e = le-ltb n n (omega arith) in
-      let none : has old n ≡ 0 = settled n ∙ (rw e refl) in
-      settled_at n old old settled
-      (none ∙ sym (mark_within (λ rule. lies_in value (span_of field rule)) rules n d within ∙ ap one_if lies))
-      (λ other apart. refl)
+      let unset : bit_at old n ≡ 0 = settled n ∙ (rw e refl) in
+      settled_at n old old settled (unset ∙ sym none) (λ other apart. refl)
+
+-- words that have room for all rules make the set
+pub set_of_words : (property : Property) (rules : List Rule) (set : List ℕ) → length rules ≤ 64 * length set
+    → ((w : ℕ) → w < length set → IsWordOf property rules w (get_or set w 0)) → IsSetOf property rules set
+set_of_words property rules set room words number =
+    elim (cases_lt (number / 64) (length set)) [
+      | inl within ↦ (let whole : number / 64 * 64 + number % 64 ≡ number = omega arith in
+          words (number / 64) within (number % 64) (omega arith) ∙ ap (marks property rules) whole)
+      | inr past ↦ has_past set number (omega arith) ∙ sym (mark_past (has_property property) rules number (omega arith))
+    ]
 
 -- the rule of which all marks are 1, and no earlier one's, is the first that passes
 
@@ -128,9 +126,9 @@ all_lie pgn source destination from rule =
     lies_in pgn rule.pgn && lies_in source rule.source && lies_in destination rule.destination && lies_in from rule.from
 
 -- the rules of all four sets are those whose four ranges hold
-pub common_marks : (rules : List Rule) (pgn source destination from : ℕ) (a b c d : RuleSet) → IsSetOf Pgn pgn rules a
-    → IsSetOf Source source rules b → IsSetOf Destination destination rules c → IsSetOf From from rules d → (number : ℕ)
-    → common a b c d number ≡ mark (all_lie pgn source destination from) rules number
+pub common_marks : (rules : List Rule) (pgn source destination from : ℕ) (a b c d : List ℕ) → IsSetOf (Holds Pgn pgn) rules a
+    → IsSetOf (Holds Source source) rules b → IsSetOf (Holds Destination destination) rules c → IsSetOf (Holds From from) rules d
+    → (number : ℕ) → common a b c d number ≡ mark (all_lie pgn source destination from) rules number
 common_marks rules pgn source destination from a b c d is_a is_b is_c is_d number =
     let p : Rule → Bool = λ rule. lies_in pgn rule.pgn in
     let q : Rule → Bool = λ rule. lies_in source rule.source in
@@ -143,14 +141,14 @@ common_marks rules pgn source destination from a b c d is_a is_b is_c is_d numbe
     ap (λ n. min n (has d number)) three ∙ ap (λ n. min (mark (λ t. p t && q t && r t) rules number) n) (is_d number)
     ∙ mark_both (λ t. p t && q t && r t) s rules number
 
-module _ (p : Rule → Bool) (rules : List Rule) (marks : ℕ → ℕ) (same : (number : ℕ) → marks number ≡ mark p rules number) where
-  pub first_passes : (number : ℕ) → IsLowest marks number → find p rules ≡ slice_get rules number
+module _ (p : Rule → Bool) (rules : List Rule) (marked : ℕ → ℕ) (same : (number : ℕ) → marked number ≡ mark p rules number) where
+  pub first_passes : (number : ℕ) → IsLowest marked number → find p rules ≡ slice_get rules number
   first_passes number lowest =
       find_first p rules number (sym (same number) ∙ lowest.here)
       (λ earlier below. sym (same earlier) ∙ lowest.not_before earlier below)
 
-  pub none_passes : ((number : ℕ) → marks number ≡ 0) → find p rules ≡ None
+  pub none_passes : ((number : ℕ) → marked number ≡ 0) → find p rules ≡ None
   none_passes none = find_none p rules (λ number. sym (same number) ∙ none number)
 
-  pub lowest_there : (number : ℕ) → IsLowest marks number → number < length rules
+  pub lowest_there : (number : ℕ) → IsLowest marked number → number < length rules
   lowest_there number lowest = mark_there p rules number (sym (same number) ∙ lowest.here)

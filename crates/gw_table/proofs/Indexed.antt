@@ -1,33 +1,97 @@
 -- What the sets of an index say of a table's rules.
-use Rattle.std.proofs.Common.{◌≡◌, ℕ, ◌+◌, ◌*◌, ◌/◌, ◌%◌, ◌<◌, List, get_or, sym, subst, arith}
+use Rattle.std.proofs.Common.{◌≡◌, ℕ, zero, suc, ◌+◌, ◌-◌, ◌*◌, ◌/◌, ◌%◌, ◌<◌, ◌≤◌, Bool, true, false, List}
+use Rattle.std.proofs.Common.{[], ◌∷◌, length, get_or, refl, ap, subst, inl, inr, arith, zero-add}
+use Rattle.std.specs.Prelude.{slice_get, option_map, unwrap_or}
+use Rattle.std.proofs.lemmas.Bool.{lt-ltb, le-ltb, cases_lt}
 use Rattle.gw_table.specs.declared.refusal.Field.TheVariants.{Pgn, Source, Destination, From}
+use Rattle.gw_table.specs.declared.table.Action.{Action}
 use Rattle.gw_table.specs.declared.table.Rule.{Rule}
-use Rattle.gw_table.specs.declared.rule_set.RuleSet.{RuleSet}
+use Rattle.gw_table.specs.declared.rule_set.Property.{Property}
+use Rattle.gw_table.specs.declared.rule_set.Property.TheVariants.{Passes, Holds}
 use Rattle.gw_table.specs.declared.index.Index.{Index}
-use Rattle.gw_table.specs.RuleSets.{no_rule, IsSetOf, common}
-use Rattle.gw_table.specs.Index.{IsGroup, page_of, place_in, Indexes}
-use Rattle.gw_table.proofs.Holding.{mark, all_lie, common_marks}
+use Rattle.gw_table.specs.Table.{is_pass}
+use Rattle.gw_table.specs.RuleSets.{marks}
+use Rattle.gw_table.specs.Sections.{start_property, pdu2_page, row_of_page}
+use Rattle.gw_table.specs.Index.{IsGroup, place_in, group_place, shared, IsPlaced, Indexes}
+use Rattle.gw_table.proofs.Holding.{one_if, mark, all_lie, common_marks}
+use Rattle.gw_table.proofs.Rows.{page_property, row_of_groups}
 
--- the set that an index has for a parameter group
-abbrev pub group_set : Index → ℕ → RuleSet
-group_set index pgn = get_or index.groups.sets (place_in (page_of index.groups (pgn / 256)) (pgn % 256)) no_rule
+module _ (rules : List Rule) (index : Index) (indexed : Indexes rules index) where
+  -- where a set stands is the set of a property
+  abbrev Has : Property → ℕ → Type 0
+  Has property place = IsPlaced property rules index.sets.words index.sets.bits.items place
 
-group_marks : (rules : List Rule) (index : Index) (pgn : ℕ) → Indexes rules index → IsGroup pgn
-    → IsSetOf Pgn pgn rules (group_set index pgn)
-group_marks rules index pgn indexed group =
-    let whole : pgn / 256 * 256 + pgn % 256 ≡ pgn = omega arith in
-    let page = indexed.groups.pages (pgn / 256) (omega (arith, group.0)) (pgn % 256) (omega arith) group.1 in
-    subst (λ n. IsSetOf Pgn n rules (group_set index pgn)) whole page.1
+  pub passing_placed : Has Passes 0
+  passing_placed = indexed.start 0 (omega arith)
 
--- where four sets are those that the index has for four values, their common rules are those whose ranges hold the values
-pub read_marks : (rules : List Rule) (index : Index) (pgn source destination from : ℕ) (a b c d : RuleSet)
-    → Indexes rules index → IsGroup pgn → source < 256 → destination < 256 → from < 256
-    → a ≡ group_set index pgn → b ≡ get_or index.source source no_rule → c ≡ get_or index.destination destination no_rule
-    → d ≡ get_or index.from from no_rule → (number : ℕ)
-    → common a b c d number ≡ mark (all_lie pgn source destination from) rules number
-read_marks rules index pgn source destination from a b c d indexed group fits_b fits_c fits_d is_a is_b is_c is_d =
-    common_marks rules pgn source destination from a b c d
-    (subst (IsSetOf Pgn pgn rules) (sym is_a) (group_marks rules index pgn indexed group))
-    (subst (IsSetOf Source source rules) (sym is_b) (indexed.source.values source fits_b))
-    (subst (IsSetOf Destination destination rules) (sym is_c) (indexed.destination.values destination fits_c))
-    (subst (IsSetOf From from rules) (sym is_d) (indexed.from.values from fits_d))
+  pub source_placed : (source : ℕ) → source < 256 → Has (Holds Source source) (258 + source)
+  source_placed source fits =
+      let e = le-ltb (258 + source) 1 (omega arith) in
+      let f = le-ltb (258 + source) 2 (omega arith) in
+      let g = le-ltb (258 + source) 258 (omega arith) in
+      let h = lt-ltb (258 + source) 514 (omega arith) in
+      let same : 258 + source - 258 ≡ source = omega arith in
+      let is : start_property (258 + source) ≡ Holds Source source = rw (e, f, g, h) (ap (Holds Source) same) in
+      subst (λ p. Has p (258 + source)) is (indexed.start (258 + source) (omega arith))
+
+  pub destination_placed : (destination : ℕ) → destination < 256 → Has (Holds Destination destination) (2 + (255 - destination))
+  destination_placed destination fits =
+      let place = 2 + (255 - destination) in
+      let e = le-ltb place 1 (omega arith) in
+      let f = le-ltb place 2 (omega arith) in
+      let g = lt-ltb place 258 (omega arith) in
+      let same : 255 - (place - 2) ≡ destination = omega arith in
+      let is : start_property place ≡ Holds Destination destination = rw (e, f, g) (ap (Holds Destination) same) in
+      subst (λ p. Has p place) is (indexed.start place (omega arith))
+
+  pub port_placed : (from : ℕ) → from < 256 → Has (Holds From from) (place_in (get_or index.ranks 0 0) 1 from)
+  port_placed from fits =
+      subst (λ n. Has (Holds From n) (place_in (get_or index.ranks 0 0) 1 from)) (zero-add from)
+      (indexed.rows 0 (omega arith) from fits)
+
+  -- the row of a page is that of its groups
+  of_row : (page last : ℕ) → page < 1024 → 240 ≤ page % 256 → last < 256
+      → Has (Holds Pgn (page * 256 + last)) (place_in (get_or index.ranks (row_of_page page) 0) (514 + page) last)
+  of_row page last below pdu2 fits =
+      let row = row_of_page page in
+      let same : pdu2_page (row - 1) ≡ page = omega (arith, pdu2) in
+      subst (λ p. Has (Holds Pgn (p * 256 + last)) (place_in (get_or index.ranks row 0) (514 + p) last)) same
+      (subst (λ r. Has (Holds r.field (r.least + last)) (place_in (get_or index.ranks row 0) r.whole last))
+      (row_of_groups row (omega arith)) (indexed.rows row (omega (arith, below, pdu2)) last fits))
+
+  pub group_placed : (pgn : ℕ) → IsGroup pgn → Has (Holds Pgn pgn) (group_place index.ranks pgn)
+  group_placed pgn group =
+      let page = pgn / 256 in
+      let whole : page * 256 + pgn % 256 ≡ pgn = omega arith in
+      let below : page < 1024 = omega (arith, group.0) in
+      elim (cases_lt (page % 256) 240) [
+        | inl pdu1 ↦ (let e = lt-ltb (page % 256) 240 pdu1 in
+            let first : page * 256 ≡ pgn = omega (arith, group.1 pdu1) in
+            rw e (subst (λ n. Has (Holds Pgn n) (514 + page)) first
+            (subst (λ p. Has p (514 + page)) (page_property page) (indexed.start (514 + page) (omega (arith, below))))))
+        | inr pdu2 ↦ (let e = le-ltb (page % 256) 240 pdu2 in
+            rw e (subst (λ n. Has (Holds Pgn n) (place_in (get_or index.ranks (row_of_page page) 0) (514 + page) (pgn % 256)))
+            whole (of_row page (pgn % 256) below pdu2 (omega arith))))
+      ]
+
+  -- the rules that the sets of four values share are those whose ranges hold the values
+  pub shared_marks : (pgn source destination from : ℕ) → IsGroup pgn → source < 256 → destination < 256 → from < 256
+      → (number : ℕ) → shared index pgn source destination from number ≡ mark (all_lie pgn source destination from) rules number
+  shared_marks pgn source destination from group fits_source fits_destination fits_from =
+      common_marks rules pgn source destination from _ _ _ _ (group_placed pgn group).set (source_placed source fits_source).set
+      (destination_placed destination fits_destination).set (port_placed from fits_from).set
+
+-- a rule's action by its mark among those that pass
+pub action_by_mark : (rules : List Rule) (number : ℕ) (passes : Bool) (otherwise : Action)
+    → one_if passes ≡ marks Passes rules number → number < length rules
+    → passes ≡ is_pass (unwrap_or (option_map (λ rule. rule.action) (slice_get rules number)) otherwise)
+action_by_mark [] number passes otherwise marked within = absurd (omega arith)
+action_by_mark (rule ∷ rules) zero passes otherwise marked within = same passes (is_pass rule.action) marked
+  where
+    same : (a b : Bool) → one_if a ≡ one_if b → a ≡ b
+    same true true is = refl
+    same true false is = absurd (omega (arith, is))
+    same false true is = absurd (omega (arith, is))
+    same false false is = refl
+action_by_mark (rule ∷ rules) (suc number) passes otherwise marked within =
+    action_by_mark rules number passes otherwise marked (omega (arith, within))

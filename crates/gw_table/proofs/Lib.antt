@@ -12,9 +12,10 @@ pub mod Codes
 pub mod Trees
 pub mod TreesFit
 mod TreesExamples
+mod IndexExamples
 pub mod NeverDecides
 pub mod RuleBits
 pub mod Holding
-pub mod Columns
-pub mod Pages
+pub mod Listed
+pub mod Rows
 pub mod Indexed

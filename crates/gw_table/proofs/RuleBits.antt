@@ -1,52 +1,25 @@
 -- The bits of sets of rules.
-use Rattle.std.proofs.Common.{◌≡◌, ◌≢◌, ℕ, ◌+◌, ◌-◌, ◌*◌, ◌%◌, ◌^◌, ◌<◌, ◌≤◌, min, refl, sym, ap, ◌∙◌, inl, inr, arith}
-use Rattle.std.specs.Int.{bit_at, w128, trailing_zeros}
-use Rattle.std.specs.Int.RustNames.{bit_or}
+use Rattle.std.proofs.Common.{◌≡◌, ℕ, ◌+◌, ◌-◌, ◌*◌, ◌/◌, ◌%◌, ◌^◌, ◌<◌, ◌≤◌, min, List, length}
+use Rattle.std.proofs.Common.{get_or, sym, ap, ◌∙◌, inl, inr, arith}
 use Rattle.std.specs.Prelude.{bit_and}
-use Rattle.std.proofs.lemmas.Bool.{lt-ltb, le-ltb, cases_lt}
+use Rattle.std.specs.Int.{bit_at, w64, trailing_zeros}
+use Rattle.std.proofs.lemmas.Bool.{cases_lt}
 use Rattle.std.proofs.lemmas.Nat.{and_le_r}
-use Rattle.std.proofs.lemmas.Nat.Bits.{bit_at-zero, bit_at_and, bit_at_set_same, bit_at_set_other, bit_at-trailing_zeros}
-use Rattle.gw_table.specs.declared.rule_set.RuleSet.{RuleSet}
+use Rattle.std.proofs.lemmas.Nat.Bits.{bit_at-zero, bit_at_and, bit_at-trailing_zeros}
+use Rattle.std.proofs.lemmas.List.{get_or_past}
 use Rattle.gw_table.specs.RuleSets.{has, common, IsLowest}
 
-has_low : (set : RuleSet) (rule : ℕ) → rule < 128 → has set rule ≡ bit_at set.low rule
-has_low set rule below = let e = lt-ltb rule 128 below in rw e refl
+-- bit i of word w
+pub has_in : (set : List ℕ) (w i : ℕ) → i < 64 → has set (w * 64 + i) ≡ bit_at (get_or set w 0) i
+has_in set w i below =
+    let word : (w * 64 + i) / 64 ≡ w = omega arith in
+    let bit : (w * 64 + i) % 64 ≡ i = omega arith in
+    ap (λ n. bit_at (get_or set n 0) ((w * 64 + i) % 64)) word ∙ ap (bit_at (get_or set w 0)) bit
 
-has_high : (set : RuleSet) (rule : ℕ) → 128 ≤ rule → has set rule ≡ bit_at set.high (rule - 128)
-has_high set rule above = let e = le-ltb rule 128 above in rw e refl
-
--- a set with one rule more, below 128 and from there on
-abbrev pub with_low : RuleSet → ℕ → RuleSet
-with_low set rule = record { low = bit_or set.low (1 * 2 ^ rule % 2 ^ 128); high = set.high }
-
-abbrev pub with_high : RuleSet → ℕ → RuleSet
-with_high set rule = record { low = set.low; high = bit_or set.high (1 * 2 ^ (rule - 128) % 2 ^ 128) }
-
-pub added_low : (set : RuleSet) (rule : ℕ) → rule < 128 → has (with_low set rule) rule ≡ 1
-added_low set rule below = has_low (with_low set rule) rule below ∙ bit_at_set_same w128 set.low rule below
-
-pub others_low : (set : RuleSet) (rule : ℕ) → rule < 128 → (other : ℕ) → other ≢ rule
-    → has (with_low set rule) other ≡ has set other
-others_low set rule below other apart =
-    elim (cases_lt other 128) [
-      | inl low ↦ has_low (with_low set rule) other low ∙ bit_at_set_other w128 set.low rule below other apart
-          ∙ sym (has_low set other low)
-      | inr high ↦ has_high (with_low set rule) other high ∙ sym (has_high set other high)
-    ]
-
-pub added_high : (set : RuleSet) (rule : ℕ) → 128 ≤ rule → rule < 256 → has (with_high set rule) rule ≡ 1
-added_high set rule above fits =
-    has_high (with_high set rule) rule above ∙ bit_at_set_same w128 set.high (rule - 128) (omega arith)
-
-pub others_high : (set : RuleSet) (rule : ℕ) → 128 ≤ rule → rule < 256 → (other : ℕ) → other ≢ rule
-    → has (with_high set rule) other ≡ has set other
-others_high set rule above fits other apart =
-    elim (cases_lt other 128) [
-      | inl low ↦ has_low (with_high set rule) other low ∙ sym (has_low set other low)
-      | inr high ↦ has_high (with_high set rule) other high
-          ∙ bit_at_set_other w128 set.high (rule - 128) (omega arith) (other - 128) (λ e. apart (omega arith))
-          ∙ sym (has_high set other high)
-    ]
+-- the words of a set end
+pub has_past : (set : List ℕ) (rule : ℕ) → length set * 64 ≤ rule → has set rule ≡ 0
+has_past set rule past =
+    ap (λ word. bit_at word (rule % 64)) (get_or_past set (rule / 64) 0 (omega (arith, past))) ∙ bit_at-zero (rule % 64)
 
 -- the intersection of four words
 abbrev pub all_four : ℕ → ℕ → ℕ → ℕ → ℕ
@@ -58,55 +31,51 @@ bit_at_all_four a b c d i =
     bit_at_and (bit_and (bit_and a b) c) d i
     ∙ ap (λ n. min n (bit_at d i)) (bit_at_and (bit_and a b) c i ∙ ap (λ n. min n (bit_at c i)) (bit_at_and a b i))
 
-module _ (a b c d : RuleSet) where
-  common_low : (rule : ℕ) → rule < 128 → common a b c d rule ≡ bit_at (all_four a.low b.low c.low d.low) rule
-  common_low rule below =
-      let e = has_low a rule below in
-      let f = has_low b rule below in
-      let g = has_low c rule below in
-      let h = has_low d rule below in
-      rw (e, f, g, h) (sym (bit_at_all_four a.low b.low c.low d.low rule))
+module _ (a b c d : List ℕ) where
+  -- what the sets share in word w
+  abbrev pub shared : ℕ → ℕ
+  shared w = all_four (get_or a w 0) (get_or b w 0) (get_or c w 0) (get_or d w 0)
 
-  common_high : (rule : ℕ) → 128 ≤ rule → common a b c d rule ≡ bit_at (all_four a.high b.high c.high d.high) (rule - 128)
-  common_high rule above =
-      let e = has_high a rule above in
-      let f = has_high b rule above in
-      let g = has_high c rule above in
-      let h = has_high d rule above in
-      rw (e, f, g, h) (sym (bit_at_all_four a.high b.high c.high d.high (rule - 128)))
+  common_in : (w i : ℕ) → i < 64 → common a b c d (w * 64 + i) ≡ bit_at (shared w) i
+  common_in w i below =
+      let e = has_in a w i below in
+      let f = has_in b w i below in
+      let g = has_in c w i below in
+      let h = has_in d w i below in
+      rw (e, f, g, h) (sym (bit_at_all_four (get_or a w 0) (get_or b w 0) (get_or c w 0) (get_or d w 0) i))
 
-  pub lowest_low : 0 < all_four a.low b.low c.low d.low → d.low < 2 ^ 128
-      → IsLowest (common a b c d) (trailing_zeros w128 (all_four a.low b.low c.low d.low))
-  lowest_low some fits =
-      let n = all_four a.low b.low c.low d.low in
-      let tz = bit_at-trailing_zeros w128 n some (omega (arith, and_le_r (bit_and (bit_and a.low b.low) c.low) d.low)) in
+  -- the sets share no rule of the words below w
+  abbrev pub NoneBelow : ℕ → Type 0
+  NoneBelow w = (rule : ℕ) → rule < w * 64 → common a b c d rule ≡ 0
+
+  pub lowest_in : (w : ℕ) → NoneBelow w → 0 < shared w → get_or d w 0 < 2 ^ 64
+      → IsLowest (common a b c d) (w * 64 + trailing_zeros w64 (shared w))
+  lowest_in w none some fits =
+      let zeros = trailing_zeros w64 (shared w) in
+      let tz = bit_at-trailing_zeros w64 (shared w) some
+      (omega (arith, and_le_r (bit_and (bit_and (get_or a w 0) (get_or b w 0)) (get_or c w 0)) (get_or d w 0))) in
       record {
-        here = common_low (trailing_zeros w128 n) tz.0 ∙ tz.1;
-        not_before = λ earlier before. common_low earlier (omega (arith, tz.0)) ∙ tz.2 earlier before;
-      }
-
-  none_low : all_four a.low b.low c.low d.low ≡ 0 → (rule : ℕ) → rule < 128 → common a b c d rule ≡ 0
-  none_low none rule below = common_low rule below ∙ ap (λ n. bit_at n rule) none ∙ bit_at-zero rule
-
-  pub lowest_high : all_four a.low b.low c.low d.low ≡ 0 → 0 < all_four a.high b.high c.high d.high → d.high < 2 ^ 128
-      → IsLowest (common a b c d) (128 + trailing_zeros w128 (all_four a.high b.high c.high d.high))
-  lowest_high none some fits =
-      let n = all_four a.high b.high c.high d.high in
-      let zeros = trailing_zeros w128 n in
-      let tz = bit_at-trailing_zeros w128 n some (omega (arith, and_le_r (bit_and (bit_and a.high b.high) c.high) d.high)) in
-      let back : 128 + zeros - 128 ≡ zeros = omega arith in
-      record {
-        here = common_high (128 + zeros) (omega arith) ∙ ap (λ i. bit_at n i) back ∙ tz.1;
-        not_before = λ earlier before. elim (cases_lt earlier 128) [
-          | inl low ↦ none_low none earlier low
-          | inr high ↦ common_high earlier high ∙ tz.2 (earlier - 128) (omega arith)
+        here = common_in w zeros tz.0 ∙ tz.1;
+        not_before = λ earlier before. elim (cases_lt earlier (w * 64)) [
+          | inl below ↦ none earlier below
+          | inr above ↦ (let whole : earlier ≡ w * 64 + (earlier - w * 64) = omega arith in
+              ap (common a b c d) whole ∙ common_in w (earlier - w * 64) (omega (arith, tz.0))
+              ∙ tz.2 (earlier - w * 64) (omega arith))
         ];
       }
 
-  pub none_common : all_four a.low b.low c.low d.low ≡ 0 → all_four a.high b.high c.high d.high ≡ 0 → (rule : ℕ)
-      → common a b c d rule ≡ 0
-  none_common none_below none_above rule =
-      elim (cases_lt rule 128) [
-        | inl low ↦ none_low none_below rule low
-        | inr high ↦ common_high rule high ∙ ap (λ n. bit_at n (rule - 128)) none_above ∙ bit_at-zero (rule - 128)
+  pub none_more : (w : ℕ) → NoneBelow w → shared w ≡ 0 → NoneBelow (w + 1)
+  none_more w none empty rule below =
+      elim (cases_lt rule (w * 64)) [
+        | inl before ↦ none rule before
+        | inr above ↦ (let whole : rule ≡ w * 64 + (rule - w * 64) = omega arith in
+            ap (common a b c d) whole ∙ common_in w (rule - w * 64) (omega arith)
+            ∙ ap (λ n. bit_at n (rule - w * 64)) empty ∙ bit_at-zero (rule - w * 64))
+      ]
+
+  pub none_common : (w : ℕ) → length a ≤ w → NoneBelow w → (rule : ℕ) → common a b c d rule ≡ 0
+  none_common w end none rule =
+      elim (cases_lt rule (w * 64)) [
+        | inl below ↦ none rule below
+        | inr above ↦ omega (arith, has_past a rule (omega arith))
       ]

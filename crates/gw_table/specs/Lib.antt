@@ -1,10 +1,10 @@
 -- What callers may rest on: what a table passes and what decides it (Table), which rules can never decide (Dead), what a text
 -- says as a table and why it is none (TableText), and the program that a table is compiled to (Emission). What only the index
--- speaks of inside: RuleSets, Columns and Index.
+-- speaks of inside: RuleSets, Sections and Index.
 pub mod Table
 pub mod Dead
 pub mod TableText
 pub mod Emission
 pub mod RuleSets
-pub mod Columns
+pub mod Sections
 pub mod Index

@@ -1,20 +1,15 @@
--- Sets of rules, and the rules whose range of a field holds a number.
-use Rattle.std.specs.Prelude.{◌≡◌, ℕ, ◌-◌, ◌<◌, nat_lt, if◌then◌else◌, min, List, length, get_or, slice_get}
+-- Sets of rules, and the rules that have a property.
+use Rattle.std.specs.Prelude.{◌≡◌, ℕ, ◌+◌, ◌*◌, ◌/◌, ◌%◌, ◌<◌, Bool, if◌then◌else◌, min, List, length}
+use Rattle.std.specs.Prelude.{get_or, take, drop, slice_get}
 use Rattle.std.specs.Option.{option_map_or}
 use Rattle.std.specs.Int.{bit_at}
 use Rattle.gw_table.specs.declared.refusal.Field.{Field}
 use Rattle.gw_table.specs.declared.refusal.Field.TheVariants.{Pgn, Source, Destination, From}
 use Rattle.gw_table.specs.declared.table.Span.{Span}
 use Rattle.gw_table.specs.declared.table.Rule.{Rule}
-use Rattle.gw_table.specs.declared.rule_set.RuleSet.{RuleSet}
-use Rattle.gw_table.specs.Table.{lies_in}
-
--- 1 for a rule of the set, 0 for another
-abbrev pub has : RuleSet → ℕ → ℕ
-has set rule = if nat_lt rule 128 then bit_at set.low rule else bit_at set.high (rule - 128)
-
-abbrev pub no_rule : RuleSet
-no_rule = record { low = 0; high = 0 }
+use Rattle.gw_table.specs.declared.rule_set.Property.{Property}
+use Rattle.gw_table.specs.declared.rule_set.Property.TheVariants.{Passes, Holds}
+use Rattle.gw_table.specs.Table.{lies_in, is_pass}
 
 -- a rule's range of a field
 abbrev pub span_of : Field → Rule → Span
@@ -23,17 +18,29 @@ span_of Source rule = rule.source
 span_of Destination rule = rule.destination
 span_of From rule = rule.from
 
--- 1 where there is a rule of this number and its range of the field holds the value, else 0
-abbrev pub holds : Field → ℕ → List Rule → ℕ → ℕ
-holds field value rules number =
-    option_map_or (λ rule. if lies_in value (span_of field rule) then 1 else 0) (slice_get rules number) 0
+abbrev pub has_property : Property → Rule → Bool
+has_property Passes rule = is_pass rule.action
+has_property (Holds field number) rule = lies_in number (span_of field rule)
 
--- the set of the rules whose range of the field holds the value
-abbrev pub IsSetOf : Field → ℕ → List Rule → RuleSet → Type 0
-IsSetOf field value rules set = (number : ℕ) → has set number ≡ holds field value rules number
+-- 1 where there is a rule of this number that has the property, else 0
+abbrev pub marks : Property → List Rule → ℕ → ℕ
+marks property rules number =
+    option_map_or (λ rule. if has_property property rule then 1 else 0) (slice_get rules number) 0
+
+-- 1 for a rule of the set, 0 for another: a set has a bit for each rule, 64 in a word
+abbrev pub has : List ℕ → ℕ → ℕ
+has set rule = bit_at (get_or set (rule / 64) 0) (rule % 64)
+
+-- the set of the rules that have the property
+abbrev pub IsSetOf : Property → List Rule → List ℕ → Type 0
+IsSetOf property rules set = (number : ℕ) → has set number ≡ marks property rules number
+
+-- one word of that set
+abbrev pub IsWordOf : Property → List Rule → ℕ → ℕ → Type 0
+IsWordOf property rules place word = (i : ℕ) → i < 64 → bit_at word i ≡ marks property rules (place * 64 + i)
 
 -- 1 for a rule of all four sets
-abbrev pub common : RuleSet → RuleSet → RuleSet → RuleSet → ℕ → ℕ
+abbrev pub common : List ℕ → List ℕ → List ℕ → List ℕ → ℕ → ℕ
 common a b c d rule = min (min (min (has a rule) (has b rule)) (has c rule)) (has d rule)
 
 -- the first number at which there is a 1
@@ -41,6 +48,12 @@ pub record IsLowest (marks : ℕ → ℕ) (number : ℕ) : Type 0 where
   pub here : marks number ≡ 1
   pub not_before : (earlier : ℕ) → earlier < number → marks earlier ≡ 0
 
--- the list ends with the set
-abbrev pub IsLast : RuleSet → List RuleSet → Type 0
-IsLast set sets = (0 < length sets) × (get_or sets (length sets - 1) no_rule ≡ set)
+-- a set in a list of sets of so many words each
+abbrev pub set_at : ℕ → List ℕ → ℕ → List ℕ
+set_at words bits place = take words (drop (place * words) bits)
+
+-- the words, and behind them the sets of so many properties
+pub record Follows (property : ℕ → Property) (count : ℕ) (rules : List Rule) (words : ℕ) (old new : List ℕ) : Type 0 where
+  pub grown : length new ≡ length old + count * words
+  pub before : take (length old) new ≡ old
+  pub sets : (k : ℕ) → k < count → IsSetOf (property k) rules (take words (drop (length old + k * words) new))

@@ -1,14 +1,21 @@
 //! Tables with an index of their rules (T. V. Lakshman and D. Stiliadis, 1998).
 
-ghost use Rattle.std.specs.Prelude.{◌≡◌, ◌≤◌, ◌&&◌, length, find, option_copied, IfOk, IfErr};
-ghost use Rattle.gw_table.specs.Table.{lies_in, action_for, table_passes};
-ghost use Rattle.gw_table.specs.Index.{IsGroup, AreOctets, Indexes};
+ghost use Rattle.std.specs.Prelude.{◌≡◌, ℕ, ◌+◌, ◌-◌, ◌<◌, ◌≤◌, ◌&&◌, length, get_or, find};
+ghost use Rattle.std.specs.Prelude.{option_map, unwrap_or};
+ghost use Rattle.std.specs.Prelude.{IfOk, IfErr, IfSome, IfNone};
+ghost use Rattle.std.specs.List.{list_any};
+ghost use Rattle.gw_table.specs.Table.{lies_in, is_pass, table_passes};
+ghost use Rattle.gw_table.specs.RuleSets.{span_of, IsLowest};
+ghost use Rattle.gw_table.specs.Index.{IsGroup, splits, place_in, group_place, shared, Stands, Indexes};
 
-use crate::column::Column;
-use crate::group_sets::GroupSets;
 use crate::refusal::Field;
-use crate::rule_set::RuleSet;
-use crate::table::{Action, GREATEST_OCTET, Rule, Table};
+use crate::rule_set::{is_member, lowest_common};
+use crate::rule_sets::RuleSets;
+use crate::section::{
+    ANY_PORT, DESTINATIONS, MOST_ROWS, NUMBERS, PAGES, PASSING, PORTS, ROWS, SOURCES, Section,
+    row_at, row_of_page,
+};
+use crate::table::{GREATEST_OCTET, PDU2, Rule, Span, Table};
 use gw_frame::Frame;
 use std::alloc::{AllocError, Global};
 use std::marker::Model;
@@ -28,10 +35,9 @@ pub struct IndexedTable {
 /// The sets of rules for the values of each field.
 #[derive(Drop)]
 pub struct Index {
-    pub groups: GroupSets,
-    pub source: Column,
-    pub destination: Column,
-    pub from: Column,
+    pub sets: RuleSets,
+    /// For each row its number among the rows that are there, from 1 on, or 0 where it is not.
+    pub ranks: [u8; MOST_ROWS],
 }
 
 impl Model for IndexedTable {
@@ -70,7 +76,7 @@ impl IndexedTable {
         ensures { result ≡ table_passes self.now frame.now from }
     {
         match &self.index {
-            Some(index) => matches!(index.action_for(&self.table, frame, from), Action::Pass),
+            Some(index) => index.verdict(&self.table, frame, from),
             None => self.table.verdict(frame, from),
         }
     }
@@ -81,62 +87,111 @@ impl Index {
         requires { length rules.now ≤ 256 }
         ensures { IfOk result (Indexes rules.now) }
     {
-        Ok(Index {
-            groups: GroupSets::new(alloc, rules)?,
-            source: octets(alloc, rules, Field::Source)?,
-            destination: octets(alloc, rules, Field::Destination)?,
-            from: octets(alloc, rules, Field::From)?,
-        })
+        let mut sets = RuleSets::new(alloc, rules);
+        sets.append(rules, Section::Start)?;
+        let mut ranks = [0; MOST_ROWS];
+        let mut rank = 0;
+        for number in 0..MOST_ROWS {
+            let row = row_at(number as u32);
+            if any_splits(rules, row.field, row.least) {
+                sets.append(rules, Section::Row(row.field, row.least))?;
+                rank += 1;
+                ranks[number] = rank;
+            }
+        }
+        Ok(Index { sets, ranks })
     }
 
-    fn action_for(&self, table: &Table, frame: &Frame, from: u8) -> Action
+    fn verdict(&self, table: &Table, frame: &Frame, from: u8) -> bool
         requires { Indexes table.now.rules self.now }
-        ensures { result ≡ action_for table.now frame.now from }
+        ensures { result ≡ table_passes table.now frame.now from }
     {
         let id = frame.id();
         // Extended data frames alone have a destination.
         let Some(destination) = id.destination() else {
-            return table.other();
+            return table.other().passes();
         };
-        match self.first_holding(table.rules(), id.pgn(), id.source(), destination, from) {
-            Some(rule) => rule.action,
-            None => table.default(),
+        self.passes(table, id.pgn(), id.source(), destination, from)
+    }
+
+    /// Whether the table passes an extended data frame with these values that was taken at the port `from`.
+    fn passes(&self, table: &Table, pgn: u32, source: u8, destination: u8, from: u8) -> bool
+        requires indexed { Indexes table.now.rules self.now }
+        requires group { IsGroup pgn }
+        ensures { result ≡ is_pass (unwrap_or (option_map (λ rule. rule.action) (find (λ rule. lies_in pgn rule.pgn
+            && lies_in source rule.source && lies_in destination rule.destination && lies_in from rule.from)
+            table.now.rules)) table.now.otherwise) }
+    {
+        match self.lowest_shared(pgn, source, destination, from) {
+            Some(rule) => is_member(self.sets.at(PASSING), rule),
+            None => table.default().passes(),
         }
     }
 
-    /// The first rule whose ranges hold the four values.
-    fn first_holding<'a>(
-        &self,
-        rules: &'a [Rule],
-        pgn: u32,
-        source: u8,
-        destination: u8,
-        from: u8,
-    ) -> Option<&'a Rule>
-        requires few { length rules.now ≤ 256 }
-        requires indexed { Indexes rules.now self.now }
-        requires group { IsGroup pgn }
-        ensures { option_copied result
-            ≡ find (λ rule. lies_in pgn rule.pgn && lies_in source rule.source
-            && lies_in destination rule.destination && lies_in from rule.from) rules.now }
+    /// The lowest rule of the sets for the four values.
+    fn lowest_shared(&self, pgn: u32, source: u8, destination: u8, from: u8) -> Option<usize>
+        requires few { self.now.sets.words ≤ 4 }
+        requires fits { pgn < 262144 }
+        requires group { Stands self.now (group_place self.now.ranks pgn) }
+        requires source { Stands self.now (258 + source) }
+        requires destination { Stands self.now (2 + (255 - destination)) }
+        requires from { Stands self.now (place_in (get_or self.now.ranks 0 0) 1 from) }
+        ensures first { IfSome result (IsLowest (shared self.now pgn source destination from)) }
+        ensures none { IfNone result ((rule : ℕ) → shared self.now pgn source destination from rule ≡ 0) }
     {
-        let lowest = RuleSet::lowest_common(
-            &self.groups.get(pgn),
-            &self.source.get(usize::from(source)),
-            &self.destination.get(usize::from(destination)),
-            &self.from.get(usize::from(from)),
-        );
-        match lowest {
-            Some(number) => Some(&rules[number]),
-            None => None,
+        let below_255 = GREATEST_OCTET - u32::from(destination);
+        lowest_common(
+            self.sets.at(self.group_place(pgn)),
+            self.sets.at(SOURCES + u32::from(source)),
+            self.sets.at(DESTINATIONS + below_255),
+            self.sets
+                .at(self.place_in(PORTS, ANY_PORT, u32::from(from))),
+        )
+    }
+
+    /// Where the set of a parameter group stands.
+    fn group_place(&self, pgn: u32) -> u32
+        requires { pgn < 262144 }
+        ensures { result ≡ group_place self.now.ranks pgn }
+    {
+        let page = pgn / NUMBERS;
+        if page % NUMBERS < PDU2 {
+            return PAGES + page;
+        }
+        self.place_in(row_of_page(page), PAGES + page, pgn % NUMBERS)
+    }
+
+    /// Where the set of a number of a row stands: in the row, if it is there.
+    fn place_in(&self, row: u32, whole: u32, number: u32) -> u32
+        requires row { row < 65 }
+        requires whole { whole < 1538 }
+        requires number { number < 256 }
+        ensures { result ≡ place_in (get_or self.now.ranks row 0) whole number }
+    {
+        match self.ranks[row as usize] {
+            0 => whole,
+            rank => ROWS + (u32::from(rank) - 1) * NUMBERS + number,
         }
     }
 }
 
-/// The sets of rules for the values of a field of one octet.
-fn octets(alloc: Global, rules: &[Rule], field: Field) -> Result<Column, AllocError>
-    requires { length rules.now ≤ 256 }
-    ensures { IfOk result (AreOctets field rules.now) }
+/// Whether some rule's range of the field begins or ends among the 256 numbers from the first on.
+fn any_splits(rules: &[Rule], field: Field, first: u32) -> bool
+    requires { first < 262144 }
+    ensures { result ≡ list_any (λ rule. splits first (span_of field rule)) rules.now }
 {
-    Column::new(alloc).with_numbers(rules, field, 0, GREATEST_OCTET + 1)
+    rules.iter().any(|rule| rule.span(field).splits(first))
+}
+
+impl Span {
+    /// Whether the range holds some, but not all, of 256 numbers from `first` on.
+    fn splits(self, first: u32) -> bool
+        requires { first < 262144 }
+        ensures { result ≡ splits first self }
+    {
+        let last = first + (NUMBERS - 1);
+        let holds_all = self.low <= first && last <= self.high;
+        let holds_none = self.high < first || last < self.low;
+        !holds_all && !holds_none
+    }
 }

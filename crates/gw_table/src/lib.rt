@@ -1,16 +1,16 @@
 //! Tables of pass and block rules, and the programs that they are compiled to.
 #![tactic(auto)]
 
-mod column;
 mod compiler;
 mod dead;
 mod explanation;
-mod group_sets;
 mod index;
 mod nearest;
 mod reading;
 mod refusal;
 mod rule_set;
+mod rule_sets;
+mod section;
 mod table;
 mod verdict;
 

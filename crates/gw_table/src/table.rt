@@ -1,7 +1,7 @@
 //! Tables of pass and block rules.
 
 ghost use Rattle.std.specs.Prelude.{◌≡◌};
-ghost use Rattle.gw_table.specs.Table.{IsWellFormed};
+ghost use Rattle.gw_table.specs.Table.{is_pass, IsWellFormed};
 
 use std::marker::Model;
 
@@ -19,6 +19,14 @@ pub(crate) const PDU2: u32 = 240;
 pub enum Action {
     Pass,
     Block,
+}
+
+impl Action {
+    pub(crate) fn passes(self) -> bool
+        ensures { result ≡ is_pass self }
+    {
+        matches!(self, Action::Pass)
+    }
 }
 
 /// An inclusive range of numbers.

@@ -11,7 +11,7 @@ impl Table {
     pub fn verdict(&self, frame: &Frame, from: u8) -> bool
         ensures { result ≡ table_passes self.now frame.now from }
     {
-        matches!(self.action_for(frame, from), Action::Pass)
+        self.action_for(frame, from).passes()
     }
 
     /// The part of the table that decides a frame which was taken at the port `from`: the first rule that holds, `default`
@@ -45,13 +45,7 @@ impl Table {
     }
 }
 
-pub(crate) fn first_holding(
-    rules: &[Rule],
-    pgn: u32,
-    source: u8,
-    destination: u8,
-    from: u8,
-) -> Option<&Rule>
+fn first_holding(rules: &[Rule], pgn: u32, source: u8, destination: u8, from: u8) -> Option<&Rule>
     ensures { option_copied result
         ≡ find (λ rule. lies_in pgn rule.pgn && lies_in source rule.source
         && lies_in destination rule.destination && lies_in from rule.from) rules.now }
