@@ -51,8 +51,10 @@ impl Write for Filling {
     }
 }
 
-/// The words of commands, each with an input and the output that it gives.
-const WHOLE_RUNS: [(&[&str], &str, &str); 6] = [
+/// The words of a command, with an input and the output that it gives.
+type WholeRun = (&'static [&'static str], &'static str, &'static str);
+
+const WHOLE_RUNS: [WholeRun; 8] = [
     (&[], FIRST_RUN, "pass 1\n"),
     (&["check"], "3,5 0 0 1,96 0 0 3,6 0 0 1,", "accepted 3\n"),
     (
@@ -63,7 +65,24 @@ const WHOLE_RUNS: [(&[&str], &str, &str); 6] = [
     (&["table", "--frame", R], "default = \"pass\"\n", "pass\n"),
     (&["verdict", R], "1,6 0 0 7,", "pass 7\n"),
     (&["table"], "", EMPTY_TABLE),
+    (
+        &["asm"],
+        "ld #ifidx\nret a\n",
+        "2,32 0 0 4294963208,22 0 0 0,\n",
+    ),
+    (
+        &["list"],
+        "2,32 0 0 4294963208,22 0 0 0,",
+        "l0:\tld ifidx\nl1:\tret a\n",
+    ),
 ];
+
+/// The one command that answers before its input has ended.
+const REPLAY: WholeRun = (
+    &["replay"],
+    "limits 2 1 1 1\nprogram 1 1,6 0 0 1,\npublish\ntake 0 8CF0040008000000FFFFFFFFFFFFFFFF\nstep 0\nstep 0\n",
+    "limits\nprogram 1\npublished 1\ntaken 0 1\nstepped\nfinished 0 1 1 1\n",
+);
 
 #[test]
 fn breaking_readers(rt: HostRuntime) {
@@ -83,6 +102,28 @@ fn breaking_readers(rt: HostRuntime) {
             assert_eq!(rt; status, 1);
             assert_eq!(rt; output.as_slice(), b"refused 96\n".as_slice());
         }
+    }
+}
+
+/// A script that breaks off: the lines that came are answered, and then it is refused.
+#[test]
+fn breaking_script(rt: HostRuntime) {
+    let alloc = rt.alloc();
+    let (words, input, whole) = REPLAY;
+    let octets = input.as_bytes();
+    for left in 0..=octets.len() {
+        let mut output = Vec::new(alloc);
+        let mut faults = Vec::new(alloc);
+        let status = command(
+            alloc,
+            words,
+            &mut Tried::new(Breaking { octets, left }),
+            &mut Tried::new(&mut output),
+            &mut Tried::new(&mut faults),
+        );
+        assert_eq!(rt; status, 1);
+        let answers = output.strip_suffix(b"refused 96\n");
+        assert!(rt; answers.is_some_and(|answers| whole.as_bytes().starts_with(answers)));
     }
 }
 
