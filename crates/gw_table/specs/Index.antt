@@ -7,7 +7,7 @@ use Rattle.gw_table.specs.declared.rule_set.Property.{Property}
 use Rattle.gw_table.specs.declared.rule_set.Property.TheVariants.{Holds}
 use Rattle.gw_table.specs.declared.index.Index.{Index}
 use Rattle.gw_table.specs.declared.index.IndexedTable.TheInside.{Inside}
-use Rattle.gw_table.specs.RuleSets.{IsSetOf, set_at, common}
+use Rattle.gw_table.specs.RuleSets.{IsSetOf, set_at, HasSet, common}
 use Rattle.gw_table.specs.Sections.{start_property, row_at, row_of_page}
 
 -- the range holds some, but not all, of 256 numbers
@@ -39,11 +39,11 @@ shared index pgn source destination from = common (at (group_place index.ranks p
 
 -- there is a set at the place
 abbrev pub Stands : Index → ℕ → Type 0
-Stands index place = place * index.sets.words + index.sets.words ≤ length index.sets.bits.items
+Stands index place = HasSet index.sets.words index.sets.bits.items place
 
 -- the set at a place is that of the rules that have the property
 pub record IsPlaced (property : Property) (rules : List Rule) (words : ℕ) (bits : List ℕ) (place : ℕ) : Type 0 where
-  pub within : place * words + words ≤ length bits
+  pub within : HasSet words bits place
   pub set : IsSetOf property rules (set_at words bits place)
 
 -- each number of a row has its set

@@ -1,5 +1,5 @@
 -- Sets of rules, and the rules that have a property.
-use Rattle.std.specs.Prelude.{◌≡◌, ℕ, ◌+◌, ◌*◌, ◌/◌, ◌%◌, ◌<◌, Bool, if◌then◌else◌, min, List, length}
+use Rattle.std.specs.Prelude.{◌≡◌, ℕ, ◌+◌, ◌*◌, ◌/◌, ◌%◌, ◌<◌, ◌≤◌, Bool, if◌then◌else◌, min, List, length}
 use Rattle.std.specs.Prelude.{get_or, take, drop, slice_get}
 use Rattle.std.specs.Option.{option_map_or}
 use Rattle.std.specs.Int.{bit_at}
@@ -51,6 +51,10 @@ pub record IsLowest (marks : ℕ → ℕ) (number : ℕ) : Type 0 where
 -- a set in a list of sets of so many words each
 abbrev pub set_at : ℕ → List ℕ → ℕ → List ℕ
 set_at words bits place = take words (drop (place * words) bits)
+
+-- there is a set at the place
+abbrev pub HasSet : ℕ → List ℕ → ℕ → Type 0
+HasSet words bits place = place * words + words ≤ length bits
 
 -- the words, and behind them the sets of so many properties
 pub record Follows (property : ℕ → Property) (count : ℕ) (rules : List Rule) (words : ℕ) (old new : List ℕ) : Type 0 where

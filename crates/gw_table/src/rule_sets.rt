@@ -1,7 +1,7 @@
 //! Lists of sets of rules.
 
 ghost use Rattle.std.specs.Prelude.{◌≡◌, [], ◌+◌, ◌*◌, ◌≤◌, length, take, drop, OnOk};
-ghost use Rattle.gw_table.specs.RuleSets.{IsSetOf, set_at, Follows};
+ghost use Rattle.gw_table.specs.RuleSets.{IsSetOf, set_at, HasSet, Follows};
 ghost use Rattle.gw_table.specs.Sections.{property_of, length_of, IsSection};
 
 use crate::rule_set::{Property, word_of, words_for};
@@ -63,7 +63,7 @@ impl RuleSets {
 
     /// The set at a place.
     pub fn at(&self, place: u32) -> &[u64]
-        requires { place * self.now.words + self.now.words ≤ length self.now.bits.items }
+        requires { HasSet self.now.words self.now.bits.items place }
         ensures set { result.now ≡ set_at self.now.words self.now.bits.items place }
         ensures len { length result.now ≡ self.now.words }
     {

@@ -3,8 +3,7 @@ use Rattle.std.specs.Prelude.{option_map, unwrap_or}
 use Rattle.gw_table.specs.declared.rule_set.Property.TheVariants.{Passes}
 use Rattle.gw_table.specs.Table.{is_pass}
 use Rattle.gw_table.specs.RuleSets.{IsSetOf}
-use Rattle.gw_table.proofs.Holding.{all_lie, first_passes, none_passes, lowest_there}
-use Rattle.gw_table.proofs.Indexed.{group_placed, passing_placed, shared_marks, action_by_mark}
+use Rattle.gw_table.proofs.Indexed.{group_placed, passing_placed, find_none_shared, find_shared, action_by_mark}
 use Rattle.gw_table.proofs.index.Index.passes.Goals as goal
 
 pub lowest_shared-requires-clause-group : goal.lowest_shared-requires-clause-group
@@ -14,24 +13,18 @@ lowest_shared-requires-clause-group c =
 pub returns-in-None : goal.returns-in-None
 returns-in-None c =
     let table = c.args.table.now in
-    let lies = all_lie c.args.pgn c.args.source c.args.destination c.args.from in
-    let same = shared_marks table.rules c.args.self.now c.requires.indexed c.args.pgn c.args.source c.args.destination c.args.from
-    c.requires.group (omega arith) (omega arith) (omega arith) in
+    let none = find_none_shared table.rules c.args.self.now c.requires.indexed c.args.pgn c.args.source c.args.destination
+    c.args.from c.requires.group (omega arith) (omega arith) (omega arith) c.in-None.ensures.none in
     c.passes.ensures ∙ ap is_pass c.default.ensures
-    ∙ ap (λ found. is_pass (unwrap_or (option_map (λ rule. rule.action) found) table.otherwise))
-    (sym (none_passes lies table.rules _ same c.in-None.ensures.none))
+    ∙ ap (λ found. is_pass (unwrap_or (option_map (λ rule. rule.action) found) table.otherwise)) (sym none)
 
 pub returns-in-Some : goal.returns-in-Some
 returns-in-Some c =
     let table = c.args.table.now in
-    let lies = all_lie c.args.pgn c.args.source c.args.destination c.args.from in
-    let same = shared_marks table.rules c.args.self.now c.requires.indexed c.args.pgn c.args.source c.args.destination c.args.from
-    c.requires.group (omega arith) (omega arith) (omega arith) in
-    let number = c.in-Some.rule in
-    let first = c.in-Some.ensures.first in
+    let first = find_shared table.rules c.args.self.now c.requires.indexed c.args.pgn c.args.source c.args.destination
+    c.args.from c.requires.group (omega arith) (omega arith) (omega arith) c.in-Some.rule c.in-Some.ensures.first in
     let placed = passing_placed table.rules c.args.self.now c.requires.indexed in
     let passing = subst (IsSetOf Passes table.rules) (sym c.at.ensures.set) placed.set in
-    action_by_mark table.rules number c.is_member.result table.otherwise (c.is_member.ensures ∙ passing number)
-    (lowest_there lies table.rules _ same number first)
-    ∙ ap (λ found. is_pass (unwrap_or (option_map (λ rule. rule.action) found) table.otherwise))
-    (sym (first_passes lies table.rules _ same number first))
+    action_by_mark table.rules c.in-Some.rule c.is_member.result table.otherwise
+    (c.is_member.ensures ∙ passing c.in-Some.rule) first.0
+    ∙ ap (λ found. is_pass (unwrap_or (option_map (λ rule. rule.action) found) table.otherwise)) (sym first.1)
