@@ -194,15 +194,15 @@ static double cold_libpcap_time(const struct bpf_insn **copies, const uint8_t (*
 
 /*
  * The time of one verdict in each way with what it reads in no near cache: the rounds' median, and the least of the repeats. What
- * rounds without verdicts take, the faults above all, is taken off the times between faults.
+ * rounds without verdicts take, the faults above all, is taken off the first three. libpcap's are timed without faults.
  */
 static bool time_cold(const struct table *t, const uint8_t (*records)[16], double *times)
 {
     static const struct bpf_insn *copies[COPIES];
     /* The numbers that gw_bench_cold has for the first three ways, and for no verdict. */
     static const uint32_t numbers[] = {2, 1, 3}, no_verdict = 0;
-    uint64_t passed[WAYS], sum;
-    double between = 1e30;
+    uint64_t passed[WAYS], walks;
+    double without = 1e30;
     for (int i = 0; i < COPIES; i++) {
         struct bpf_insn *copy = malloc(t->length * sizeof *copy);
         copies[i] = memcpy(copy, t->code, t->length * sizeof *copy);
@@ -210,16 +210,18 @@ static bool time_cold(const struct table *t, const uint8_t (*records)[16], doubl
     for (int way = 0; way < WAYS; way++)
         times[way] = 1e30;
     for (int repeat = 0; repeat < COLD_REPEATS; repeat++) {
-        between = least(between, cold_time(t, records, no_verdict, &sum));
+        without = least(without, cold_time(t, records, no_verdict, &walks));
         for (int way = 0; way < 3; way++)
             times[way] = least(times[way], cold_time(t, records, numbers[way], &passed[way]));
         times[3] = least(times[3], cold_libpcap_time(copies, records, &passed[3]));
     }
     for (int way = 0; way < 3; way++)
-        times[way] -= between;
+        times[way] -= without;
     for (int i = 0; i < COPIES; i++)
         free((void *)copies[i]);
-    return passed[0] == passed[1] && passed[0] == passed[2] && passed[0] == passed[3];
+    /* Rounds without verdicts walk the same. */
+    return passed[0] == passed[1] && passed[0] == passed[2] && passed[0] == passed[3]
+        && passed[0] - walks <= (uint64_t)COPIES * COLD_ROUNDS;
 }
 
 /*
