@@ -1,9 +1,15 @@
 # `rt` is the Rattle kit's command: it proves a crate, and builds only what is proved.
 
-# The main job: a record and a listing from crates/gw/stdin, one verdict out; and a stored trace, forwarded by a gateway of two
-# ports.
+# The main job, before any proof: a record, a frame and a trace are answered within some two minutes.
+.PHONY: try
+try:
+	@examples/try
+
+# The main job, proved: a record and a listing from crates/gw/stdin, one verdict out; and a stored trace, forwarded by a gateway
+# of two ports.
 .PHONY: run
 run:
+	@./libraries gw
 	@cd crates/gw && rt run < stdin
 	@crates/gw/out/gw run --ports 2 --table 0=examples/diagnostics-port.toml --table 1=examples/display.toml \
 		< examples/traces/diagnostics.pcap
@@ -17,11 +23,21 @@ install: crates/gw/out/gw
 crates/gw/out/gw:
 	@$(MAKE) --no-print-directory run
 
-# The gate: every proof from nothing, the edits that must fail, the tests and the programs, each growth refused in turn, the
-# examples, and the pages.
+# The gate: every proof from nothing, the wrong bodies, the tests and the programs, each growth refused in turn, the examples,
+# and the pages.
 .PHONY: test
 test:
 	@./gate
+
+# For whoever works on it. The layout, the pages, and the tests and examples before any proof: minutes.
+.PHONY: quick
+quick:
+	@tests/quick
+
+# One crate, as `make crate NAME=gw_table`: its proof over what is kept, its wrong bodies, and its tests.
+.PHONY: crate
+crate:
+	@tests/crate $(NAME)
 
 # A soak of the running threads: ten million offers at four ports, with a replacement after each 10000 of them.
 .PHONY: soak
