@@ -42,14 +42,8 @@ fn main(rt: HostRuntime) -> ExitCode {
 #[cfg(test)]
 mod command_tests;
 #[cfg(test)]
-mod program_tests;
-#[cfg(test)]
 mod run_tests;
 #[cfg(test)]
-mod run_word_tests;
-#[cfg(test)]
 mod stream_tests;
-#[cfg(test)]
-mod tell_tests;
 #[cfg(test)]
 mod tests;

@@ -1,11 +1,10 @@
-//! What the tests of the program share: texts and records, what a command did, and whether that is what must come.
+//! What the tests of the program share: texts and records, and what a command did.
 
 use crate::command::command;
 use crate::run_command::{Console, run_command};
 use gw_trace::Tried;
 use std::alloc::{AllocError, Global};
 use std::marker::Sync;
-use std::process::Abort;
 use std::rt::{Clock, Files};
 use std::sync::Wait;
 use std::thread::Threads;
@@ -69,15 +68,6 @@ pub fn outcome_of(alloc: Global, words: &[&str], input: &[u8]) -> Outcome {
     }
 }
 
-/// Whether each input under the words gives the status and the output of its row.
-pub fn answers(rt: &(impl Abort), alloc: Global, words: &[&str], rows: &[(&str, u8, &str)]) {
-    for &(input, status, output) in rows {
-        let outcome = outcome_of(alloc, words, input.as_bytes());
-        assert_eq!(rt; outcome.status, status, "on {input}");
-        assert_eq!(rt; outcome.output.as_slice(), output.as_bytes(), "on {input}");
-    }
-}
-
 /// What `run_command` did.
 pub fn run_outcome_of<R>(rt: &R, alloc: Global, words: &[&str], input: &[u8]) -> Outcome
 where
@@ -99,18 +89,4 @@ where
         output,
         faults,
     }
-}
-
-/// Whether the words on an input give this status and this output.
-pub fn runs<R>(rt: &R, alloc: Global, words: &[&str], input: &[u8], status: u8, output: &str)
-where
-    R: Threads + Wait + Sync + Files + Clock + Eprint + Console + Abort,
-{
-    let outcome = run_outcome_of(rt, alloc, words, input);
-    assert_eq!(rt;
-        outcome.output.as_slice(),
-        output.as_bytes(),
-        "by {words:?}"
-    );
-    assert_eq!(rt; outcome.status, status, "by {words:?}");
 }
