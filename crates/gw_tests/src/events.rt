@@ -10,13 +10,6 @@ use std::test::Fail;
 
 type Given = Result<Answer, EventRefusal>;
 
-/// Address Claimed by the NAME 5 for the address 128.
-const CLAIM: [u8; 16] = [0x98, 0xEE, 0xFF, 0x80, 8, 0, 0, 0, 5, 0, 0, 0, 0, 0, 0, 0];
-/// Proprietary A from 52 to the address 128.
-const TO_128: [u8; 16] = [
-    0x98, 0xEF, 0x80, 0x34, 8, 0, 0, 0, 255, 255, 255, 255, 255, 255, 255, 255,
-];
-
 /// The set of the port 1, and of the ports 1 and 2.
 fn port_1() -> PortSet {
     let mut set = PortSet::new();
@@ -167,67 +160,7 @@ fn a_replacement_while_a_frame_is_unfinished(rt: HostRuntime) -> Result<(), Fail
 }
 
 #[test]
-fn a_local_frame_and_refusals(rt: HostRuntime) -> Result<(), Fail> {
-    let claim = Frame::read(&CLAIM)?;
-    let local = Frame::read(&TO_128)?;
-    let mut core = Core::new(rt.alloc(), Limits::new(2, 4, 4, 2)?)?;
-    let events = vec![in rt.alloc();
-        Event::Publish(batch(rt.alloc(), &[1], &returning(1))?),
-        Event::Take(0, claim),
-        Event::Step(0),
-        Event::Step(0),
-        Event::Take(0, local),
-        Event::Step(0),
-        Event::Take(1, local),
-        Event::Take(1, local),
-        Event::Step(1),
-        Event::Take(0, claim),
-    ]?;
-    let Ok(answers) = core.run(rt.alloc(), events) else {
-        return Err(OutOfMemory.into());
-    };
-    let expected = [
-        Ok(Answer::Published { front: 1 }),
-        taken(0, 1),
-        Ok(Answer::Stepped),
-        finished(0, 1, port_1(), port_1()),
-        Ok(Answer::Taken {
-            number: 1,
-            front: 1,
-            local: true,
-        }),
-        Err(EventRefusal::Idle),
-        taken(0, 1),
-        Err(EventRefusal::Busy),
-        finished(0, 1, PortSet::new(), PortSet::new()),
-        Err(EventRefusal::FramesSpent),
-    ];
-    assert_answers(&rt, &answers, &expected);
-    let ledger = InLedger {
-        taken: 2,
-        local: 1,
-        allowed: 1,
-        placed: 1,
-        lost: 0,
-    };
-    assert_eq!(rt; *core.ledger(0), ledger);
-    Ok(())
-}
-
-#[test]
-fn refusals_say_what_is_wrong(rt: HostRuntime) -> Result<(), Fail> {
-    let refusals = [
-        (EventRefusal::NoSuchPort, 72, "a port that is not there"),
-        (EventRefusal::Busy, 73, "is unfinished"),
-        (EventRefusal::Idle, 74, "no unfinished frame"),
-        (EventRefusal::VersionsSpent, 75, "batches were published"),
-        (EventRefusal::FramesSpent, 76, "frames were taken"),
-    ];
-    for (refusal, number, words) in refusals {
-        let text = format!(in rt.alloc(); "{refusal}")?;
-        assert_eq!(rt; refusal.number(), number);
-        assert!(rt; text.contains(words), "{text}");
-    }
+fn want_of_memory(rt: HostRuntime) -> Result<(), Fail> {
     let text = format!(in rt.alloc(); "{}", OutOfMemory)?;
     assert_eq!(rt; OutOfMemory.number(), 71);
     assert!(rt; text.contains("no memory"), "{text}");

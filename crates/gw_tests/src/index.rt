@@ -1,7 +1,6 @@
 //! Tables by their index.
 
 use crate::made::frame;
-use crate::table::long_text;
 use gw_frame::{Frame, FrameRefusal};
 use gw_table::{IndexedTable, Span, Table};
 use std::alloc::{AllocError, Global};
@@ -45,6 +44,16 @@ fn the_worked_examples(rt: HostRuntime) -> Result<(), Fail> {
         assert_eq!(rt; table.verdict(&frame(word)?, from), passes, "{word:x}");
     }
     Ok(())
+}
+
+/// A table of so many rules that block the source 1, and one that passes groups from 61184 to 61458.
+fn long_text(alloc: Global, blocking: usize) -> Result<String, AllocError> {
+    let mut text = String::from_str(alloc, "other = \"pass\"\n")?;
+    for _ in 0..blocking {
+        text.push_str("[[rule]]\naction = \"block\"\nsource = 1\n")?;
+    }
+    text.push_str("[[rule]]\naction = \"pass\"\npgn = [61184, 61458]\n")?;
+    Ok(text)
 }
 
 #[test]

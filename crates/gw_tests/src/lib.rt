@@ -7,8 +7,6 @@ mod board;
 #[cfg(test)]
 mod claims;
 #[cfg(test)]
-mod compiled;
-#[cfg(test)]
 mod events;
 #[cfg(test)]
 mod frame;

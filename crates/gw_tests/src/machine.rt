@@ -1,12 +1,11 @@
-//! Worked examples: answers of programs on records, and one step at a time.
+//! Whole runs, and runs of one step after another.
 
-use crate::made::{ENGINE_SPEED as R, Row, long_code, raw, raws};
+use crate::made::{ENGINE_SPEED as R, raw};
 use crate::octets::Octets;
 use gw_frame::Frame;
 use gw_insn::Raw;
 use gw_machine::{State, run};
-use gw_verify::{Cause, Program};
-use std::alloc::Global;
+use gw_verify::Program;
 use std::test::Fail;
 
 /// The answer of a program that makes one step after another, and the number of steps.
@@ -18,116 +17,6 @@ fn answer_by_steps(program: &Program, frame: &Frame, port: u8) -> Option<(u32, u
         }
     }
     None
-}
-
-/// The answer of accepted code on a record, by `run` and by `step`, or None where the code or the record is refused or
-/// the two differ.
-fn answer(alloc: Global, rows: &[Row], octets: &[u8], port: u8) -> Result<Option<u32>, Fail> {
-    let code = raws(alloc, rows)?;
-    let Ok(program) = Program::check(alloc, code) else {
-        return Ok(None)
-    };
-    let Ok(frame) = Frame::read(octets) else {
-        return Ok(None)
-    };
-    let answer = run(&program, &frame, port);
-    match answer_by_steps(&program, &frame, port) {
-        Some((same, _)) if same == answer => Ok(Some(answer)),
-        _ => Ok(None),
-    }
-}
-
-/// Why code is refused, and where.
-fn refusal(alloc: Global, code: Vec<Raw>) -> Option<(Cause, usize)> {
-    match Program::check(alloc, code) {
-        Ok(_) => None,
-        Err(refused) => Some((refused.why, refused.place)),
-    }
-}
-
-#[test]
-fn first_run(rt: HostRuntime) -> Result<(), Fail> {
-    let rows = [(48, 0, 0, 1), (21, 0, 1, 240), (6, 0, 0, 1), (6, 0, 0, 0)];
-    let mut proprietary = R;
-    proprietary[1] = 0xef;
-    assert_eq!(rt; answer(rt.alloc(), &rows, &R, 0)?, Some(1));
-    assert_eq!(rt; answer(rt.alloc(), &rows, &proprietary, 0)?, Some(0));
-    Ok(())
-}
-
-#[test]
-fn loads_at_the_end(rt: HostRuntime) -> Result<(), Fail> {
-    let record = [0x8c, 0xf0, 4, 0, 8, 0, 0, 0, 1, 2, 3, 4, 5, 6, 7, 8];
-    let last = [(48, 0, 0, 15), (22, 0, 0, 0)];
-    let last_two = [(40, 0, 0, 14), (22, 0, 0, 0)];
-    let past = [(40, 0, 0, 15), (6, 0, 0, 1)];
-    assert_eq!(rt; answer(rt.alloc(), &last, &record, 0)?, Some(8));
-    assert_eq!(rt; answer(rt.alloc(), &last_two, &record, 0)?, Some(1800));
-    assert_eq!(rt; answer(rt.alloc(), &past, &record, 0)?, Some(0));
-    Ok(())
-}
-
-#[test]
-fn index_register(rt: HostRuntime) -> Result<(), Fail> {
-    let record = [0x8c, 0xf0, 4, 0, 8, 0, 7, 0, 1, 2, 3, 4, 5, 6, 7, 8];
-    let load = [(1, 0, 0, 10), (80, 0, 0, 4294967292), (22, 0, 0, 0)];
-    let divide = [(1, 0, 0, 0), (60, 0, 0, 0), (6, 0, 0, 1)];
-    assert_eq!(rt; answer(rt.alloc(), &load, &record, 0)?, Some(7));
-    assert_eq!(rt; answer(rt.alloc(), &divide, &record, 0)?, Some(0));
-    Ok(())
-}
-
-#[test]
-fn scratch_words(rt: HostRuntime) -> Result<(), Fail> {
-    let both = [
-        (21, 0, 2, 0),
-        (2, 0, 0, 3),
-        (5, 0, 0, 1),
-        (2, 0, 0, 3),
-        (96, 0, 0, 3),
-        (22, 0, 0, 0),
-    ];
-    let index = [
-        (1, 0, 0, 7),
-        (3, 0, 0, 15),
-        (97, 0, 0, 15),
-        (135, 0, 0, 0),
-        (22, 0, 0, 0),
-    ];
-    let unset = raws(rt.alloc(), &[(97, 0, 0, 0), (22, 0, 0, 0)])?;
-    assert_eq!(rt; answer(rt.alloc(), &both, &R, 0)?, Some(0));
-    assert_eq!(rt; answer(rt.alloc(), &index, &R, 0)?, Some(7));
-    assert_eq!(rt;
-        refusal(rt.alloc(), unset),
-        Some((Cause::UnsetWord { word: 0 }, 0))
-    );
-    Ok(())
-}
-
-#[test]
-fn taking_port(rt: HostRuntime) -> Result<(), Fail> {
-    let rows = [(32, 0, 0, 4294963208), (22, 0, 0, 0)];
-    assert_eq!(rt; answer(rt.alloc(), &rows, &R, 3)?, Some(3));
-    assert_eq!(rt; answer(rt.alloc(), &rows, &R, 0)?, Some(0));
-    Ok(())
-}
-
-#[test]
-fn longest(rt: HostRuntime) -> Result<(), Fail> {
-    let empty = Vec::new(rt.alloc());
-    assert_eq!(rt; refusal(rt.alloc(), empty), Some((Cause::Empty, 0)));
-    let too_long = long_code(rt.alloc(), 4096)?;
-    assert_eq!(rt; refusal(rt.alloc(), too_long), Some((Cause::TooLong, 4096)));
-    let Ok(program) = Program::check(rt.alloc(), long_code(rt.alloc(), 4095)?) else {
-        return Err("the longest program is refused".into())
-    };
-    let Ok(frame) = Frame::read(&R) else {
-        return Err("the record is refused".into())
-    };
-    assert_eq!(rt; program.len(), 4096);
-    assert_eq!(rt; run(&program, &frame, 0), 1);
-    assert_eq!(rt; answer_by_steps(&program, &frame, 0), Some((1, 4096)));
-    Ok(())
 }
 
 /// The codes of classic BPF.

@@ -39,16 +39,6 @@ pub fn raws(alloc: Global, rows: &[Row]) -> Result<Vec<Raw>, AllocError>
     Ok(code)
 }
 
-/// `ld #0` so many times, and then `ret #1`.
-pub fn long_code(alloc: Global, times: usize) -> Result<Vec<Raw>, AllocError> {
-    let mut code = Vec::new(alloc);
-    for _ in 0..times {
-        code.push(raw((0, 0, 0, 0)))?;
-    }
-    code.push(raw((6, 0, 0, 1)))?;
-    Ok(code)
-}
-
 /// The policy of an accepted program.
 pub fn policy(alloc: Global, rows: &[Row]) -> Result<Arc<Policy>, AllocError> {
     let Ok(program) = Program::check(alloc, raws(alloc, rows)?) else {

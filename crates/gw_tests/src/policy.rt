@@ -1,25 +1,11 @@
-//! The worked examples: policies of tables, batches, and what is in force.
+//! The worked examples: batches, and what is in force.
 
 use crate::made::{frame, policy, returning};
-use gw_policy::{Batch, BatchRefusal, Policy, PolicySet};
-use gw_table::Table;
-use std::alloc::AllocError;
+use gw_policy::{Batch, BatchRefusal, PolicySet};
 use std::test::Fail;
 
 /// EEC1, an engine's speed.
 const ENGINE_SPEED: u32 = 0x8CF00400;
-
-#[test]
-fn a_policy_of_a_table(rt: HostRuntime) -> Result<(), Fail> {
-    let table = Table::read(rt.alloc(), "default = \"pass\"")?;
-    let Ok(policy) = Policy::from_table(rt.alloc(), table) else {
-        return Err(AllocError.into());
-    };
-    assert_eq!(rt; policy.program().len(), 22);
-    assert!(rt; policy.verdict(&frame(ENGINE_SPEED)?, 0));
-    assert!(rt; !policy.verdict(&frame(0x00000123)?, 0));
-    Ok(())
-}
 
 #[test]
 fn a_batch_of_sixteen_ports(rt: HostRuntime) -> Result<(), Fail> {

@@ -1,11 +1,9 @@
-//! Scripts: the worked examples, and streams that fail.
+//! Scripts in pieces, and streams that fail.
 
-use gw_replay::{ReplayFault, replay, replay_told};
+use gw_replay::{ReplayFault, replay};
 use gw_trace::Tried;
-use std::alloc::{AllocError, Global};
 use std::io;
 use std::io::{ErrorKind, Read, Write};
-use std::test::Fail;
 
 /// A lane of one copy: the second copy is lost.
 const FULL_LANE: &str =
@@ -156,27 +154,6 @@ impl Read for Endless {
     }
 }
 
-/// What a script answers.
-fn answers(alloc: Global, script: &[u8]) -> (Result<(), ReplayFault>, Vec<u8>) {
-    let mut output = Vec::new(alloc);
-    let mut octets = script;
-    let ended = replay(
-        alloc,
-        &mut Tried::new(&mut octets),
-        &mut Tried::new(&mut output),
-    );
-    (ended, output)
-}
-
-#[test]
-fn worked_examples(rt: HostRuntime) {
-    for (script, expected) in SCRIPTS {
-        let (ended, output) = answers(rt.alloc(), script.as_bytes());
-        assert_eq!(rt; ended, Ok(()));
-        assert_eq!(rt; output.as_slice(), expected.as_bytes());
-    }
-}
-
 #[test]
 fn pieces_of_every_length(rt: HostRuntime) {
     let alloc = rt.alloc();
@@ -252,66 +229,4 @@ fn an_endless_reader(rt: HostRuntime) {
     assert_eq!(rt; input.reads(), 16_777_216);
     assert!(rt; !input.failed());
     assert!(rt; output.is_empty());
-}
-
-/// A text of one octet, so often.
-fn repeated(alloc: Global, text: &mut Vec<u8>, octet: u8, times: usize) -> Result<(), AllocError> {
-    let _alloc = alloc;
-    for _ in 0..times {
-        text.push(octet)?;
-    }
-    Ok(())
-}
-
-#[test]
-fn long_lines(rt: HostRuntime) -> Result<(), Fail> {
-    let alloc = rt.alloc();
-    let mut script = Vec::new(alloc);
-    repeated(alloc, &mut script, b'#', 3_000_000)?;
-    script.extend_from_slice(b"\nprogram 1 1,")?;
-    repeated(alloc, &mut script, b' ', 1_048_576 - 12)?;
-    script.extend_from_slice(b"\r\n")?;
-    script.extend_from_slice(b"limits 2 1 1 1\n")?;
-    script.extend_from_slice(b"program 1 1,6 0 0 1,")?;
-    repeated(alloc, &mut script, b' ', 1_048_576 - 20)?;
-    script.extend_from_slice(b"\r\n")?;
-    script.extend_from_slice(b"program 0 1,6 0 0 1,")?;
-    repeated(alloc, &mut script, b' ', 1_048_576 - 19)?;
-    script.extend_from_slice(b"\r\n")?;
-    script.extend_from_slice(b"step 0\xff\n#\xff\npublish")?;
-    let (ended, output) = answers(alloc, script.as_slice());
-    assert_eq!(rt; ended, Ok(()));
-    assert_eq!(rt;
-        output.as_slice(),
-        b"refused 98\nlimits\nprogram 1\nrefused 98\nrefused 98\npublished 1\n".as_slice()
-    );
-    Ok(())
-}
-
-#[test]
-fn what_a_person_is_told(rt: HostRuntime) {
-    let alloc = rt.alloc();
-    let mut octets: &[u8] = b"# begin\nlimits 2 1 1 1\ntake 0 8CF00400\nsend 0 0\n";
-    let mut output = Vec::new(alloc);
-    let mut faults = Vec::new(alloc);
-    let ended = replay_told(
-        alloc,
-        &mut Tried::new(&mut octets),
-        &mut Tried::new(&mut output),
-        &mut Tried::new(&mut faults),
-    );
-    assert_eq!(rt; ended, Ok(()));
-    assert_eq!(rt;
-        output.as_slice(),
-        b"limits\nrefused 1\nrefused 72\n".as_slice()
-    );
-    assert_eq!(rt;
-        faults.as_slice(),
-        b"gw: line 3: a record has at least 8 octets, and this one has 4; a record is written 98FEF100 08 000000 and the \
-        payload, \
-without spaces\ngw: line 4: the event names a port that is not there: ports count from 0, and a copy is sent at another port \
-than its \
-frame was taken at\n"
-            .as_slice()
-    );
 }

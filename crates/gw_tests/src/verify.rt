@@ -1,11 +1,10 @@
-//! The worked examples, a fixed sequence of octets, and want of memory. All but the two tests of want of
-//! memory expect ample memory.
+//! Paths, a fixed sequence of octets, and want of memory. All but the two tests of want of memory expect ample memory.
 
 ghost use Rattle.std.specs.Prelude.{◌<◌, ◌≤◌, length};
 
-use crate::made::{Row, long_code, raws};
+use crate::made::{Row, raws};
 use crate::octets::Octets;
-use gw_insn::{Insn, Raw};
+use gw_insn::Raw;
 use gw_verify::{Cause, Path, Program, explain, holds};
 use std::alloc::{AllocError, Global};
 use std::test::Fail;
@@ -15,111 +14,6 @@ const UNSET_ON_ONE_BRANCH: [Row; 4] = [(21, 0, 1, 0), (2, 0, 0, 3), (96, 0, 0, 3
 
 /// `ja L` / `ld M[3]` / `L: ret #1`.
 const UNREACHABLE_LOAD: [Row; 3] = [(5, 0, 0, 1), (96, 0, 0, 3), (6, 0, 0, 1)];
-
-/// The answer of a check in words: `accepted` with the number of instructions, or `refused` with the number
-/// of the cause, the place and, after 29, the word.
-fn answer(alloc: Global, code: Vec<Raw>) -> Result<String, AllocError> {
-    match Program::check(alloc, code) {
-        Ok(program) => format!(in alloc; "accepted {}", program.len()),
-        Err(refused) => {
-            let number = refused.why.number();
-            let place = refused.place;
-            match refused.why {
-                Cause::UnsetWord { word } => format!(in alloc; "refused {number} {place} {word}"),
-                _ => format!(in alloc; "refused {number} {place}"),
-            }
-        }
-    }
-}
-
-fn check(alloc: Global, rows: &[Row]) -> Result<String, AllocError> {
-    answer(alloc, raws(alloc, rows)?)
-}
-
-#[test]
-fn empty_too_long_and_longest(rt: HostRuntime) -> Result<(), Fail> {
-    let a = rt.alloc();
-    assert_eq!(rt; check(a, &[])?.as_str(), "refused 20 0");
-    assert_eq!(rt; answer(a, long_code(a, 4096)?)?.as_str(), "refused 21 4096");
-    assert_eq!(rt; answer(a, long_code(a, 4095)?)?.as_str(), "accepted 4096");
-    Ok(())
-}
-
-#[test]
-fn each_cause_of_refusal(rt: HostRuntime) -> Result<(), Fail> {
-    let a = rt.alloc();
-    let cases: [(&[Row], &str); 13] = [
-        (&UNSET_ON_ONE_BRANCH, "refused 29 2 3"),
-        (&[(97, 0, 0, 0), (22, 0, 0, 0)], "refused 29 0 0"),
-        (&[(52, 0, 0, 0), (6, 0, 0, 0)], "refused 23 0"),
-        (&[(100, 0, 0, 32), (6, 0, 0, 0)], "refused 24 0"),
-        (&[(2, 0, 0, 16), (6, 0, 0, 0)], "refused 25 0"),
-        (&[(14, 0, 0, 0)], "refused 22 0"),
-        (&[(5, 0, 0, 1), (6, 0, 0, 0)], "refused 26 0"),
-        (&[(32, 0, 0, 4294963200), (6, 0, 0, 0)], "refused 27 0"),
-        (&[(40, 0, 0, 4294963208), (6, 0, 0, 0)], "refused 27 0"),
-        (&[(7, 0, 0, 0)], "refused 28 0"),
-        (
-            &[(52, 0, 0, 0), (14, 0, 0, 0), (7, 0, 0, 0)],
-            "refused 23 0",
-        ),
-        (
-            &[(96, 0, 0, 3), (52, 0, 0, 0), (6, 0, 0, 0)],
-            "refused 23 1",
-        ),
-        (&[(96, 0, 0, 3), (7, 0, 0, 0)], "refused 28 1"),
-    ];
-    for (rows, expected) in cases {
-        assert_eq!(rt; check(a, rows)?.as_str(), expected, "{rows:?}");
-    }
-    Ok(())
-}
-
-#[test]
-fn accepted_programs(rt: HostRuntime) -> Result<(), Fail> {
-    let a = rt.alloc();
-    let both_branches_store: [Row; 6] = [
-        (21, 0, 2, 0),
-        (2, 0, 0, 3),
-        (5, 0, 0, 1),
-        (2, 0, 0, 3),
-        (96, 0, 0, 3),
-        (22, 0, 0, 0),
-    ];
-    let cases: [(&[Row], &str); 4] = [
-        (&UNREACHABLE_LOAD, "accepted 3"),
-        (&both_branches_store, "accepted 6"),
-        (
-            &[
-                (1, 0, 0, 7),
-                (3, 0, 0, 15),
-                (97, 0, 0, 15),
-                (135, 0, 0, 0),
-                (22, 0, 0, 0),
-            ],
-            "accepted 5",
-        ),
-        (&[(32, 0, 0, 4294963208), (22, 0, 0, 0)], "accepted 2"),
-    ];
-    for (rows, expected) in cases {
-        assert_eq!(rt; check(a, rows)?.as_str(), expected, "{rows:?}");
-    }
-    Ok(())
-}
-
-#[test]
-fn program_of_the_taking_port(rt: HostRuntime) -> Result<(), Fail> {
-    let a = rt.alloc();
-    let Ok(program) = Program::check(a, raws(a, &[(32, 0, 0, 4294963208), (22, 0, 0, 0)])?) else {
-        return Err(Fail::from("refused"));
-    };
-    assert_eq!(rt; program.len(), 2);
-    assert_eq!(rt;
-        program.code(),
-        [Insn::LoadWord(4294963208), Insn::ReturnA].as_slice()
-    );
-    Ok(())
-}
 
 fn path(alloc: Global, places: &[u32]) -> Result<Path, AllocError> {
     let places = places.to_vec(alloc)?;
@@ -181,88 +75,6 @@ fn explained_places(rt: HostRuntime) -> Result<(), Fail> {
     );
     assert_eq!(rt; explained(a, &UNREACHABLE_LOAD, 3, 3)?, None);
     Ok(())
-}
-
-#[test]
-fn explained_refusals(rt: HostRuntime) -> Result<(), Fail> {
-    let a = rt.alloc();
-    let stored_later: [Row; 4] = [(7, 0, 0, 0), (135, 0, 0, 0), (96, 0, 0, 15), (22, 0, 0, 0)];
-    let cases: [(&[Row], Option<&str>); 3] = [
-        (&stored_later, Some("0 1 2")),
-        (&UNSET_ON_ONE_BRANCH, Some("0 2")),
-        (&[(7, 0, 0, 0)], None),
-    ];
-    for (rows, expected) in cases {
-        let Err(refused) = Program::check(a, raws(a, rows)?) else {
-            return Err(Fail::from("accepted"));
-        };
-        let path = match refused.explain(a)? {
-            Some(path) => Some(format!(in a; "{path}")?),
-            None => None,
-        };
-        let path = path.as_ref().map(|path| path.as_str());
-        assert_eq!(rt; path, expected, "{rows:?}");
-    }
-    Ok(())
-}
-
-#[test]
-fn texts_of_refusals(rt: HostRuntime) -> Result<(), Fail> {
-    let a = rt.alloc();
-    let cases: [(&[Row], &str); 9] = [
-        (
-            &[],
-            "the code has no instructions, and at least a return is needed",
-        ),
-        (
-            &[(14, 0, 0, 0)],
-            "instruction 0 has the code 14, which is none of the 49 of classic BPF",
-        ),
-        (
-            &[(52, 0, 0, 0), (6, 0, 0, 0)],
-            "instruction 0 divides by the constant 0",
-        ),
-        (
-            &[(100, 0, 0, 32), (6, 0, 0, 0)],
-            "instruction 0 shifts by 32, and at most 31 is meant",
-        ),
-        (
-            &[(2, 0, 0, 16), (6, 0, 0, 0)],
-            "instruction 0 names M[16], and the words are M[0] to M[15]",
-        ),
-        (
-            &[(5, 0, 0, 1), (6, 0, 0, 0)],
-            "instruction 0 jumps out of the code, which has 2 instructions",
-        ),
-        (
-            &[(32, 0, 0, 4294963200), (6, 0, 0, 0)],
-            "instruction 0 loads from 4294963200, an extension of Linux that is not `ld ifidx` (`32 0 0 4294963208`)",
-        ),
-        (
-            &[(7, 0, 0, 0)],
-            "instruction 0, the last, is no return, as `6 0 0 1` is",
-        ),
-        (
-            &UNSET_ON_ONE_BRANCH,
-            "instruction 2 loads M[3], which a path to it leaves unset",
-        ),
-    ];
-    for (rows, expected) in cases {
-        assert_eq!(rt; text(a, raws(a, rows)?)?.as_str(), expected, "{rows:?}");
-    }
-    assert_eq!(rt;
-        text(a, long_code(a, 4096)?)?.as_str(),
-        "the code has 4097 instructions, and at most 4096 are accepted"
-    );
-    Ok(())
-}
-
-/// What the refusal of code says.
-fn text(alloc: Global, code: Vec<Raw>) -> Result<String, AllocError> {
-    match Program::check(alloc, code) {
-        Ok(_) => String::from_str(alloc, "accepted"),
-        Err(refused) => format!(in alloc; "{refused}"),
-    }
 }
 
 /// The next so many instructions of the fixed sequence, and then `ret #1`.
