@@ -1,14 +1,8 @@
 //! The gateway's program.
 #![tactic(auto)]
 
-mod command;
-mod run_command;
-mod run_words;
-mod words;
-
-use command::command;
+use gw_cli::{command, run_command};
 use gw_trace::Tried;
-use run_command::run_command;
 use std::alloc::AllocError;
 use std::env;
 use std::process::ExitCode;
@@ -38,12 +32,3 @@ fn main(rt: HostRuntime) -> ExitCode {
     };
     ExitCode::from(status)
 }
-
-#[cfg(test)]
-mod command_tests;
-#[cfg(test)]
-mod run_tests;
-#[cfg(test)]
-mod stream_tests;
-#[cfg(test)]
-mod tests;

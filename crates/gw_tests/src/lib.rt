@@ -1,11 +1,19 @@
 #![tactic(auto)]
-//! The tests of the library crates, each crate's in a file of its own, by public calls alone. They stand in one crate since a
-//! crate with tests is proved a second time with them.
+//! The tests of the library crates, each crate's in a file of its own, gw_cli's in several, by public calls alone. They stand in
+//! one crate since a crate with tests is proved a second time with them.
 
 #[cfg(test)]
 mod board;
 #[cfg(test)]
 mod claims;
+#[cfg(test)]
+mod cli;
+#[cfg(test)]
+mod cli_command;
+#[cfg(test)]
+mod cli_run;
+#[cfg(test)]
+mod cli_streams;
 #[cfg(test)]
 mod events;
 #[cfg(test)]

@@ -5,7 +5,7 @@ ghost use Rattle.clap.specs.Values.{kind_of};
 ghost use Rattle.gw_trace.specs.Tries.{inner_of, has_failed, reads_of};
 ghost use Rattle.gw_commands.specs.Commands.{Does, WritesText};
 ghost use Rattle.gw_commands.specs.Verdicts.{AnswersVerdict, RefusesVerdict};
-ghost use Rattle.gw.specs.Asked.{AnswersWords, DoesAsked, DoesWords};
+ghost use Rattle.gw_cli.specs.Asked.{AnswersWords, DoesAsked, DoesWords};
 
 use crate::run_words::wrong;
 use crate::words::{Request, read_words};

@@ -1,8 +1,8 @@
 //! The command `run` under streams that fail.
 
-use crate::run_command::run_command;
-use crate::stream_tests::{Breaking, Filling};
-use crate::tests::{SPEED, TWO_PORTS, trace_of};
+use crate::cli::{SPEED, TWO_PORTS, trace_of};
+use crate::cli_streams::{Breaking, Filling};
+use gw_cli::run_command;
 use gw_trace::Tried;
 use std::test::Fail;
 

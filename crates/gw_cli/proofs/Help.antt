@@ -2,7 +2,7 @@
 use Rattle.std.proofs.Common.{◌≢◌, refl}
 use Rattle.clap.specs.declared.error.kind.ErrorKind.{ErrorKind}
 use Rattle.clap.specs.declared.error.kind.ErrorKind.TheVariants.{DisplayHelp, DisplayVersion}
-use Rattle.gw.specs.Asked.{IsHelp}
+use Rattle.gw_cli.specs.Asked.{IsHelp}
 
 -- what goes to the fault stream is neither, and what does not is one of them
 pub not_help : (kind : ErrorKind) → (kind ≢ DisplayHelp) × (kind ≢ DisplayVersion) → IsHelp kind → ⊥

@@ -15,9 +15,9 @@ use Rattle.gw_commands.specs.Tables.{AnswersTable, RefusesTable}
 use Rattle.gw_commands.specs.Verdicts.{AnswersVerdict, RefusesVerdict}
 use Rattle.gw_commands.specs.declared.forwarding.files.Named.{Named}
 use Rattle.gw_commands.specs.declared.refusal.Refusal.TheVariants.{OutOfMemory}
-use Rattle.gw.specs.declared.words.Request.{Request}
-use Rattle.gw.specs.declared.words.Request.TheVariants as asked
-use Rattle.gw.specs.declared.words.Request.TheVariants.{Verdict, Check, Asm, Claims, Replay, Table, Run}
+use Rattle.gw_cli.specs.declared.words.Request.{Request}
+use Rattle.gw_cli.specs.declared.words.Request.TheVariants as asked
+use Rattle.gw_cli.specs.declared.words.Request.TheVariants.{Verdict, Check, Asm, Claims, Replay, Table, Run}
 
 -- what `clap` answers is help or the version
 abbrev pub IsHelp : ErrorKind → Type 0

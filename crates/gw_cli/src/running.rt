@@ -3,9 +3,9 @@
 ghost use Rattle.std.specs.Prelude.{◌≡◌, false, vec_len};
 ghost use Rattle.gw_trace.specs.Tries.{inner_of, has_failed, reads_of};
 ghost use Rattle.gw_commands.specs.Forwarding.{ForwardsNamed};
-ghost use Rattle.gw.specs.Asked.{RunsWords};
+ghost use Rattle.gw_cli.specs.Asked.{RunsWords};
 
-use crate::command::answer_words;
+use crate::dispatch::answer_words;
 use crate::run_words::{RunRequest, read_run};
 use gw_commands::{Progress, Unwatched, forward_named};
 use gw_trace::Tried;

@@ -1,7 +1,6 @@
-//! What the tests of the program share: texts and records, and what a command did.
+//! What the tests of the command line share: texts and records, and what a command did.
 
-use crate::command::command;
-use crate::run_command::{Console, run_command};
+use gw_cli::{Console, command, run_command};
 use gw_trace::Tried;
 use std::alloc::{AllocError, Global};
 use std::marker::Sync;

@@ -1,7 +1,7 @@
 //! Streams that fail, under `command`.
 
-use crate::command::command;
-use crate::tests::{EMPTY_TABLE, FIRST_RUN, R};
+use crate::cli::{EMPTY_TABLE, FIRST_RUN, R};
+use gw_cli::command;
 use gw_trace::Tried;
 use std::io;
 use std::io::{ErrorKind, Read, Write};

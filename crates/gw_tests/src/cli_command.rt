@@ -1,6 +1,6 @@
 //! Words that `command` and `run_command` leave to each other.
 
-use crate::tests::{HEADER, outcome_of, run_outcome_of};
+use crate::cli::{HEADER, outcome_of, run_outcome_of};
 
 #[test]
 fn words_of_run(rt: HostRuntime) {
