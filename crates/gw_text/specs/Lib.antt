@@ -4,3 +4,4 @@ pub mod FormViews
 pub mod Assembly
 pub mod Sources
 pub mod Disassembly
+pub mod OperandView

@@ -13,6 +13,7 @@ mod parts;
 mod places;
 mod refusal;
 mod source;
+mod spelling;
 mod targets;
 mod tokens;
 
