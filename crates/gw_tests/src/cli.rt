@@ -1,5 +1,6 @@
 //! What the tests of the command line share: texts and records, and what a command did.
 
+use crate::streams::{Sink, Source, WHOLE};
 use gw_cli::{Console, command, run_command};
 use gw_trace::Tried;
 use std::alloc::{AllocError, Global};
@@ -40,52 +41,67 @@ pub fn trace_of(alloc: Global, records: &[&[u8]]) -> Result<Vec<u8>, AllocError>
     Ok(trace)
 }
 
-/// What a command did: its status, and what it wrote to the output and to the fault stream.
+/// What a command did: its status, and what it wrote to the output and to stderr.
 #[derive(Drop)]
 pub struct Outcome {
     pub status: u8,
     pub output: Vec<u8>,
-    pub faults: Vec<u8>,
+    pub stderr: Vec<u8>,
 }
 
-/// What `command` did.
+/// What `command` did on an input.
 pub fn outcome_of(alloc: Global, words: &[&str], input: &[u8]) -> Outcome {
-    let mut output = Vec::new(alloc);
-    let mut faults = Vec::new(alloc);
-    let mut reader = input;
+    outcome_on(alloc, words, Source::new(input, WHOLE), WHOLE, WHOLE)
+}
+
+/// What `command` did with a reader, and writers that take one octet a call and have so much room.
+pub fn outcome_on(
+    alloc: Global,
+    words: &[&str],
+    input: Source<'_>,
+    room: usize,
+    stderr_room: usize,
+) -> Outcome {
+    let mut output = Sink::new(alloc, 1, room);
+    let mut stderr = Sink::new(alloc, 1, stderr_room);
     let status = command(
         alloc,
         words,
-        &mut Tried::new(&mut reader),
+        &mut Tried::new(input),
         &mut Tried::new(&mut output),
-        &mut Tried::new(&mut faults),
+        &mut Tried::new(&mut stderr),
     );
     Outcome {
         status,
-        output,
-        faults,
+        output: output.taken,
+        stderr: stderr.taken,
     }
 }
 
-/// What `run_command` did.
-pub fn run_outcome_of<R>(rt: &R, alloc: Global, words: &[&str], input: &[u8]) -> Outcome
+/// What `run_command` did with a reader, and an output that takes one octet a call and has so much room.
+pub fn run_outcome_on<R>(
+    rt: &R,
+    alloc: Global,
+    words: &[&str],
+    input: Source<'_>,
+    room: usize,
+) -> Outcome
 where
     R: Threads + Wait + Sync + Files + Clock + Eprint + Console,
 {
-    let mut output = Vec::new(alloc);
-    let mut faults = Vec::new(alloc);
-    let mut reader = input;
+    let mut output = Sink::new(alloc, 1, room);
+    let mut stderr = Sink::new(alloc, 1, WHOLE);
     let status = run_command(
         rt,
         alloc,
         words,
-        &mut Tried::new(&mut reader),
+        &mut Tried::new(input),
         &mut Tried::new(&mut output),
-        &mut Tried::new(&mut faults),
+        &mut Tried::new(&mut stderr),
     );
     Outcome {
         status,
-        output,
-        faults,
+        output: output.taken,
+        stderr: stderr.taken,
     }
 }

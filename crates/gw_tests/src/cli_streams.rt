@@ -1,55 +1,7 @@
 //! Streams that fail, under `command`.
 
-use crate::cli::{EMPTY_TABLE, FIRST_RUN, R};
-use gw_cli::command;
-use gw_trace::Tried;
-use std::io;
-use std::io::{ErrorKind, Read, Write};
-
-/// A reader that gives one octet a call, and fails once it gave so many.
-#[derive(Drop)]
-pub struct Breaking<'a> {
-    pub octets: &'a [u8],
-    pub left: usize,
-}
-
-impl Read for Breaking<'_> {
-    fn read(&mut self, buf: &mut [u8]) -> io::Result<usize> {
-        if self.left == 0 {
-            return Err(io::Error::from(ErrorKind::Other));
-        }
-        self.left -= 1;
-        match self.octets.split_first() {
-            Some((first, rest)) if !buf.is_empty() => {
-                buf[0] = *first;
-                self.octets = rest;
-                Ok(1)
-            }
-            _ => Ok(0),
-        }
-    }
-}
-
-/// A writer that takes one octet a call, and fails once it took so many.
-#[derive(Drop)]
-pub struct Filling {
-    pub taken: Vec<u8>,
-    pub room: usize,
-}
-
-impl Write for Filling {
-    fn write(&mut self, buf: &[u8]) -> io::Result<usize> {
-        if self.taken.len() >= self.room || buf.is_empty() {
-            return Err(io::Error::from(ErrorKind::Other));
-        }
-        self.taken.push(buf[0])?;
-        Ok(1)
-    }
-
-    fn flush(&mut self) -> io::Result<()> {
-        Ok(())
-    }
-}
+use crate::cli::{EMPTY_TABLE, FIRST_RUN, R, outcome_on};
+use crate::streams::{Source, WHOLE};
 
 /// The words of a command, with an input and the output that it gives.
 type WholeRun = (&'static [&'static str], &'static str, &'static str);
@@ -86,21 +38,13 @@ const REPLAY: WholeRun = (
 
 #[test]
 fn breaking_readers(rt: HostRuntime) {
-    let alloc = rt.alloc();
     for (words, input, _) in WHOLE_RUNS {
         let octets = input.as_bytes();
         for left in 0..=octets.len() {
-            let mut output = Vec::new(alloc);
-            let mut faults = Vec::new(alloc);
-            let status = command(
-                alloc,
-                words,
-                &mut Tried::new(Breaking { octets, left }),
-                &mut Tried::new(&mut output),
-                &mut Tried::new(&mut faults),
-            );
-            assert_eq!(rt; status, 1);
-            assert_eq!(rt; output.as_slice(), b"refused 96\n".as_slice());
+            let input = Source::breaking(octets, left);
+            let refused = outcome_on(rt.alloc(), words, input, WHOLE, WHOLE);
+            assert_eq!(rt; refused.status, 1);
+            assert_eq!(rt; refused.output.as_slice(), b"refused 96\n".as_slice());
         }
     }
 }
@@ -108,47 +52,27 @@ fn breaking_readers(rt: HostRuntime) {
 /// A script that breaks off: the lines that came are answered, and then it is refused.
 #[test]
 fn breaking_script(rt: HostRuntime) {
-    let alloc = rt.alloc();
     let (words, input, whole) = REPLAY;
     let octets = input.as_bytes();
     for left in 0..=octets.len() {
-        let mut output = Vec::new(alloc);
-        let mut faults = Vec::new(alloc);
-        let status = command(
-            alloc,
-            words,
-            &mut Tried::new(Breaking { octets, left }),
-            &mut Tried::new(&mut output),
-            &mut Tried::new(&mut faults),
-        );
-        assert_eq!(rt; status, 1);
-        let answers = output.strip_suffix(b"refused 96\n");
+        let input = Source::breaking(octets, left);
+        let refused = outcome_on(rt.alloc(), words, input, WHOLE, WHOLE);
+        assert_eq!(rt; refused.status, 1);
+        let answers = refused.output.strip_suffix(b"refused 96\n");
         assert!(rt; answers.is_some_and(|answers| whole.as_bytes().starts_with(answers)));
     }
 }
 
 #[test]
 fn filling_writers(rt: HostRuntime) {
-    let alloc = rt.alloc();
     for (words, input, whole) in WHOLE_RUNS {
         for room in 0..whole.len() {
-            let mut octets = input.as_bytes();
-            let mut output = Filling {
-                taken: Vec::new(alloc),
-                room,
-            };
-            let mut faults = Vec::new(alloc);
-            let status = command(
-                alloc,
-                words,
-                &mut Tried::new(&mut octets),
-                &mut Tried::new(&mut output),
-                &mut Tried::new(&mut faults),
-            );
-            assert_eq!(rt; status, 1);
-            assert_eq!(rt; output.taken.as_slice(), &whole.as_bytes()[..room]);
+            let input = Source::new(input.as_bytes(), WHOLE);
+            let cut = outcome_on(rt.alloc(), words, input, room, WHOLE);
+            assert_eq!(rt; cut.status, 1);
+            assert_eq!(rt; cut.output.as_slice(), &whole.as_bytes()[..room]);
             assert_eq!(rt;
-                faults.as_slice(),
+                cut.stderr.as_slice(),
                 b"gw: the output could not be written\n".as_slice()
             );
         }
@@ -156,60 +80,18 @@ fn filling_writers(rt: HostRuntime) {
 }
 
 #[test]
-fn filling_fault_stream(rt: HostRuntime) {
-    let alloc = rt.alloc();
-    let mut input: &[u8] = b"8CG0";
-    let mut output = Vec::new(alloc);
-    let mut faults = Filling {
-        taken: Vec::new(alloc),
-        room: 3,
-    };
-    let status = command::<&str, _, _, _>(
-        alloc,
-        &[],
-        &mut Tried::new(&mut input),
-        &mut Tried::new(&mut output),
-        &mut Tried::new(&mut faults),
-    );
-    assert_eq!(rt; status, 1);
-    assert_eq!(rt; output.as_slice(), b"refused 97\n".as_slice());
-}
-
-/// A reader that fails at its first call and then goes on.
-#[derive(Drop)]
-struct Stumbling<'a> {
-    octets: &'a [u8],
-    stumbled: bool,
-}
-
-impl Read for Stumbling<'_> {
-    fn read(&mut self, buf: &mut [u8]) -> io::Result<usize> {
-        if !self.stumbled {
-            self.stumbled = true;
-            return Err(io::Error::from(ErrorKind::Other));
-        }
-        self.octets.read(buf)
-    }
+fn a_full_stderr(rt: HostRuntime) {
+    let refused = outcome_on(rt.alloc(), &[], Source::new(b"8CG0", WHOLE), WHOLE, 3);
+    assert_eq!(rt; refused.status, 1);
+    assert_eq!(rt; refused.output.as_slice(), b"refused 97\n".as_slice());
 }
 
 #[test]
 fn stumbling_reader(rt: HostRuntime) {
-    let alloc = rt.alloc();
     for (words, input, _) in WHOLE_RUNS {
-        let octets = input.as_bytes();
-        let mut output = Vec::new(alloc);
-        let mut faults = Vec::new(alloc);
-        let status = command(
-            alloc,
-            words,
-            &mut Tried::new(Stumbling {
-                octets,
-                stumbled: false,
-            }),
-            &mut Tried::new(&mut output),
-            &mut Tried::new(&mut faults),
-        );
-        assert_eq!(rt; status, 1);
-        assert_eq!(rt; output.as_slice(), b"refused 96\n".as_slice());
+        let input = Source::stumbling(input.as_bytes());
+        let refused = outcome_on(rt.alloc(), words, input, WHOLE, WHOLE);
+        assert_eq!(rt; refused.status, 1);
+        assert_eq!(rt; refused.output.as_slice(), b"refused 96\n".as_slice());
     }
 }

@@ -43,6 +43,8 @@ mod replay;
 #[cfg(test)]
 mod running;
 #[cfg(test)]
+mod streams;
+#[cfg(test)]
 mod table;
 #[cfg(test)]
 mod text;

@@ -1,9 +1,10 @@
 //! Scripts in pieces, and streams that fail.
 
+use crate::streams::{Sink, Source, WHOLE};
 use gw_replay::{ReplayFault, replay};
 use gw_trace::Tried;
 use std::io;
-use std::io::{ErrorKind, Read, Write};
+use std::io::Read;
 
 /// A lane of one copy: the second copy is lost.
 const FULL_LANE: &str =
@@ -91,55 +92,6 @@ const SCRIPTS: [(&str, &str); 7] = [
     (ORDER, ORDER_ANSWERS),
 ];
 
-/// A reader that gives so many octets a call, and fails once it gave `left`.
-#[derive(Drop)]
-struct Breaking<'a> {
-    octets: &'a [u8],
-    piece: usize,
-    left: usize,
-}
-
-impl Read for Breaking<'_> {
-    fn read(&mut self, buf: &mut [u8]) -> io::Result<usize> {
-        if self.left == 0 {
-            return Err(io::Error::from(ErrorKind::Other));
-        }
-        let n = self
-            .piece
-            .min(self.left)
-            .min(buf.len())
-            .min(self.octets.len());
-        buf[..n].copy_from_slice(&self.octets[..n]);
-        self.octets = &self.octets[n..];
-        self.left -= n;
-        Ok(n)
-    }
-}
-
-/// A writer that takes so many octets a call, and fails once it took as many as it has room for.
-#[derive(Drop)]
-struct Filling {
-    taken: Vec<u8>,
-    piece: usize,
-    room: usize,
-}
-
-impl Write for Filling {
-    fn write(&mut self, buf: &[u8]) -> io::Result<usize> {
-        let n = self.piece.min(self.room).min(buf.len());
-        if n == 0 {
-            return Err(io::Error::from(ErrorKind::Other));
-        }
-        self.taken.extend_from_slice(&buf[..n])?;
-        self.room -= n;
-        Ok(n)
-    }
-
-    fn flush(&mut self) -> io::Result<()> {
-        Ok(())
-    }
-}
-
 /// A reader that gives one octet for ever.
 #[derive(Drop)]
 struct Endless(u8);
@@ -159,20 +111,9 @@ fn pieces_of_every_length(rt: HostRuntime) {
     let alloc = rt.alloc();
     for piece in 1..40 {
         for (script, expected) in SCRIPTS {
-            let mut output = Filling {
-                taken: Vec::new(alloc),
-                piece,
-                room: expected.len(),
-            };
-            let ended = replay(
-                alloc,
-                &mut Tried::new(Breaking {
-                    octets: script.as_bytes(),
-                    piece,
-                    left: script.len() + 1,
-                }),
-                &mut Tried::new(&mut output),
-            );
+            let mut output = Sink::new(alloc, piece, expected.len());
+            let mut input = Tried::new(Source::new(script.as_bytes(), piece));
+            let ended = replay(alloc, &mut input, &mut Tried::new(&mut output));
             assert_eq!(rt; ended, Ok(()));
             assert_eq!(rt; output.taken.as_slice(), expected.as_bytes());
         }
@@ -183,16 +124,16 @@ fn pieces_of_every_length(rt: HostRuntime) {
 fn breaking_readers(rt: HostRuntime) {
     let alloc = rt.alloc();
     for left in 0..=FULL_LANE.len() {
-        let mut output = Vec::new(alloc);
-        let mut input = Tried::new(Breaking {
-            octets: FULL_LANE.as_bytes(),
-            piece: 1,
-            left,
-        });
+        let mut output = Sink::new(alloc, 1, WHOLE);
+        let mut input = Tried::new(Source::breaking(FULL_LANE.as_bytes(), left));
         let ended = replay(alloc, &mut input, &mut Tried::new(&mut output));
         assert_eq!(rt; ended, Err(ReplayFault::ReadFault));
         assert!(rt; input.failed());
-        assert!(rt; FULL_LANE_ANSWERS.as_bytes().starts_with(output.as_slice()));
+        assert!(rt;
+            FULL_LANE_ANSWERS
+                .as_bytes()
+                .starts_with(output.taken.as_slice())
+        );
     }
 }
 
@@ -200,17 +141,9 @@ fn breaking_readers(rt: HostRuntime) {
 fn filling_writers(rt: HostRuntime) {
     let alloc = rt.alloc();
     for room in 0..FULL_LANE_ANSWERS.len() {
-        let mut octets = FULL_LANE.as_bytes();
-        let mut output = Filling {
-            taken: Vec::new(alloc),
-            piece: 1,
-            room,
-        };
-        let ended = replay(
-            alloc,
-            &mut Tried::new(&mut octets),
-            &mut Tried::new(&mut output),
-        );
+        let mut input = Tried::new(Source::new(FULL_LANE.as_bytes(), WHOLE));
+        let mut output = Sink::new(alloc, 1, room);
+        let ended = replay(alloc, &mut input, &mut Tried::new(&mut output));
         assert_eq!(rt; ended, Err(ReplayFault::WriteFault));
         assert_eq!(rt;
             output.taken.as_slice(),

@@ -2,11 +2,10 @@
 
 use crate::made::ENGINE_SPEED as R;
 use crate::octets::{RUNS, Runs};
+use crate::streams::Source;
 use gw_frame::FrameRefusal;
 use gw_trace::{Checked, Share, Trace, TraceRefusal, Tried, frames};
 use std::alloc::{AllocError, Global};
-use std::io;
-use std::io::{ErrorKind, Read};
 use std::test::Fail;
 
 /// Headers of traces, each with the header of a record of 16 octets: by microseconds and nanoseconds, in both orders.
@@ -162,37 +161,12 @@ fn three_frames_in_two_pieces(rt: HostRuntime) -> Result<(), Fail> {
     Ok(())
 }
 
-/// A reader that gives one octet a call, and fails once it gave so many.
-#[derive(Drop)]
-struct Breaking<'a> {
-    octets: &'a [u8],
-    left: usize,
-}
-
-impl Read for Breaking<'_> {
-    fn read(&mut self, buf: &mut [u8]) -> io::Result<usize> {
-        if self.left == 0 {
-            return Err(io::Error::from(ErrorKind::Other));
-        }
-        self.left -= 1;
-        match self.octets.split_first() {
-            Some((first, rest)) if !buf.is_empty() => {
-                buf[0] = *first;
-                self.octets = rest;
-                Ok(1)
-            }
-            _ => Ok(0),
-        }
-    }
-}
-
 #[test]
 fn readers_that_fail(rt: HostRuntime) -> Result<(), Fail> {
     let (header, record) = HEADERS[0];
     let octets = trace_of(rt.alloc(), header, record, 1)?;
     for left in 0..=octets.len() {
-        let octets = octets.as_slice();
-        let mut reader = Tried::new(Breaking { octets, left });
+        let mut reader = Tried::new(Source::breaking(octets.as_slice(), left));
         let refusal = frames(rt.alloc(), &mut reader);
         assert!(rt;
             refusal.is_err_and(|e| e == TraceRefusal::ReadFault),
