@@ -3,7 +3,7 @@
 # The main job, before any proof: a record, a frame and a trace are answered within some two minutes.
 .PHONY: try
 try:
-	@examples/try
+	@tests/try
 
 # The main job, proved: a record and a listing from crates/gw/stdin, one verdict out; and a stored trace, forwarded by a gateway
 # of two ports.
@@ -27,7 +27,7 @@ crates/gw/out/gw:
 # and the pages.
 .PHONY: test
 test:
-	@./gate
+	@tests/gate
 
 # For whoever works on it. The layout, the pages, and the tests and examples before any proof: minutes.
 .PHONY: quick
@@ -41,11 +41,11 @@ crate:
 
 # A soak of the running threads: ten million offers at four ports, with a replacement after each 10000 of them.
 .PHONY: soak
-soak: crates/gw_soak/out/gw_soak
+soak: crates/test_soak/out/test_soak
 	@$< 2500000 10000
 
-crates/gw_soak/out/gw_soak:
-	@cd crates/gw_soak && rt run -- $$(cat args)
+crates/test_soak/out/test_soak:
+	@cd crates/test_soak && rt run -- $$(cat args)
 
 # Our loop beside libpcap's on the same programs and records, and the times of tables, scripts, traces and threads
 # (docs/BENCHMARKS.md). Debian: libpcap-dev.

@@ -10,7 +10,7 @@
 
 enum { RECORDS = 1024, REPEATS = 100, LONGEST = 4096 };
 
-/* The exports of gw_bench. A slice is passed as a pointer and a length. */
+/* The exports of bench_exports. A slice is passed as a pointer and a length. */
 bool gw_bench_run(const struct bpf_insn *code, size_t length, const uint8_t (*records)[16], size_t count,
                   uint32_t rounds, uint32_t *answers, size_t room);
 bool gw_bench_judge(const char *text, size_t length, const uint8_t (*records)[16], size_t count, uint32_t rounds,

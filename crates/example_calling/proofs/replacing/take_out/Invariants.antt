@@ -1,0 +1,6 @@
+use Rattle.std.proofs.Common.{◌≡◌, map}
+use Rattle.gw_ports.specs.Ends.{end_out}
+use Rattle.example_calling.proofs.replacing.take_out.Given as goal
+
+abbrev pub invariant-loop-port : goal.invariant-loop-port
+invariant-loop-port l = map end_out l.outs ≡ map end_out l.initial.outs

@@ -1,0 +1,15 @@
+use Rattle.std.proofs.Common.{◌∙◌, List, ap, arith, map, subst, sym}
+use Rattle.gw_ports.specs.Ends.{EndIn, end_in, end_out}
+use Rattle.gw_ports.specs.Making.{AreEnds}
+use Rattle.gw_ports.proofs.OneGateway.{ends_in_stay}
+use Rattle.test_libraries.proofs.ports.offer_at.Goals as goal
+
+pub returns : goal.returns
+returns c =
+    let parts = c.args.parts.now in
+    let at = c.index_mut.result.now in
+    let size = parts.ins.ok.0 in
+    subst (λ (ends : List EndIn). AreEnds parts.operator.board parts.operator.ports ends (map end_out parts.outs.items))
+    (sym (ends_in_stay parts.ins.items c.args.port at c.offer.new.from (let below = c.if-port-len.false in omega arith)
+    (c.offer.ensures ∙ ap end_in c.index_mut.ensures.value)))
+    c.requires
