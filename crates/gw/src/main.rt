@@ -2,7 +2,7 @@
 #![tactic(auto)]
 
 use gw_cli::{command, run_command};
-use gw_trace::Tried;
+use gw_io::Tried;
 use std::alloc::AllocError;
 use std::env;
 use std::process::ExitCode;

@@ -1,3 +1,4 @@
+pub mod Callers
 pub mod Prefixes
 pub mod Adding
 pub mod InForce

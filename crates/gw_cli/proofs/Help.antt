@@ -4,7 +4,7 @@ use Rattle.clap.specs.declared.error.kind.ErrorKind.{ErrorKind}
 use Rattle.clap.specs.declared.error.kind.ErrorKind.TheVariants.{DisplayHelp, DisplayVersion}
 use Rattle.gw_cli.specs.Asked.{IsHelp}
 
--- what goes to the fault stream is neither, and what does not is one of them
+-- what goes to stderr is neither, and what does not is one of them
 pub not_help : (kind : ErrorKind) → (kind ≢ DisplayHelp) × (kind ≢ DisplayVersion) → IsHelp kind → ⊥
 not_help DisplayHelp neither is = neither.0 refl
 not_help DisplayVersion neither is = neither.1 refl

@@ -1,5 +1,5 @@
 -- What is done for the words of a command line: `before` and `after` are what the reader has left, `old` and `new` what the
--- output took, `told_old` and `told_new` what the fault stream took. Which words ask for what is not said here.
+-- output took, `told_old` and `told_new` what stderr took. Which words ask for what is not said here.
 use Rattle.std.specs.Prelude.{◌≡◌, ℕ, ◌⊎◌, Bool, false, List, length, Option, Err}
 use Rattle.std.specs.Prelude.{option_copied}
 use Rattle.clap.specs.declared.error.kind.ErrorKind.{ErrorKind}
@@ -25,7 +25,7 @@ IsHelp DisplayHelp = Unit {0}
 IsHelp DisplayVersion = Unit {0}
 IsHelp _ = ⊥
 
--- a text of `clap` was written: help or the version on the output alone, with status 0, and what is wrong on the fault stream
+-- a text of `clap` was written: help or the version on the output alone, with status 0, and what is wrong on stderr
 -- alone, with status 2; or memory was wanting for the text
 abbrev pub AnswersWords : ErrorKind → Option (List ℕ) → Option (List ℕ) → Bool → Option (List ℕ) → Option (List ℕ) → Bool → ℕ
     → Type 0

@@ -2,7 +2,7 @@
 
 ghost use Rattle.std.specs.Prelude.{◌≡◌, length, false, None};
 ghost use Rattle.clap.specs.Values.{kind_of};
-ghost use Rattle.gw_trace.specs.Tries.{inner_of, has_failed, reads_of};
+ghost use Rattle.gw_io.specs.Tries.{inner_of, has_failed, reads_of};
 ghost use Rattle.gw_commands.specs.Commands.{Does, WritesText};
 ghost use Rattle.gw_commands.specs.Verdicts.{AnswersVerdict, RefusesVerdict};
 ghost use Rattle.gw_cli.specs.Asked.{AnswersWords, DoesAsked, DoesWords};
@@ -12,7 +12,7 @@ use crate::words::{Request, read_words};
 use clap::Error;
 use clap::error::ErrorKind;
 use gw_commands::{Refusal, asm, check, claims, list, replay, respond, table, verdict};
-use gw_trace::{Tried, WriteFault, write_all};
+use gw_io::{Tried, WriteFault, write_all};
 use std::alloc::Global;
 use std::convert::AsStr;
 use std::io::{Read, Write};
@@ -83,7 +83,7 @@ fn do_asked<R: Read, W: Write, F: Write>(
     }
 }
 
-/// Writes `clap`'s answer: help on the output with status 0, or what is wrong on the fault stream with status 2. The status is 1
+/// Writes `clap`'s answer: help on the output with status 0, or what is wrong on stderr with status 2. The status is 1
 /// where the write failed, or memory was wanting for the text.
 pub fn answer_words<W: Write, F: Write>(
     alloc: Global,

@@ -26,49 +26,22 @@ pub struct RunRequest<'a> {
     pub progress: bool,
 }
 
+// The options stand in functions of their own: a function of all seven takes the prover minutes.
+
 /// The command `run`, as `clap` reads it and shows its help.
 pub fn run_words<'a>(alloc: Global) -> Result<Command<'a>, AllocError> {
-    let ports = Arg::new(alloc, "ports")
-        .long("ports")
-        .value_name("N")
-        .required(true)
-        .value_parser(value_parser!(u32).range(2..=16))
-        .help("The number of ports, 2 to 16; frame i of the trace is taken at port i mod N");
-    let lane = Arg::new(alloc, "lane")
-        .long("lane")
-        .value_name("N")
-        .value_parser(value_parser!(u32).range(1..=1024))
-        .help(
-            "How many copies may wait on the way from one port to another, 1 to 1024 [default: 64]",
-        );
-    let program = Arg::new(alloc, "program")
-        .long("program")
-        .value_name("LISTING")
-        .help(
-            "The listing of a program that decides what leaves at each port that no other option names",
-        );
-    let table = Arg::new(alloc, "table")
-        .long("table")
-        .value_name("P=FILE")
-        .action(ArgAction::Append)
-        .help("A table that decides what leaves at port P; once for each port");
-    let listing = Arg::new(alloc, "listing")
-        .long("listing")
-        .value_name("P=FILE")
-        .action(ArgAction::Append)
-        .help(
-            "A file with a program's listing that decides what leaves at port P; once for each port",
-        );
-    let lanes = Arg::new(alloc, "lanes")
-        .long("lanes")
-        .action(ArgAction::SetTrue)
-        .help(
-            "Tells behind the ports what was placed and lost on the way from each port to each other",
-        );
-    let progress = Arg::new(alloc, "progress")
-        .long("progress")
-        .action(ArgAction::SetTrue)
-        .help("Tells on the fault stream, once a second, how many frames are done");
+    described(alloc)
+        .arg(ports_option(alloc))?
+        .arg(lane_option(alloc))?
+        .arg(program_option(alloc))?
+        .arg(table_option(alloc))?
+        .arg(listing_option(alloc))?
+        .arg(lanes_option(alloc))?
+        .arg(progress_option(alloc))
+}
+
+/// The command without its options.
+fn described<'a>(alloc: Global) -> Command<'a> {
     Command::new(alloc, "run")
         .about(
             "Forwards the frames of a trace in threads, and tells what each port took and let leave",
@@ -78,13 +51,68 @@ pub fn run_words<'a>(alloc: Global) -> Result<Command<'a>, AllocError> {
             [--lanes] [--progress] < TRACE",
         )
         .after_help("Example: gw run --ports 2 --program '1,6 0 0 1,' < TRACE")
-        .arg(ports)?
-        .arg(lane)?
-        .arg(program)?
-        .arg(table)?
-        .arg(listing)?
-        .arg(lanes)?
-        .arg(progress)
+}
+
+fn ports_option<'a>(alloc: Global) -> Arg<'a> {
+    Arg::new(alloc, "ports")
+        .long("ports")
+        .value_name("N")
+        .required(true)
+        .value_parser(value_parser!(u32).range(2..=16))
+        .help("The number of ports, 2 to 16; frame i of the trace is taken at port i mod N")
+}
+
+fn lane_option<'a>(alloc: Global) -> Arg<'a> {
+    Arg::new(alloc, "lane")
+        .long("lane")
+        .value_name("N")
+        .value_parser(value_parser!(u32).range(1..=1024))
+        .help(
+            "How many copies may wait on the way from one port to another, 1 to 1024 [default: 64]",
+        )
+}
+
+fn program_option<'a>(alloc: Global) -> Arg<'a> {
+    Arg::new(alloc, "program")
+        .long("program")
+        .value_name("LISTING")
+        .help(
+            "The listing of a program that decides what leaves at each port that no other option names",
+        )
+}
+
+fn table_option<'a>(alloc: Global) -> Arg<'a> {
+    Arg::new(alloc, "table")
+        .long("table")
+        .value_name("P=FILE")
+        .action(ArgAction::Append)
+        .help("A table that decides what leaves at port P; once for each port")
+}
+
+fn listing_option<'a>(alloc: Global) -> Arg<'a> {
+    Arg::new(alloc, "listing")
+        .long("listing")
+        .value_name("P=FILE")
+        .action(ArgAction::Append)
+        .help(
+            "A file with a program's listing that decides what leaves at port P; once for each port",
+        )
+}
+
+fn lanes_option<'a>(alloc: Global) -> Arg<'a> {
+    Arg::new(alloc, "lanes")
+        .long("lanes")
+        .action(ArgAction::SetTrue)
+        .help(
+            "Tells behind the ports what was placed and lost on the way from each port to each other",
+        )
+}
+
+fn progress_option<'a>(alloc: Global) -> Arg<'a> {
+    Arg::new(alloc, "progress")
+        .long("progress")
+        .action(ArgAction::SetTrue)
+        .help("Tells on stderr, once a second, how many frames are done")
 }
 
 /// What the words ask for where they name the command `run`, or `clap`'s answer to them: help, or what is wrong.

@@ -1,14 +1,14 @@
 //! The command `run`, over a reader and two writers.
 
 ghost use Rattle.std.specs.Prelude.{◌≡◌, false, vec_len};
-ghost use Rattle.gw_trace.specs.Tries.{inner_of, has_failed, reads_of};
+ghost use Rattle.gw_io.specs.Tries.{inner_of, has_failed, reads_of};
 ghost use Rattle.gw_commands.specs.Forwarding.{ForwardsNamed};
 ghost use Rattle.gw_cli.specs.Asked.{RunsWords};
 
 use crate::dispatch::answer_words;
 use crate::run_words::{RunRequest, read_run};
 use gw_commands::{Progress, Unwatched, forward_named};
-use gw_trace::Tried;
+use gw_io::Tried;
 use std::alloc::Global;
 use std::convert::AsStr;
 use std::io::{IsTerminal, Read, Write};
@@ -17,7 +17,7 @@ use std::rt::{Clock, Files};
 use std::sync::Wait;
 use std::thread::Threads;
 
-/// What tells whether a person watches the fault stream.
+/// What tells whether a person watches stderr.
 pub trait Console {
     /// Whether it is a terminal.
     fn is_watched(&self) -> bool;

@@ -97,15 +97,6 @@ fn replay_command<'a>(alloc: Global) -> Command<'a> {
 }
 
 fn table_command<'a>(alloc: Global) -> Result<Command<'a>, AllocError> {
-    let frame = Arg::new(alloc, "frame")
-        .long("frame")
-        .value_name("HEX")
-        .help("A record in hexadecimal digits: tells whether the table passes it");
-    let why = Arg::new(alloc, "why")
-        .long("why")
-        .action(ArgAction::SetTrue)
-        .requires_arg("frame")?
-        .help("Tells on the fault stream which rule decides the frame, counted from 0");
     Command::new(alloc, "table")
         .about(
             "Compiles a policy table to a program's listing, or tells `pass` or `block` for a frame",
@@ -115,8 +106,25 @@ fn table_command<'a>(alloc: Global) -> Result<Command<'a>, AllocError> {
             "Example: gw table --port 1 --frame 98EA00F903000000EBFE000000000000 < examples/diagnostics-port.toml",
         )
         .arg(taking_port(alloc))?
-        .arg(frame)?
-        .arg(why)
+        .arg(frame_option(alloc))?
+        .arg(why_option(alloc)?)
+}
+
+fn frame_option<'a>(alloc: Global) -> Arg<'a> {
+    Arg::new(alloc, "frame")
+        .long("frame")
+        .value_name("HEX")
+        .help("A record in hexadecimal digits: tells whether the table passes it")
+}
+
+fn why_option<'a>(alloc: Global) -> Result<Arg<'a>, AllocError> {
+    Ok(
+        Arg::new(alloc, "why")
+            .long("why")
+            .action(ArgAction::SetTrue)
+            .requires_arg("frame")?
+            .help("Tells on stderr which rule decides the frame, counted from 0"),
+    )
 }
 
 /// The commands, as `clap` reads them and shows their help.

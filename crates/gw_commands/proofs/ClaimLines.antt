@@ -17,9 +17,9 @@ use Rattle.gw_frame.specs.Record.{IsRecord, refusal_of}
 use Rattle.gw_claims.specs.Holders.{holder_of}
 use Rattle.hex.specs.Hex.{decode_of}
 use Rattle.hex.specs.declared.error.FromHexError.{FromHexError}
-use Rattle.gw_replay.specs.declared.hex_record.RecordFault.{RecordFault}
-use Rattle.gw_replay.specs.declared.hex_record.RecordFault.TheVariants.{NoDigit, OddDigits, NoRecord}
-use Rattle.gw_replay.specs.Records.{NamesRecord, IsRecordFault}
+use Rattle.gw_input.specs.declared.records.RecordFault.{RecordFault}
+use Rattle.gw_input.specs.declared.records.RecordFault.TheVariants.{NoDigit, OddDigits, NoRecord}
+use Rattle.gw_input.specs.Records.{NamesRecord, IsRecordFault}
 use Rattle.gw_commands.specs.ClaimLines.{is_blank, if_record, record_on, heard_on, is_bad, records_on, name_digits, holder_line}
 use Rattle.gw_commands.specs.ClaimLines.{line_at}
 use Rattle.gw_commands.specs.ClaimLines.{holder_lines}

@@ -7,7 +7,7 @@ use Rattle.gw_replay.specs.declared.whole.ReplayFault.{ReplayFault}
 use Rattle.gw_replay.specs.declared.whole.ReplayFault.TheVariants as fault
 use Rattle.gw_replay.specs.Written.{IsPartlyReplayed, IsReplayFault}
 use Rattle.gw_commands.specs.declared.refusal.Refusal.{Refusal}
-use Rattle.gw_trace.specs.Written.{WritesPart}
+use Rattle.gw_io.specs.Written.{WritesPart}
 use Rattle.gw_commands.specs.Commands.{Writes}
 use Rattle.gw_commands.specs.Refusals.{refusal_text}
 use Rattle.gw_commands.specs.Replays.{Replays, fault_line}

@@ -5,5 +5,4 @@ pub mod FirstBatch
 pub mod Forwarded
 pub mod Forwards
 pub mod Found
-pub mod LineByLine
 pub mod PathsTold

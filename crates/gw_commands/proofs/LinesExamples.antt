@@ -5,7 +5,7 @@ use Rattle.std.specs.Fmt.{digits}
 use Rattle.gw_commands.specs.Answers.{verdict_line, accepted_line, passes_line}
 use Rattle.gw_commands.specs.Checks.{path_line}
 use Rattle.gw_commands.specs.ClaimLines.{name_digits, holder_line}
-use Rattle.gw_commands.specs.Lines.{lines_of}
+use Rattle.gw_input.specs.Lines.{lines_of}
 
 pass_7 : verdict_line 7 ≡ codes "pass 7\n"
 unfolding digits

@@ -12,7 +12,7 @@ use Rattle.gw_commands.specs.declared.answer.Answer.{Answer}
 use Rattle.gw_commands.specs.declared.answer.Answer.TheVariants.{Text}
 use Rattle.gw_commands.specs.declared.refusal.Refusal.{Refusal}
 use Rattle.gw_commands.specs.declared.refusal.Refusal.TheVariants.{Assembler, NotUtf8, OutOfMemory}
-use Rattle.gw_replay.specs.Policies.{NamesProgram}
+use Rattle.gw_input.specs.Programs.{NamesProgram}
 use Rattle.gw_commands.specs.Verdicts.{IsProgramRefusal}
 
 -- the listing of the code that the text means, and a line feed

@@ -13,9 +13,9 @@ use Rattle.gw_commands.specs.declared.answer.Answer.{Answer}
 use Rattle.gw_commands.specs.declared.answer.Answer.TheVariants.{Accepted}
 use Rattle.gw_commands.specs.declared.refusal.Refusal.{Refusal}
 use Rattle.gw_commands.specs.declared.refusal.Refusal.TheVariants.{Listing, Program, Unset, OutOfMemory}
-use Rattle.gw_replay.specs.Details.{cause_details}
-use Rattle.gw_replay.specs.Faults.{refused_line}
-use Rattle.gw_replay.specs.Policies.{NamesProgram}
+use Rattle.gw_input.specs.Refused.{cause_details}
+use Rattle.gw_input.specs.Refused.{refused_line}
+use Rattle.gw_input.specs.Programs.{NamesProgram}
 use Rattle.gw_commands.specs.Verdicts.{IsProgramRefusal}
 
 -- the number of instructions of the accepted program

@@ -10,11 +10,11 @@ use Rattle.gw_frame.specs.Record.{refusal_of}
 use Rattle.gw_claims.specs.Holders.{holder_of, HoldsAfter}
 use Rattle.gw_commands.specs.declared.answer.Answer.{Answer}
 use Rattle.gw_commands.specs.declared.answer.Answer.TheVariants.{Text}
-use Rattle.gw_replay.specs.declared.hex_record.RecordFault.{RecordFault}
+use Rattle.gw_input.specs.declared.records.RecordFault.{RecordFault}
 use Rattle.gw_commands.specs.declared.refusal.Refusal.{Refusal}
 use Rattle.gw_commands.specs.declared.refusal.Refusal.TheVariants.{RecordOnLine, OutOfMemory}
-use Rattle.gw_commands.specs.Lines.{lines_of}
-use Rattle.gw_replay.specs.Records.{IsRecordFault}
+use Rattle.gw_input.specs.Lines.{lines_of}
+use Rattle.gw_input.specs.Records.{IsRecordFault}
 
 -- octets, where they are a record
 abbrev pub if_record : List ℕ → Option (List ℕ)

@@ -1,7 +1,7 @@
 -- What a command does: it reads its input whole, and writes the answer to it or its first refusal.
 use Rattle.std.specs.Prelude.{◌≡◌, ℕ, ◌<◌, ◌≤◌, ◌⊎◌, Bool, true, false, List, length, Option, Result, Ok, Err, MatchResult}
 use Rattle.std.specs.Io.KnownBytes.{Appends, IsAtEnd, Consumes}
-use Rattle.gw_trace.specs.Written.{WritesPart}
+use Rattle.gw_io.specs.Written.{WritesPart}
 use Rattle.gw_commands.specs.declared.answer.Answer.{Answer}
 use Rattle.gw_commands.specs.declared.refusal.Refusal.{Refusal}
 use Rattle.gw_commands.specs.declared.refusal.Refusal.TheVariants.{ReadFault, TooMuchInput, OutOfMemory}

@@ -21,7 +21,7 @@ use Rattle.gw_ports.specs.Runs.{IsRun, RefusesRun}
 use Rattle.gw_ports.specs.declared.refusals.OfferRefusal.{OfferRefusal}
 use Rattle.gw_ports.specs.declared.running.RunRefusal.TheVariants.{NoSuchPort}
 use Rattle.gw_ports.specs.declared.running.RunReport.{RunReport}
-use Rattle.gw_trace.specs.Progress.{most_reads}
+use Rattle.gw_io.specs.Pieces.{most_reads}
 use Rattle.gw_trace.specs.Shares.{share_of}
 use Rattle.gw_trace.specs.Traces.{whole_trace}
 use Rattle.gw_trace.specs.declared.refusal.TraceRefusal.{TraceRefusal}
@@ -37,8 +37,9 @@ use Rattle.gw_commands.specs.declared.refusal.Refusal.{Refusal}
 use Rattle.gw_commands.specs.declared.refusal.Refusal.TheVariants as refused
 use Rattle.gw_commands.specs.declared.refusal.Refusal.TheVariants.{Trace, Run, Stopped, TooMuchInput, OutOfMemory}
 use Rattle.gw_commands.specs.Commands.{Writes}
-use Rattle.gw_commands.specs.Tables.{IsTable, RefusesText}
-use Rattle.gw_replay.specs.Policies.{NamesProgram}
+use Rattle.gw_input.specs.Tables.{IsTable}
+use Rattle.gw_commands.specs.Tables.{RefusesText}
+use Rattle.gw_input.specs.Programs.{NamesProgram}
 use Rattle.gw_commands.specs.Verdicts.{IsProgramRefusal}
 
 -- ---- the first batch

@@ -5,7 +5,6 @@ pub mod Checks
 pub mod ClaimLines
 pub mod Commands
 pub mod Forwarding
-pub mod Lines
 pub mod Refusals
 pub mod Replays
 pub mod Tables

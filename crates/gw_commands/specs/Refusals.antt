@@ -15,9 +15,9 @@ use Rattle.gw_commands.specs.declared.refusal.Refusal.TheVariants as refusal
 use Rattle.gw_commands.specs.declared.refusal.Refusal.TheVariants.{Record, RecordOnLine, Listing, Program, Unset, Assembler}
 use Rattle.gw_commands.specs.declared.refusal.Refusal.TheVariants.{Table, Trace, Run, Stopped}
 use Rattle.gw_commands.specs.declared.refusal.Refusal.TheVariants.{ReadFault, TooMuchInput, NotUtf8}
-use Rattle.gw_replay.specs.Records.{record_number}
-use Rattle.gw_replay.specs.Details.{listing_details, cause_details, table_details}
-use Rattle.gw_replay.specs.Faults.{refused_line}
+use Rattle.gw_input.specs.Records.{record_number}
+use Rattle.gw_input.specs.Refused.{listing_details, cause_details, table_details}
+use Rattle.gw_input.specs.Refused.{refused_line}
 
 abbrev pub number_of : Refusal → ℕ
 number_of (Record fault) = record_number fault

@@ -4,8 +4,8 @@ use Rattle.std.specs.Prelude.{◌≡◌, ◌⊎◌, ℕ, Bool, false, List, [], 
 use Rattle.std.specs.Io.KnownBytes.{Appends}
 use Rattle.gw_replay.specs.declared.whole.ReplayFault.{ReplayFault}
 use Rattle.gw_replay.specs.Written.{IsReplayed, IsPartlyReplayed, IsReplayFault, fault_number}
-use Rattle.gw_trace.specs.Written.{WritesPart}
-use Rattle.gw_replay.specs.Faults.{refused_line}
+use Rattle.gw_io.specs.Written.{WritesPart}
+use Rattle.gw_input.specs.Refused.{refused_line}
 
 -- the line of what ends a script early
 abbrev pub fault_line : ReplayFault → List ℕ

@@ -6,21 +6,17 @@ use Rattle.gw_insn.specs.Spelling.{plain_listing}
 use Rattle.gw_table.specs.Table.{Meaning, table_passes}
 use Rattle.gw_table.specs.TableText.{IsTableText, IsTableRefusal}
 use Rattle.gw_table.specs.Emission.{emission}
+use Rattle.gw_input.specs.Tables.{IsTable}
 use Rattle.gw_commands.specs.declared.answer.Answer.{Answer}
 use Rattle.gw_commands.specs.declared.answer.Answer.TheVariants.{Passes, Text}
-use Rattle.gw_replay.specs.declared.hex_record.RecordFault.{RecordFault}
+use Rattle.gw_input.specs.declared.records.RecordFault.{RecordFault}
 use Rattle.gw_commands.specs.declared.refusal.Refusal.{Refusal}
 use Rattle.gw_commands.specs.declared.refusal.Refusal.TheVariants.{Record, NotUtf8, Table, OutOfMemory}
-use Rattle.gw_replay.specs.Records.{NamesRecord, IsRecordFault}
+use Rattle.gw_input.specs.Records.{NamesRecord, IsRecordFault}
 
 -- the listing of a table's program, and a line feed
 abbrev pub compiled_line : Meaning → List ℕ
 compiled_line table = plain_listing (map raw_of (emission table)) ++ 10 ∷ []
-
--- the input is UTF-8, and the text of this table
-pub record IsTable (input : List ℕ) (table : Meaning) : Type 0 where
-  pub utf8 : IsUtf8 input
-  pub text : IsTableText input table
 
 -- the program's listing, or with the text of a frame whether the table passes it
 abbrev pub AnswersTable : Option (List ℕ) → ℕ → List ℕ → Answer → Type 0

@@ -10,12 +10,12 @@ use Rattle.gw_verify.specs.Accepted.{IsRefusal}
 use Rattle.gw_machine.specs.Runs.{Returns}
 use Rattle.gw_commands.specs.declared.answer.Answer.{Answer}
 use Rattle.gw_commands.specs.declared.answer.Answer.TheVariants.{Verdict}
-use Rattle.gw_replay.specs.Policies.{NamesProgram}
-use Rattle.gw_replay.specs.declared.hex_record.RecordFault.{RecordFault}
+use Rattle.gw_input.specs.Programs.{NamesProgram}
+use Rattle.gw_input.specs.declared.records.RecordFault.{RecordFault}
 use Rattle.gw_commands.specs.declared.refusal.Refusal.{Refusal}
 use Rattle.gw_commands.specs.declared.refusal.Refusal.TheVariants.{Record, Listing, Program}
-use Rattle.gw_commands.specs.Lines.{first_line, behind_first}
-use Rattle.gw_replay.specs.Records.{NamesRecord, IsRecordFault}
+use Rattle.gw_input.specs.Lines.{first_line, behind_first}
+use Rattle.gw_input.specs.Records.{NamesRecord, IsRecordFault}
 
 -- the record's text: a word of the command line, else the input's first line
 abbrev pub record_text : Option (List ℕ) → List ℕ → List ℕ

@@ -2,12 +2,12 @@
 
 ghost use Rattle.std.specs.Prelude.{◌≡◌, OnOk, OnErr, false, true};
 ghost use Rattle.std.specs.Io.KnownBytes.{Appends};
-ghost use Rattle.gw_trace.specs.Tries.{inner_of, has_failed};
+ghost use Rattle.gw_io.specs.Tries.{inner_of, has_failed};
 ghost use Rattle.gw_commands.specs.Answers.{answer_text, verdict_line, accepted_line};
-ghost use Rattle.gw_trace.specs.Written.{WritesPart};
+ghost use Rattle.gw_io.specs.Written.{WritesPart};
 
-use crate::line::Line;
-use gw_trace::{Tried, WriteFault, write_all};
+use gw_input::Line;
+use gw_io::{Tried, WriteFault, write_all};
 use std::io::Write;
 
 /// What a command answers.
@@ -53,7 +53,7 @@ fn verdict_line(answer: u32) -> Line
     } else {
         Line::new()
             .text("pass ")
-            .number(u64::from(answer))
+            .digits(u64::from(answer))
             .text("\n")
     }
 }
@@ -64,6 +64,6 @@ fn accepted_line(count: usize) -> Line
 {
     Line::new()
         .text("accepted ")
-        .number(count as u64)
+        .digits(count as u64)
         .text("\n")
 }

@@ -1,7 +1,7 @@
 //! The commands `asm` and `list`: assembler text to a listing, and back.
 
 ghost use Rattle.std.specs.Prelude.{◌≡◌, false, IfOk, IfErr};
-ghost use Rattle.gw_trace.specs.Tries.{inner_of, has_failed};
+ghost use Rattle.gw_io.specs.Tries.{inner_of, has_failed};
 ghost use Rattle.gw_commands.specs.Commands.{Does, IsFound};
 ghost use Rattle.gw_commands.specs.Assemblies.{AnswersAsm, RefusesAsm, AnswersList, RefusesList};
 
@@ -12,7 +12,7 @@ use crate::responding::respond;
 use crate::streams::read_input;
 use gw_insn::write_listing;
 use gw_text::{assemble, disassemble};
-use gw_trace::Tried;
+use gw_io::Tried;
 use std::alloc::{AllocError, Global};
 use std::io::{Read, Write};
 

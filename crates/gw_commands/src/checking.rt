@@ -1,21 +1,22 @@
 //! The command `check`: whether a listing's program is accepted.
 
 ghost use Rattle.std.specs.Prelude.{◌≡◌, ◌++◌, ℕ, List, false, IfOk, IfErr, string_bytes};
-ghost use Rattle.gw_trace.specs.Tries.{inner_of, has_failed};
+ghost use Rattle.gw_io.specs.Tries.{inner_of, has_failed};
 ghost use Rattle.gw_verify.specs.Cause.{cause_number};
 ghost use Rattle.gw_commands.specs.Commands.{Does, IsFound};
 ghost use Rattle.gw_commands.specs.Checks.{AnswersCheck, RefusesCheck, path_line};
 ghost use Rattle.gw_commands.specs.Verdicts.{IsProgramRefusal};
 ghost use Rattle.gw_commands.specs.declared.refusal.Refusal.TheVariants.{Program};
-ghost use Rattle.gw_replay.specs.Details.{cause_details};
-ghost use Rattle.gw_replay.specs.Faults.{refused_line};
+ghost use Rattle.gw_input.specs.Refused.{cause_details};
+ghost use Rattle.gw_input.specs.Refused.{refused_line};
 
 use crate::answer::Answer;
 use crate::judging::program;
-use crate::refusal::{Refusal, program_line};
+use crate::refusal::Refusal;
 use crate::responding::respond;
 use crate::streams::read_input;
-use gw_trace::Tried;
+use gw_input::refused_code;
+use gw_io::Tried;
 use gw_verify::{Cause, Path, Refused};
 use std::alloc::{AllocError, Global};
 use std::io::{Read, Write};
@@ -97,7 +98,7 @@ fn explained(alloc: Global, refused: &Refused, path: &Path) -> Result<Vec<u8>, A
         ++ refused_line (cause_number refused.now.why) (cause_details refused.now.why refused.now.place)) }
 {
     let mut output = path_line(alloc, &path.places)?.into_bytes();
-    output.extend_from_slice(program_line(refused.why, refused.place).as_bytes())?;
+    output.extend_from_slice(refused_code(refused.why, refused.place).as_bytes())?;
     Ok(output)
 }
 

@@ -3,10 +3,10 @@
 ghost use Rattle.std.specs.Prelude.{◌≡◌, ◌++◌, ◌∷◌, [], ℕ, List, reverse, true, false, IfOk, IfErr, OnOk, string_bytes};
 ghost use Rattle.std.specs.List.{list_any};
 ghost use Rattle.gw_claims.specs.Holders.{HoldsAfter};
-ghost use Rattle.gw_trace.specs.Tries.{inner_of, has_failed};
+ghost use Rattle.gw_io.specs.Tries.{inner_of, has_failed};
 ghost use Rattle.gw_commands.specs.Commands.{Does, IsFound};
-ghost use Rattle.gw_commands.specs.Lines.{lines_of};
-ghost use Rattle.gw_replay.specs.Records.{IsRecordFault};
+ghost use Rattle.gw_input.specs.Lines.{lines_of};
+ghost use Rattle.gw_input.specs.Records.{IsRecordFault};
 ghost use Rattle.gw_commands.specs.ClaimLines.{
   AnswersClaims,
   RefusesClaims,
@@ -19,15 +19,15 @@ ghost use Rattle.gw_commands.specs.ClaimLines.{
 };
 
 use crate::answer::Answer;
-use crate::lines::first_line;
+use gw_input::first_line;
 use crate::notes::note_uncounted;
 use crate::refusal::Refusal;
 use crate::responding::respond;
 use crate::streams::read_input;
 use gw_claims::Claims;
 use gw_ident::Name;
-use gw_replay::{RecordFault, record};
-use gw_trace::Tried;
+use gw_input::{RecordFault, record};
+use gw_io::Tried;
 use std::alloc::{AllocError, Global};
 use std::io::{Read, Write};
 

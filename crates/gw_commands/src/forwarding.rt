@@ -1,7 +1,7 @@
 //! The command `run`: the frames of a trace, forwarded by a gateway that runs in threads.
 
 ghost use Rattle.std.specs.Prelude.{◌≡◌, length, false};
-ghost use Rattle.gw_trace.specs.Tries.{inner_of, has_failed, reads_of};
+ghost use Rattle.gw_io.specs.Tries.{inner_of, has_failed, reads_of};
 ghost use Rattle.gw_commands.specs.Forwarding.{Forwards, IsForwardFound};
 
 use crate::answer::Answer;
@@ -9,7 +9,8 @@ use crate::refusal::Refusal;
 use crate::responding::respond;
 use first::first_batch;
 use gw_ledger::Limits;
-use gw_trace::{Checked, Tried};
+use gw_io::Tried;
+use gw_trace::Checked;
 use lines::report_text;
 use octets::read_trace;
 use running::run_shares;

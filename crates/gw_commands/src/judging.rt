@@ -1,9 +1,9 @@
 //! The command `verdict`: a program of a listing, run on a record.
 
 ghost use Rattle.std.specs.Prelude.{◌≡◌, false, IfOk, IfErr, option_copied};
-ghost use Rattle.gw_trace.specs.Tries.{inner_of, has_failed};
+ghost use Rattle.gw_io.specs.Tries.{inner_of, has_failed};
 ghost use Rattle.gw_commands.specs.Commands.{Does, IsFound};
-ghost use Rattle.gw_replay.specs.Policies.{NamesProgram};
+ghost use Rattle.gw_input.specs.Programs.{NamesProgram};
 ghost use Rattle.gw_commands.specs.Verdicts.{
   AnswersVerdict,
   RefusesVerdict,
@@ -15,15 +15,13 @@ ghost use Rattle.gw_commands.specs.Verdicts.{
 };
 
 use crate::answer::Answer;
-use crate::lines::first_line;
 use crate::notes::note_standard_identifier;
 use crate::refusal::Refusal;
 use crate::responding::respond;
 use crate::streams::read_input;
-use gw_insn::read_listing;
 use gw_machine::run;
-use gw_replay::record;
-use gw_trace::Tried;
+use gw_input::{ProgramFault, first_line, record};
+use gw_io::Tried;
 use gw_verify::Program;
 use std::alloc::Global;
 use std::io::{Read, Write};
@@ -106,13 +104,10 @@ pub fn program(alloc: Global, listing: &[u8]) -> Result<Program, Refusal>
     ensures named { IfOk result (λ program. NamesProgram listing.now program) }
     ensures refused { IfErr result (IsProgramRefusal listing.now) }
 {
-    let code = match read_listing(alloc, listing) {
-        Ok(code) => code,
-        Err(why) => return Err(Refusal::Listing(why)),
-    };
-    match Program::check(alloc, code) {
+    match gw_input::program(alloc, listing) {
         Ok(program) => Ok(program),
-        Err(refused) => Err(Refusal::Program {
+        Err(ProgramFault::Listing(why)) => Err(Refusal::Listing(why)),
+        Err(ProgramFault::Code(refused)) => Err(Refusal::Program {
             path: refused.explain(alloc).unwrap_or(None),
             refused,
         }),

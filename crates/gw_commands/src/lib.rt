@@ -8,8 +8,6 @@ mod claiming;
 mod explanation;
 mod forwarding;
 mod judging;
-mod line;
-mod lines;
 mod notes;
 mod refusal;
 mod replaying;

@@ -2,7 +2,7 @@
 
 use gw_frame::Frame;
 use gw_table::Table;
-use gw_trace::Tried;
+use gw_io::Tried;
 use std::io::Write;
 
 /// The greatest identifier of a standard frame, eleven bits.

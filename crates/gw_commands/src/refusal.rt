@@ -1,20 +1,19 @@
 //! Why the program refuses what it was given.
 
-ghost use Rattle.std.specs.Prelude.{◌≡◌, ◌≤◌, ◌++◌, ◌∷◌, length, decimal};
-ghost use Rattle.std.specs.List.{flat_map};
-ghost use Rattle.gw_verify.specs.Cause.{cause_number};
-ghost use Rattle.gw_replay.specs.Details.{cause_details};
-ghost use Rattle.gw_replay.specs.Faults.{refused_line};
+ghost use Rattle.std.specs.Prelude.{◌≡◌};
+ghost use Rattle.gw_input.specs.Refused.{refused_line};
+ghost use Rattle.gw_commands.specs.declared.refusal.Refusal.TheVariants as refusal;
 ghost use Rattle.gw_commands.specs.Refusals.{line_details};
 
-use crate::line::Line;
+use gw_input::{Line, RecordFault, refused, refused_code};
 use gw_insn::ListRefusal;
+use gw_io::ReadFault;
 use gw_ports::{OfferRefusal, RunRefusal};
-use gw_replay::RecordFault;
 use gw_table::TableRefusal;
 use gw_text::AsmRefusal;
 use gw_trace::TraceRefusal;
-use gw_verify::{Cause, Path, Refused};
+use gw_verify::{Path, Refused};
+use std::alloc::{AllocError, AllocFailed};
 
 /// Why the program refuses what it was given.
 #[derive(Drop, Debug)]
@@ -67,7 +66,6 @@ pub enum Refusal {
 }
 
 impl Refusal {
-    ghost use Rattle.std.specs.Prelude.{◌≡◌};
     ghost use Rattle.gw_commands.specs.Refusals.{number_of, refusal_line};
 
     /// The number that the refusal is told by.
@@ -96,64 +94,52 @@ impl Refusal {
     pub(crate) fn line(&self) -> Line
         ensures { result ≡ refusal_line self.now }
     {
-        let line = Line::new()
-            .text("refused ")
-            .number(u64::from(self.number()));
-        let line = match self {
-            Refusal::RecordOnLine { line: at, .. } => line.text(" ").number(*at as u64),
-            Refusal::Listing(ListRefusal::BadField { index }) => line
-                .text(" ")
-                .number(*index as u64),
-            Refusal::Assembler { why, .. } => on_line(line, why.line()),
-            Refusal::Table(TableRefusal::BadRange { rule, .. }) => line
-                .text(" ")
-                .number(*rule as u64),
-            Refusal::Trace(TraceRefusal::BadRecord { index, why }) => line
-                .text(" ")
-                .number(*index as u64)
-                .text(" ")
-                .number(u64::from(why.number())),
-            Refusal::Program { refused, .. } => place_of(line, refused.why, refused.place),
-            Refusal::Unset { refused, .. } => place_of(line, refused.why, refused.place),
-            _ => line,
-        };
-        line.text("\n")
+        let number = self.number();
+        match self {
+            Refusal::RecordOnLine { line, .. } => refused(number, &[*line as u64]),
+            Refusal::Listing(ListRefusal::BadField { index }) => refused(number, &[*index as u64]),
+            Refusal::Assembler { why, .. } => refused_on_line(number, why.line()),
+            Refusal::Table(TableRefusal::BadRange { rule, .. }) => refused(number, &[*rule as u64]),
+            Refusal::Trace(TraceRefusal::BadRecord { index, why }) => {
+                refused(number, &[*index as u64, u64::from(why.number())])
+            }
+            Refusal::Program { refused, .. } => refused_code(refused.why, refused.place),
+            Refusal::Unset { refused, .. } => refused_code(refused.why, refused.place),
+            _ => refused(number, &[]),
+        }
     }
 }
 
-/// The line that a refusal is about, if there is one.
-fn on_line(line: Line, at: Option<usize>) -> Line
-    requires { length line ≤ 32 }
-    ensures octets { result ≡ line ++ flat_map (λ n. 32 ∷ decimal n) (line_details at) }
-    ensures len { length result ≤ 80 }
+/// The line of a refusal that is about a line of a text, if it is about one.
+fn refused_on_line(number: u32, at: Option<usize>) -> Line
+    ensures { result ≡ refused_line number (line_details at) }
 {
     match at {
-        Some(at) => line.text(" ").number(at as u64),
-        None => line,
+        Some(at) => refused(number, &[at as u64]),
+        None => refused(number, &[]),
     }
 }
 
-/// The line that tells the refusal of a program.
-pub fn program_line(why: Cause, place: usize) -> Line
-    ensures { result ≡ refused_line (cause_number why) (cause_details why place) }
-{
-    let line = Line::new().text("refused ").number(u64::from(why.number()));
-    place_of(line, why, place).text("\n")
+impl From<AllocError> for Refusal {
+    ghost from_gives = { λ _ e. e ≡ refusal.OutOfMemory };
+
+    fn from(_: AllocError) -> Refusal {
+        Refusal::OutOfMemory
+    }
 }
 
-/// The place that a cause names, and the scratch word.
-fn place_of(line: Line, why: Cause, place: usize) -> Line
-    requires { length line ≤ 32 }
-    ensures octets { result ≡ line ++ flat_map (λ n. 32 ∷ decimal n) (cause_details why place) }
-    ensures len { length result ≤ 80 }
-{
-    match why {
-        Cause::OutOfMemory => line,
-        Cause::UnsetWord { word } => line
-            .text(" ")
-            .number(place as u64)
-            .text(" ")
-            .number(u64::from(word)),
-        _ => line.text(" ").number(place as u64),
+impl<T: Drop> From<AllocFailed<T>> for Refusal {
+    ghost from_gives = { λ _ e. e ≡ refusal.OutOfMemory };
+
+    fn from(_: AllocFailed<T>) -> Refusal {
+        Refusal::OutOfMemory
+    }
+}
+
+impl From<ReadFault> for Refusal {
+    ghost from_gives = { λ _ e. e ≡ refusal.ReadFault };
+
+    fn from(_: ReadFault) -> Refusal {
+        Refusal::ReadFault
     }
 }

@@ -1,13 +1,13 @@
 //! The command `replay`: the lines of a script, each with its answer.
 
 ghost use Rattle.std.specs.Prelude.{◌≡◌, false};
-ghost use Rattle.gw_trace.specs.Tries.{inner_of, has_failed, reads_of};
+ghost use Rattle.gw_io.specs.Tries.{inner_of, has_failed, reads_of};
 ghost use Rattle.gw_commands.specs.Replays.{Replays};
 
 use crate::refusal::Refusal;
 use crate::responding::respond;
 use gw_replay::{ReplayFault, replay_told};
-use gw_trace::Tried;
+use gw_io::Tried;
 use std::alloc::Global;
 use std::io::{Read, Write};
 

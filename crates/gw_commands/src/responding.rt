@@ -2,18 +2,18 @@
 
 ghost use Rattle.std.specs.Prelude.{◌≡◌, false, true, OnOk, OnErr};
 ghost use Rattle.std.specs.Io.KnownBytes.{Appends};
-ghost use Rattle.gw_trace.specs.Tries.{inner_of, has_failed};
+ghost use Rattle.gw_io.specs.Tries.{inner_of, has_failed};
 ghost use Rattle.gw_commands.specs.Commands.{Writes};
-ghost use Rattle.gw_trace.specs.Written.{WritesPart};
+ghost use Rattle.gw_io.specs.Written.{WritesPart};
 ghost use Rattle.gw_commands.specs.Refusals.{refusal_text};
 
 use crate::answer::Answer;
 use crate::refusal::Refusal;
-use gw_trace::{Tried, WriteFault, write_all};
+use gw_io::{Tried, WriteFault, write_all};
 use std::io::Write;
 
 /// Writes what a command found, and gives its status: 0 for an answer, 1 for a refusal or where a write failed. What is
-/// wrong is told to a person on the fault stream.
+/// wrong is told to a person on stderr.
 pub fn respond<W: Write, F: Write>(
     found: &Result<Answer, Refusal>,
     output: &mut Tried<W>,

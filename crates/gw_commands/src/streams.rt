@@ -1,11 +1,11 @@
 //! Whole inputs.
 
 ghost use Rattle.std.specs.Prelude.{◌≡◌, false, IfOk, IfErr};
-ghost use Rattle.gw_trace.specs.Tries.{inner_of, has_failed};
+ghost use Rattle.gw_io.specs.Tries.{inner_of, has_failed};
 ghost use Rattle.gw_commands.specs.Commands.{IsInput, IsInputRefusal};
 
 use crate::refusal::Refusal;
-use gw_trace::Tried;
+use gw_io::{Pieces, Tried};
 use std::alloc::Global;
 use std::io::Read;
 
@@ -21,17 +21,12 @@ pub fn read_input<R: Read>(alloc: Global, reader: &mut Tried<R>) -> Result<Vec<u
         (has_failed reader.new)) }
 {
     let mut input = Vec::new(alloc);
-    let mut piece = [0; 4096];
+    let mut pieces = Pieces::new();
     'pieces: while input.len() <= MOST_INPUT {
-        match reader.read(&mut piece) {
-            Ok(0) => return Ok(input),
-            Ok(n) => {
-                if input.extend_from_slice(&piece[..n]).is_err() {
-                    return Err(Refusal::OutOfMemory);
-                }
-            }
-            Err(_) => return Err(Refusal::ReadFault),
+        if !pieces.read(reader)? {
+            return Ok(input);
         }
+        input.extend_from_slice(pieces.piece())?;
     }
     Err(Refusal::TooMuchInput)
 }

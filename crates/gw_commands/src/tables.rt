@@ -2,9 +2,10 @@
 
 ghost use Rattle.std.specs.Prelude.{◌≡◌, ◌≤◌, ℕ, Some, None, false, length, map, IfOk, IfErr, option_copied};
 ghost use Rattle.gw_insn.specs.Table.{raw_of};
-ghost use Rattle.gw_trace.specs.Tries.{inner_of, has_failed};
+ghost use Rattle.gw_io.specs.Tries.{inner_of, has_failed};
 ghost use Rattle.gw_commands.specs.Commands.{Does, IsFound};
-ghost use Rattle.gw_commands.specs.Tables.{AnswersTable, RefusesTable, IsTable, RefusesText, compiled_line};
+ghost use Rattle.gw_input.specs.Tables.{IsTable};
+ghost use Rattle.gw_commands.specs.Tables.{AnswersTable, RefusesTable, RefusesText, compiled_line};
 
 use crate::answer::Answer;
 use crate::notes::{note_dead_rules, note_decision, note_standard_identifier};
@@ -12,9 +13,9 @@ use crate::refusal::Refusal;
 use crate::responding::respond;
 use crate::streams::read_input;
 use gw_insn::{Raw, encode, write_listing};
-use gw_replay::record;
+use gw_input::{TableFault, record};
 use gw_table::{Table, compile};
-use gw_trace::Tried;
+use gw_io::Tried;
 use gw_verify::Program;
 use std::alloc::{AllocError, Global};
 use std::io::{Read, Write};
@@ -107,10 +108,12 @@ pub(crate) fn read_table(alloc: Global, input: &[u8]) -> Result<Table, Refusal>
     ensures table { IfOk result (IsTable input.now) }
     ensures refused { IfErr result (RefusesText input.now) }
 {
-    let Ok(text) = str::from_utf8(input) else {
-        return Err(Refusal::NotUtf8);
-    };
-    Table::read(alloc, text).map_err(Refusal::Table)
+    match gw_input::table(alloc, input) {
+        Ok(table) => Ok(table),
+        Err(TableFault::NotUtf8) => Err(Refusal::NotUtf8),
+        Err(TableFault::Text(why)) => Err(Refusal::Table(why)),
+        Err(TableFault::OutOfMemory) => Err(Refusal::OutOfMemory),
+    }
 }
 
 /// The listing of the program that a table is compiled to, and a line feed.

@@ -1,3 +1,4 @@
+pub mod Callers
 pub mod Examples
 pub mod Rows
 pub mod Numbers

@@ -1,3 +1,4 @@
+pub mod Callers
 pub mod PortLists
 pub mod PortBits
 mod PortExamples

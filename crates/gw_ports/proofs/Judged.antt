@@ -4,7 +4,7 @@ use Rattle.std.proofs.Common.{true≢false, length, get_or, reverse, take, Optio
 use Rattle.std.proofs.lemmas.List.{get_or_append_left, take-append-le, take_at}
 use Rattle.std.specs.List.{fold}
 use mathlib.Core.List.{IsPrefix, reverse_aux}
-use Rattle.gw_board.proofs.Prefixes.{prefix_length, prefix_self, prefix_trans}
+use Rattle.gw_board.proofs.Callers.{prefix_length, prefix_self, prefix_trans}
 use Rattle.gw_claims.specs.Claims.{is_local}
 use Rattle.gw_policy.specs.Allowed.{allowed_ports}
 use Rattle.gw_policy.specs.Batches.{Pair}

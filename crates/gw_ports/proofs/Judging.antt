@@ -8,7 +8,7 @@ use Rattle.std.specs.List.{All}
 use Rattle.gw_policy.specs.Batches.{Pair, passes, in_force}
 use Rattle.gw_policy.specs.Allowed.{allowed_ports, may_leave}
 use Rattle.gw_ledger.specs.Ports.{has_port, ports_below}
-use Rattle.gw_ledger.proofs.PortLists.{all_below, has_port-ports_below}
+use Rattle.gw_ledger.proofs.Callers.{all_below, has_port-ports_below}
 
 pub none_yet : (test : ℕ → Bool) → [] ≡ ports_below 0 test
 unfolding ports_below

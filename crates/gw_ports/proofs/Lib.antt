@@ -1,3 +1,4 @@
+pub mod Callers
 pub mod Placing
 pub mod Counting
 pub mod Judging

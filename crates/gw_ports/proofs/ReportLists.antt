@@ -7,7 +7,7 @@ use Rattle.std.specs.Iterator.{Yields}
 use Rattle.std.specs.Vec.Iter.{into_iter_items, into_iter_steps}
 use Rattle.std.specs.declared.vec.IntoIter.{IntoIter}
 use mathlib.Core.List.{IsPrefix}
-use Rattle.gw_board.proofs.Prefixes.{prefix_length}
+use Rattle.gw_board.proofs.Callers.{prefix_length}
 use Rattle.gw_ledger.specs.Bounds.{Bounds}
 use Rattle.gw_ledger.specs.declared.outcome.Outcome.{Outcome}
 use Rattle.gw_policy.specs.Batches.{Pair}

@@ -3,7 +3,7 @@ use Rattle.std.proofs.Common.{◌≡◌, ◌∙◌, ℕ, ◌+◌, ◌<◌, List,
 use Rattle.std.proofs.Common.{MatchOption, sym, ap, subst, refl, arith, length-append}
 use Rattle.std.proofs.lemmas.List.{get_or-map, length-map}
 use mathlib.Core.List.{IsPrefix}
-use Rattle.gw_board.proofs.Prefixes.{prefix_self}
+use Rattle.gw_board.proofs.Callers.{prefix_self}
 use Rattle.gw_ledger.specs.Bounds.{Bounds}
 use Rattle.gw_ledger.specs.declared.ledger.InLedger.{InLedger}
 use Rattle.gw_ledger.specs.declared.outcome.Outcome.{Outcome}

@@ -3,7 +3,7 @@ use Rattle.std.proofs.Common.{◌≡◌, ◌≤◌, List, length, arith, sym, su
 use mathlib.Core.List.{IsPrefix}
 use Rattle.gw_board.specs.Ends.{Board}
 use Rattle.gw_policy.specs.Batches.{Pair}
-use Rattle.gw_board.proofs.Prefixes.{prefix_trans, prefix_whole}
+use Rattle.gw_board.proofs.Callers.{prefix_trans, prefix_whole}
 use Rattle.gw_ports.specs.Ends.{Ingress}
 
 -- what was told begins what was learnt, and that begins what was read

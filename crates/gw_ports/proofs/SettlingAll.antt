@@ -7,7 +7,7 @@ use Rattle.std.specs.List.{All}
 use Rattle.std.proofs.lemmas.List.{get_or-map, get_or-set_same, get_or-set_other, get_or_default, length-map, length-set}
 use Rattle.std.proofs.lemmas.List.{same_lists, with_items_is}
 use Rattle.gw_policy.specs.Batches.{Pair}
-use Rattle.gw_board.proofs.Prefixes.{prefix_self}
+use Rattle.gw_board.proofs.Callers.{prefix_self}
 use Rattle.gw_ports.specs.Ends.{Ingress, Egress}
 use Rattle.gw_ports.specs.Closing.{KnowsMore, rows_of}
 use Rattle.gw_lanes.specs.Ends.{Inlet}

@@ -9,7 +9,7 @@ use Rattle.std.proofs.lemmas.List.Elements.{All-nil, All-cons, All-head, All-tai
 use Rattle.std.proofs.lemmas.List.Splits.{slice_split_at, slice_split_none, length-slice_split}
 use Rattle.std.proofs.lemmas.List.Sums.{fails_before_first, passes_at_first, split_at_first}
 use Rattle.std.proofs.lemmas.Bool.{eqb-true}
-use Rattle.gw_replay.specs.Lines.{is_line_feed, without_return, without_ends, lines_of}
+use Rattle.gw_input.specs.Lines.{is_line_feed, without_return, without_ends, lines_of}
 use Rattle.gw_replay.specs.Reached.{joined, HasNoEnd}
 
 -- lines in front are parts of their own

@@ -5,7 +5,7 @@ use Rattle.std.specs.Prelude.{slice_index, if◌then◌else◌, ◌==◌}
 use Rattle.std.proofs.lemmas.Bool.{cases_lt, lt-ltb}
 use Rattle.std.proofs.lemmas.List.{length-take, take_all}
 use native.Mathlib.Numerals.{unary_clauses}
-use Rattle.gw_replay.specs.Lines.{without_return, ended_line}
+use Rattle.gw_input.specs.Lines.{without_return, ended_line}
 use Rattle.gw_replay.specs.Scripts.{silent, wrong, is_silent, meaning_of, most_octets}
 use Rattle.gw_replay.specs.Reached.{most_kept}
 use Rattle.gw_replay.specs.declared.fault.Fault.TheVariants.{LongLine}

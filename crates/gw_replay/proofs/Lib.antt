@@ -1,8 +1,4 @@
 mod ScriptExamples
-pub mod HexDigits
-pub mod Pieces
-pub mod Numbers
-pub mod PortLists
 pub mod Sessions
 pub mod CutLines
 pub mod KeptLines

@@ -5,9 +5,10 @@ use Rattle.std.proofs.lemmas.List.{append-nil, reverse-append}
 use Rattle.gw_core.specs.declared.event.Event.TheVariants as event
 use Rattle.gw_policy.specs.Filter.{Filter}
 use Rattle.gw_replay.specs.declared.fault.Fault.{Fault}
-use Rattle.gw_replay.specs.declared.hex_record.RecordFault.{RecordFault}
-use Rattle.gw_replay.specs.Faults.{line_of, refused_line}
-use Rattle.gw_replay.specs.Lines.{lines_of}
+use Rattle.gw_input.specs.declared.records.RecordFault.{RecordFault}
+use Rattle.gw_replay.specs.Faults.{line_of}
+use Rattle.gw_input.specs.Refused.{refused_line}
+use Rattle.gw_input.specs.Lines.{lines_of}
 use Rattle.gw_replay.specs.Requests.{Request, limits_of, program_of, table_of, publish_all, take_at, step_at, send_to, ledger_of}
 use Rattle.gw_replay.specs.Replies.{Session, Reply, Replies, after_event, after_taking, after_joining, joined_line}
 use Rattle.gw_replay.specs.Scripts.{Meaning, silent, wrong, asks, meaning_of, Told, Obeys, Answers, AreAnswers, IsAnswer}

@@ -8,8 +8,8 @@ use Rattle.gw_insn.specs.declared.insn.Raw.{Raw}
 use Rattle.gw_insn.specs.declared.reading.ListRefusal.{ListRefusal}
 use Rattle.gw_insn.specs.declared.reading.ListRefusal.TheVariants.{BadCount, BadField, Trailing, OutOfMemory}
 use Rattle.gw_insn.specs.Listing.{HasItem, HasItems, HasCount, IsListing, LacksItem, HasMore, IsListRefusal}
-use Rattle.gw_insn.proofs.Numbers.{field_alone}
-use Rattle.gw_insn.proofs.Items.{item_alone}
+use Rattle.gw_insn.proofs.Callers.{field_alone}
+use Rattle.gw_insn.proofs.Callers.{item_alone}
 
 -- of two lists of items at the front of a text the shorter is the front of the longer, whose other items stand behind it
 record FrontOf (n : ℕ) (xs ys : List Raw) (front back : List ℕ) : Type 0 where

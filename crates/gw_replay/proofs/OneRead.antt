@@ -14,7 +14,7 @@ use Rattle.gw_insn.specs.declared.reading.ListRefusal.{ListRefusal}
 use Rattle.gw_insn.specs.declared.reading.ListRefusal.TheVariants as list
 use Rattle.gw_insn.specs.Table.{insn_of}
 use Rattle.gw_insn.specs.Listing.{IsListRefusal}
-use Rattle.gw_insn.proofs.OneListing.{only_memory}
+use Rattle.gw_insn.proofs.Callers.{only_memory}
 use Rattle.gw_verify.specs.declared.cause.Cause.{Cause}
 use Rattle.gw_verify.specs.declared.cause.Cause.TheVariants as cause
 use Rattle.gw_verify.specs.declared.refused.Refused.{Refused}
@@ -34,12 +34,14 @@ use Rattle.gw_table.specs.declared.refusal.TableRefusal.TheVariants as table
 use Rattle.gw_policy.specs.Filter.{Filter}
 use Rattle.gw_replay.specs.declared.fault.Fault.{Fault}
 use Rattle.gw_replay.specs.declared.fault.Fault.TheVariants.{Listing, Program, NoHex, NoUtf8, Table}
-use Rattle.gw_replay.specs.declared.hex_record.RecordFault.{RecordFault}
-use Rattle.gw_replay.specs.declared.hex_record.RecordFault.TheVariants.{NoDigit, OddDigits, NoRecord}
-use Rattle.gw_replay.specs.Details.{cause_details, table_details}
-use Rattle.gw_replay.specs.Faults.{line_of, refused_line}
-use Rattle.gw_replay.specs.Policies.{NamesProgram, IsProgramText, IsTableRead, IsTableHex}
-use Rattle.gw_replay.specs.Records.{IsRecordText, record_number}
+use Rattle.gw_input.specs.declared.records.RecordFault.{RecordFault}
+use Rattle.gw_input.specs.declared.records.RecordFault.TheVariants.{NoDigit, OddDigits, NoRecord}
+use Rattle.gw_input.specs.Refused.{cause_details, table_details}
+use Rattle.gw_replay.specs.Faults.{line_of}
+use Rattle.gw_input.specs.Refused.{refused_line}
+use Rattle.gw_input.specs.Programs.{NamesProgram}
+use Rattle.gw_replay.specs.Policies.{IsProgramText, IsTableRead, IsTableHex}
+use Rattle.gw_input.specs.Records.{IsRecordText, record_number}
 use Rattle.gw_replay.proofs.OneListing.{listing_alone, list_refusal_alone}
 
 -- code has one refusal at most
@@ -74,9 +76,9 @@ accepted_with : OneRefusal → (listing : List ℕ) (f : Filter) (read : Result 
     → f.table ≡ None
     → IsProgramText listing read → told_policy (Ok f) ≡ told_policy read
 accepted_with law listing f (Ok g) p plain q =
-    let code : p.code ≡ q.0.code = listing_alone p.listed q.0.listed in
-    let same : map Some f.code ≡ map Some g.code = p.decoded ∙ ap (λ c. map insn_of c) code ∙ sym q.0.decoded in
-    ap (λ (h : Filter). told_policy (Ok h)) (same_filter f g (some_alone f.code g.code same) (plain ∙ sym q.1))
+    let code : p.code ≡ q.named.code = listing_alone p.listed q.named.listed in
+    let same : map Some f.code ≡ map Some g.code = p.decoded ∙ ap (λ c. map insn_of c) code ∙ sym q.named.decoded in
+    ap (λ (h : Filter). told_policy (Ok h)) (same_filter f g (some_alone f.code g.code same) (plain ∙ sym q.plain))
 accepted_with law listing f (Err (Listing why)) p plain q = absurd (q.1 (only_memory why q.0 p.listed))
 accepted_with law listing f (Err (Program r)) p plain q =
     let code : p.code ≡ r.code.items = listing_alone p.listed q.0 in
@@ -88,7 +90,7 @@ accepted_with law listing f _ p plain q = absurd q
 unlisted_with : (listing : List ℕ) (why : ListRefusal) (read : Result Filter Fault) → IsListRefusal listing why
     → why ≢ list.OutOfMemory
     → IsProgramText listing read → told_policy (Err (Listing why)) ≡ told_policy read
-unlisted_with listing why (Ok g) h known q = absurd (known (only_memory why h q.0.listed))
+unlisted_with listing why (Ok g) h known q = absurd (known (only_memory why h q.named.listed))
 unlisted_with listing why (Err (Listing other)) h known q =
     ap (λ (w : ListRefusal). told_policy (Err (Listing w))) (list_refusal_alone listing why other h q.0 known q.1)
 unlisted_with listing why (Err (Program r)) h known q = absurd (known (only_memory why h q.0))
@@ -97,7 +99,7 @@ unlisted_with listing why _ h known q = absurd q
 -- where a text is the listing of refused code, each reading of it is that refusal
 refused_with : OneRefusal → (listing : List ℕ) (r : Refused) (read : Result Filter Fault)
     → IsProgramText listing (Err (Program r)) → IsProgramText listing read → told_policy (Err (Program r)) ≡ told_policy read
-refused_with law listing r (Ok g) h q = sym (accepted_with law listing g (Err (Program r)) q.0 q.1 h)
+refused_with law listing r (Ok g) h q = sym (accepted_with law listing g (Err (Program r)) q.named q.plain h)
 refused_with law listing r (Err (Listing why)) h q = sym (unlisted_with listing why (Err (Program r)) q.0 q.1 h)
 refused_with law listing r (Err (Program s)) h q =
     let code : r.code.items ≡ s.code.items = listing_alone h.0 q.0 in
@@ -109,7 +111,7 @@ refused_with law listing r _ h q = absurd q
 -- a program's text is read in one way
 pub program_alone : OneRefusal → (listing : List ℕ) (read other : Result Filter Fault) → IsProgramText listing read
     → IsProgramText listing other → told_policy read ≡ told_policy other
-program_alone law listing (Ok f) other p q = accepted_with law listing f other p.0 p.1 q
+program_alone law listing (Ok f) other p q = accepted_with law listing f other p.named p.plain q
 program_alone law listing (Err (Listing why)) other p q = unlisted_with listing why other p.0 p.1 q
 program_alone law listing (Err (Program r)) other p q = refused_with law listing r other p q
 program_alone law listing _ other p q = absurd p
@@ -260,17 +262,17 @@ says_or_refused octets meaning why h k known =
 octets_alone : (octets : List ℕ) (read other : Result Filter Fault) → IsTableRead octets read → IsTableRead octets other
     → told_policy read ≡ told_policy other
 octets_alone octets (Ok f) (Ok g) p q =
-    let meaning : p.0 ≡ q.0 = meaning_alone octets p.0 q.0 p.2 q.2 in
-    let same : f ≡ g = p.3 ∙ ap (λ (m : Meaning). record { code = emission m; table = Some m }) meaning ∙ sym q.3 in
+    let meaning : p.meaning ≡ q.meaning = meaning_alone octets p.meaning q.meaning p.table.text q.table.text in
+    let same : f ≡ g = p.compiled ∙ ap (λ (m : Meaning). record { code = emission m; table = Some m }) meaning ∙ sym q.compiled in
     ap (λ (h : Filter). told_policy (Ok h)) same
-octets_alone octets (Ok f) (Err NoUtf8) p q = absurd (q p.1)
-octets_alone octets (Ok f) (Err (Table why)) p q = absurd (says_or_refused octets p.0 why p.2 q.1 q.2)
+octets_alone octets (Ok f) (Err NoUtf8) p q = absurd (q p.table.utf8)
+octets_alone octets (Ok f) (Err (Table why)) p q = absurd (says_or_refused octets p.meaning why p.table.text q.1 q.2)
 octets_alone octets (Ok f) _ p q = absurd q
-octets_alone octets (Err NoUtf8) (Ok g) p q = absurd (p q.1)
+octets_alone octets (Err NoUtf8) (Ok g) p q = absurd (p q.table.utf8)
 octets_alone octets (Err NoUtf8) (Err NoUtf8) p q = refl
 octets_alone octets (Err NoUtf8) (Err (Table why)) p q = absurd (p q.0)
 octets_alone octets (Err NoUtf8) _ p q = absurd q
-octets_alone octets (Err (Table why)) (Ok g) p q = absurd (says_or_refused octets q.0 why q.2 p.1 p.2)
+octets_alone octets (Err (Table why)) (Ok g) p q = absurd (says_or_refused octets q.meaning why q.table.text p.1 p.2)
 octets_alone octets (Err (Table why)) (Err NoUtf8) p q = absurd (q p.0)
 octets_alone octets (Err (Table why)) (Err (Table other)) p q =
     ap (λ (t : ℕ × List ℕ). Err (refused_line t.0 t.1)) (refusal_alone octets why other p.1 q.1 p.2 q.2)

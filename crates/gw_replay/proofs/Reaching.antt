@@ -5,7 +5,7 @@ use Rattle.std.proofs.Common.{true≢false}
 use Rattle.std.proofs.lemmas.Bool.{false≢true}
 use Rattle.std.specs.Prelude.{option_copied, OnErr, OnOk, is_ok, is_err, if◌then◌else◌}
 use Rattle.std.proofs.lemmas.List.Elements.{All-append, All-nil}
-use Rattle.gw_replay.specs.Lines.{is_line_feed, without_return, ended_line, lines_of}
+use Rattle.gw_input.specs.Lines.{is_line_feed, without_return, ended_line, lines_of}
 use Rattle.gw_replay.specs.Replies.{Session}
 use Rattle.gw_replay.specs.Scripts.{meaning_of, Told, Answers, AreAnswers, BeginsAnswer, IsAnswer}
 use Rattle.gw_replay.specs.Standing.{StandsIn, IsAnswered}

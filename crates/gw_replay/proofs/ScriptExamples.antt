@@ -4,7 +4,7 @@ use Rattle.std.specs.Fmt.{digits}
 use Rattle.gw_core.specs.declared.event.Event.TheVariants as event
 use Rattle.gw_replay.specs.declared.fault.Fault.TheVariants.{NoCommand, NoAscii}
 use Rattle.gw_replay.specs.Faults.{line_of}
-use Rattle.gw_replay.specs.Lines.{lines_of}
+use Rattle.gw_input.specs.Lines.{lines_of}
 use Rattle.gw_replay.specs.Requests.{request_of, limits_of, program_of, table_of, publish_all, take_at, step_at, send_to}
 use Rattle.gw_replay.specs.Requests.{ledger_of}
 use Rattle.gw_replay.specs.Replies.{Session, after_event, ledger_said}

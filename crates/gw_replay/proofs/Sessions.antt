@@ -15,7 +15,7 @@ use Rattle.gw_replay.specs.declared.fault.Fault.TheVariants.{Event as EventFault
 use Rattle.gw_replay.specs.declared.running.Running.{Running}
 use Rattle.gw_replay.specs.Faults.{UnlessMemory}
 use Rattle.gw_replay.specs.Policies.{IsProgramText, IsTableHex}
-use Rattle.gw_replay.specs.Records.{IsRecordText}
+use Rattle.gw_input.specs.Records.{IsRecordText}
 use Rattle.gw_replay.specs.Requests.{Request, program_of, table_of, publish_all, take_at}
 use Rattle.gw_replay.specs.Replies.{Session, Reply, Replies, after_event, after_joining}
 use Rattle.gw_replay.specs.Replies.{join_fault, joined_line, pair_for}

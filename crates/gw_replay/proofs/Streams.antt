@@ -1,40 +1,17 @@
 -- What was read and written, piece after piece.
-use Rattle.std.proofs.Common.{◌≡◌, ℕ, ◌+◌, false, List, [], ◌++◌, length, take, Option, Some, None}
-use Rattle.std.proofs.Common.{Result, Ok, Err, sym, ap, ◌∙◌, subst, append_assoc, append-nil, true≢false}
+use Rattle.std.proofs.Common.{◌≡◌, ℕ, ◌+◌, false, List, [], ◌++◌, length, take, Option}
+use Rattle.std.proofs.Common.{Result, Ok, Err, sym, ap, ◌∙◌, subst, append-nil, true≢false}
 use Rattle.std.specs.Prelude.{is_err, OnOk, OnErr}
 use Rattle.std.specs.Io.KnownBytes.{Appends, Consumes, Keeps, IsAtEnd}
-use Rattle.std.proofs.Math.Seq.{take-append-add, take-length}
+use Rattle.std.proofs.Math.Seq.{take-append-add}
 use Rattle.gw_replay.specs.declared.progress.Progress.{Progress}
 use Rattle.gw_replay.specs.declared.whole.ReplayFault.{ReplayFault}
 use Rattle.gw_replay.specs.Scripts.{BeginsAnswer}
-use Rattle.gw_trace.specs.Written.{WritesPart}
+use Rattle.gw_io.specs.Written.{WritesPart}
 use Rattle.gw_replay.specs.Written.{IsReplayed, IsPartlyReplayed}
 use Rattle.gw_replay.specs.Reached.{HasReached, HasFed, EndsWith, IsUnderWay}
-use Rattle.gw_replay.proofs.Pieces.{appended_on}
+use Rattle.gw_io.proofs.Callers.{consumed_more, consumed_kept, appended_on, whole_part}
 use Rattle.gw_replay.proofs.Reaching.{begins, reached_same}
-
--- what a reader gave, with one more piece
-pub consumed_more : (a b c : Option (List ℕ)) (xs ys : List ℕ) → Consumes a b xs → Consumes b c ys → Consumes a c (xs ++ ys)
-consumed_more None b c xs ys h k = tt
-consumed_more (Some p) None c xs ys h k = absurd h
-consumed_more (Some p) (Some q) None xs ys h k = absurd k
-consumed_more (Some p) (Some q) (Some r) xs ys h k = h ∙ ap (λ zs. xs ++ zs) k ∙ sym (append_assoc xs ys r)
-
--- a read that failed gave nothing, and so did the last one
-consumed_kept : (a b c : Option (List ℕ)) (xs : List ℕ) → Consumes a b xs → Keeps b c → Consumes a c xs
-consumed_kept None b c xs h k = tt
-consumed_kept (Some p) None c xs h k = absurd h
-consumed_kept (Some p) (Some q) None xs h k = absurd k
-consumed_kept (Some p) (Some q) (Some r) xs h k = h ∙ ap (λ zs. xs ++ zs) (sym k)
-
-consumed_at_end : (a b c : Option (List ℕ)) (xs piece : List ℕ) (n : ℕ) → n ≡ 0 → Consumes a b xs
-    → Consumes b c (take n piece) → Consumes a c xs
-consumed_at_end a b c xs piece n e h k =
-    subst (Consumes a c) (append-nil xs) (consumed_more a b c xs [] h (subst (λ m. Consumes b c (take m piece)) e k))
-
--- a text that was written whole
-pub whole_part : (a b : Option (List ℕ)) (text : List ℕ) → Appends a b text → WritesPart a b text
-whole_part a b text h = (length text, subst (Appends a b) (sym (take-length text)) h)
 
 -- a part of what follows a text
 part_behind : (a b c : Option (List ℕ)) (text more : List ℕ) → Appends a b text → WritesPart b c more
@@ -103,16 +80,6 @@ stays a b c w x p h kept = record {
   written = whole_part w x h.text h.written;
 }
 
--- as many reads as may be did not reach the end
-pub ends_unread : (a b w x : Option (List ℕ)) (p : Progress) → IsUnderWay a b w x p → IsPartlyReplayed a b w x
-ends_unread a b w x p h = record {
-  script = h.octets;
-  consumed = h.consumed;
-  text = h.text;
-  answers = all_of h.octets h.text p h.reached;
-  written = whole_part w x h.text h.written;
-}
-
 -- the reader came to its end
 ends_whole : {A : Type 0} (a c w x y : Option (List ℕ)) (r : Result A ReplayFault) (octets text : List ℕ)
     → Consumes a c octets → IsAtEnd c → Appends w x text → EndsWith octets text x y r → OnOk r (IsReplayed a c w y)
@@ -138,12 +105,11 @@ ends_partly a c w x y (Err e) octets text consumed written h = record {
 }
 
 -- both at once
-pub replayed_at_end : {A : Type 0} (a b c w x y : Option (List ℕ)) (p : Progress) (r : Result A ReplayFault) (piece : List ℕ)
-    (n : ℕ) → n ≡ 0
-    → IsUnderWay a b w x p → Consumes b c (take n piece) → IsAtEnd c
+pub replayed_at_end : {A : Type 0} (a b c w x y : Option (List ℕ)) (p : Progress) (r : Result A ReplayFault)
+    → IsUnderWay a b w x p → Keeps b c → IsAtEnd c
     → ((octets text : List ℕ) → HasReached octets p (text ++ p.answers.items) → EndsWith octets text x y r)
     → OnOk r (IsReplayed a c w y) × OnErr r (IsPartlyReplayed a c w y)
-replayed_at_end a b c w x y p r piece n none h consumed end ended =
-    let all = consumed_at_end a b c h.octets piece n none h.consumed consumed in
+replayed_at_end a b c w x y p r h kept end ended =
+    let all = consumed_kept a b c h.octets h.consumed kept in
     let said = ended h.octets h.text (reached_on h) in
     (ends_whole a c w x y r h.octets h.text all end h.written said, ends_partly a c w x y r h.octets h.text all h.written said)

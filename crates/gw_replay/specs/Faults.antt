@@ -1,13 +1,12 @@
 -- The lines of refused lines.
-use Rattle.std.specs.Prelude.{ℕ, List, [], ◌∷◌, ◌++◌, codes, decimal, Result, Ok, Err}
-use Rattle.std.specs.List.{flat_map}
+use Rattle.std.specs.Prelude.{ℕ, List, [], Result, Ok, Err}
 use Rattle.gw_insn.specs.Listing as listing
 use Rattle.gw_verify.specs.Cause.{cause_number}
 use Rattle.gw_table.specs.TableText as table
 use Rattle.gw_ledger.specs.Bounds.{bad_limit_number}
 use Rattle.gw_core.specs.Refusals as event
-use Rattle.gw_replay.specs.Records.{record_number}
-use Rattle.gw_replay.specs.Details.{listing_details, cause_details, table_details}
+use Rattle.gw_input.specs.Records.{record_number}
+use Rattle.gw_input.specs.Refused.{listing_details, cause_details, table_details, refused_line}
 use Rattle.gw_replay.specs.declared.fault.Fault.{Fault}
 use Rattle.gw_replay.specs.declared.fault.Fault.TheVariants.{LongLine, NoAscii, NoCommand, NoLimits, SecondLimits, BadLimits}
 use Rattle.gw_replay.specs.declared.fault.Fault.TheVariants.{Record}
@@ -39,10 +38,6 @@ fault_details (Listing why) = listing_details why
 fault_details (Program refused) = cause_details refused.why refused.place
 fault_details (Table why) = table_details why
 fault_details _ = []
-
--- `refused` and the numbers, with spaces between
-abbrev pub refused_line : ℕ → List ℕ → List ℕ
-refused_line number details = codes "refused" ++ 32 ∷ decimal number ++ flat_map (λ n. 32 ∷ decimal n) details ++ 10 ∷ []
 
 -- the line of what a command said
 abbrev pub line_of : Result (List ℕ) Fault → List ℕ

@@ -1,8 +1,5 @@
 -- public meaning: what a line asks for, what is answered, and what replaying writes
-pub mod Lines
 pub mod Requests
-pub mod Records
-pub mod Details
 pub mod Faults
 pub mod Policies
 pub mod Replies

@@ -7,11 +7,11 @@ use Rattle.std.specs.Io.KnownBytes.{Appends, Consumes}
 use Rattle.gw_replay.specs.declared.progress.Progress.{Progress}
 use Rattle.gw_replay.specs.declared.whole.ReplayFault.{ReplayFault}
 use Rattle.gw_replay.specs.declared.whole.ReplayFault.TheVariants.{ReadFault, WriteFault, OutOfMemory}
-use Rattle.gw_replay.specs.Lines.{is_line_feed, without_return}
+use Rattle.gw_input.specs.Lines.{is_line_feed, without_return}
 use Rattle.gw_replay.specs.Replies.{Session}
 use Rattle.gw_replay.specs.Scripts.{meaning_of, Answers, AreAnswers, BeginsAnswer, IsAnswer}
 use Rattle.gw_replay.specs.Standing.{StandsIn}
-use Rattle.gw_trace.specs.Written.{WritesPart}
+use Rattle.gw_io.specs.Written.{WritesPart}
 
 -- how many octets of an unfinished line are kept
 abbrev pub most_kept : ℕ

@@ -1,7 +1,6 @@
 -- What a command answers after the commands before it.
 use Rattle.std.specs.Prelude.{◌≡◌, ℕ, nat_le, if◌then◌else◌, List, [], ◌∷◌, ◌++◌, length, codes, decimal}
 use Rattle.std.specs.Prelude.{Option, Some, None, Result, Ok, Err}
-use Rattle.std.specs.List.{flat_map}
 use Rattle.std.specs.Option.{option_map_or}
 use Rattle.hex.specs.Hex.{encode_lower}
 use Rattle.gw_policy.specs.Filter.{Filter}
@@ -19,8 +18,9 @@ use Rattle.gw_core.specs.declared.event.EventRefusal.{EventRefusal}
 use Rattle.gw_core.specs.declared.event.EventRefusal.TheVariants.{NoSuchPort}
 use Rattle.gw_replay.specs.declared.fault.Fault.{Fault}
 use Rattle.gw_replay.specs.declared.fault.Fault.TheVariants as fault
-use Rattle.gw_replay.specs.declared.hex_record.RecordFault.{RecordFault}
-use Rattle.gw_replay.specs.Records.{IsRecordText}
+use Rattle.gw_input.specs.declared.records.RecordFault.{RecordFault}
+use Rattle.gw_input.specs.PortTexts.{ports_text}
+use Rattle.gw_input.specs.Records.{IsRecordText}
 use Rattle.gw_replay.specs.Policies.{IsProgramText, IsTableHex}
 use Rattle.gw_replay.specs.Requests.{Request, limits_of, program_of, table_of, publish_all, take_at, step_at, send_to, ledger_of}
 
@@ -34,16 +34,6 @@ pub record Session : Type 0 where
 pub record Reply : Type 0 where
   pub said : Result (List ℕ) Fault
   pub session : Session
-
--- the ports with commas between, or `-`
-abbrev pub commas : List ℕ → List ℕ
-commas [] = []
-commas (port ∷ others) = decimal port ++ flat_map (λ other. 44 ∷ decimal other) others
-
--- the same, and `-` for none
-abbrev pub ports_text : List ℕ → List ℕ
-ports_text [] = codes "-"
-ports_text (port ∷ others) = commas (port ∷ others)
 
 -- the lines of a finished frame, and of a copy that was sent
 abbrev pub outcome_line : Outcome → List ℕ

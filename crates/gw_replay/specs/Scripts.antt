@@ -7,7 +7,7 @@ use Rattle.gw_ledger.specs.Bounds.{Bounds}
 use Rattle.gw_replay.specs.declared.fault.Fault.{Fault}
 use Rattle.gw_replay.specs.declared.fault.Fault.TheVariants as fault
 use Rattle.gw_replay.specs.Faults.{line_of}
-use Rattle.gw_replay.specs.Lines.{lines_of}
+use Rattle.gw_input.specs.Lines.{lines_of}
 use Rattle.gw_replay.specs.Requests.{Request, limits_of, request_of}
 use Rattle.gw_replay.specs.Replies.{Session, Reply, Replies}
 

@@ -1,8 +1,8 @@
 -- What replaying reads and writes: `before` and `after` are what its reader has left, `old` and `new` what its writer took.
 use Rattle.std.specs.Prelude.{◌≡◌, ◌⊎◌, ℕ, Bool, true, List, Option}
 use Rattle.std.specs.Io.KnownBytes.{Appends, IsAtEnd, Consumes}
-use Rattle.gw_trace.specs.Progress.{most_reads}
-use Rattle.gw_trace.specs.Written.{WritesPart}
+use Rattle.gw_io.specs.Pieces.{most_reads}
+use Rattle.gw_io.specs.Written.{WritesPart}
 use Rattle.gw_replay.specs.declared.whole.ReplayFault.{ReplayFault}
 use Rattle.gw_replay.specs.declared.whole.ReplayFault.TheVariants.{ReadFault, WriteFault, OutOfMemory}
 use Rattle.gw_replay.specs.Scripts.{IsAnswer, BeginsAnswer}

@@ -1,15 +1,11 @@
 //! Why a line of a script is refused.
 
-ghost use Rattle.std.specs.Prelude.{◌≡◌, ◌≤◌, ◌++◌, ◌∷◌, length};
-ghost use Rattle.std.specs.List.{flat_map};
-
-use crate::hex_record::RecordFault;
-use crate::line::Line;
 use gw_core::EventRefusal;
+use gw_input::{Line, RecordFault, refused, refused_code};
 use gw_insn::ListRefusal;
 use gw_ledger::BadLimit;
 use gw_table::TableRefusal;
-use gw_verify::{Cause, Refused};
+use gw_verify::Refused;
 use std::fmt;
 use std::fmt::{Display, Formatter};
 
@@ -52,7 +48,8 @@ pub enum Fault {
 
 impl Fault {
     ghost use Rattle.std.specs.Prelude.{◌≡◌};
-    ghost use Rattle.gw_replay.specs.Faults.{fault_number, fault_details, refused_line};
+    ghost use Rattle.gw_input.specs.Refused.{refused_line};
+    ghost use Rattle.gw_replay.specs.Faults.{fault_number, fault_details};
 
     /// The number that the fault is told by.
     pub fn number(&self) -> u32
@@ -82,30 +79,12 @@ impl Fault {
     pub fn line(&self) -> Line
         ensures { result ≡ refused_line (fault_number self.now) (fault_details self.now) }
     {
-        let line = Line::new().text("refused").number(u64::from(self.number()));
-        let line = match self {
-            Fault::Listing(ListRefusal::BadField { index }) => line.number(*index as u64),
-            Fault::Table(TableRefusal::BadRange { rule, .. }) => line.number(*rule as u64),
-            Fault::Program(refused) => with_place(line, refused.why, refused.place),
-            _ => line,
-        };
-        line.text("\n")
-    }
-}
-
-ghost use Rattle.std.specs.Prelude.{decimal};
-ghost use Rattle.gw_replay.specs.Details.{cause_details};
-
-/// The place that a cause names, and the scratch word.
-fn with_place(line: Line, why: Cause, place: usize) -> Line
-    requires { length line ≤ 64 }
-    ensures octets { result ≡ line ++ flat_map (λ n. 32 ∷ decimal n) (cause_details why place) }
-    ensures len { length result ≤ 128 }
-{
-    match why {
-        Cause::OutOfMemory => line,
-        Cause::UnsetWord { word } => line.number(place as u64).number(u64::from(word)),
-        _ => line.number(place as u64),
+        match self {
+            Fault::Listing(ListRefusal::BadField { index }) => refused(self.number(), &[*index as u64]),
+            Fault::Table(TableRefusal::BadRange { rule, .. }) => refused(self.number(), &[*rule as u64]),
+            Fault::Program(code) => refused_code(code.why, code.place),
+            _ => refused(self.number(), &[]),
+        }
     }
 }
 

@@ -3,11 +3,7 @@
 
 mod command;
 mod fault;
-mod hex_record;
 mod laws;
-mod line;
-mod lines;
-mod number;
 mod policies;
 mod progress;
 mod running;
@@ -15,6 +11,5 @@ mod said;
 mod script;
 mod whole;
 
-pub use hex_record::{RecordFault, record};
 pub use laws::scripts_have_one_answer;
 pub use whole::{ReplayFault, replay, replay_told};

@@ -3,13 +3,13 @@
 ghost use Rattle.std.specs.Prelude.{◌≡◌, ◌<◌, ◌+◌, ◌++◌, [], ℕ, List, Option, None, length, true, false};
 ghost use Rattle.std.specs.Prelude.{OnOk, OnErr, IfOk, IfErr, option_copied};
 ghost use Rattle.std.specs.Io.KnownBytes.{Appends};
-ghost use Rattle.gw_trace.specs.Tries.{inner_of, has_failed};
-ghost use Rattle.gw_trace.specs.Written.{WritesPart};
+ghost use Rattle.gw_io.specs.Tries.{inner_of, has_failed};
+ghost use Rattle.gw_io.specs.Written.{WritesPart};
 
-use crate::lines::{line_in, place_of};
+use gw_input::{line_in, position_of};
 use crate::script::{MOST, Said, Script};
 use crate::whole::ReplayFault;
-use gw_trace::{Tried, write_all};
+use gw_io::{Tried, write_all};
 use std::alloc::{AllocError, Global};
 use std::io::Write;
 
@@ -31,7 +31,7 @@ pub struct Progress {
 impl Progress {
     ghost use Rattle.std.specs.Prelude.{take, ◌-◌};
     ghost use Rattle.gw_replay.specs.Replies.{Session};
-    ghost use Rattle.gw_replay.specs.Lines.{ended_line};
+    ghost use Rattle.gw_input.specs.Lines.{ended_line};
     ghost use Rattle.gw_replay.specs.Standing.{StandsIn};
     ghost use Rattle.gw_replay.specs.Reached.{HasReached, HasFed, FeedsLine, AnswersKept, EndsWith, IsEndFault};
     ghost use Rattle.gw_replay.specs.Reached.{most_kept, left_behind};
@@ -80,7 +80,7 @@ impl Progress {
             → FeedsLine octets text.now before result self.new }
         ensures shorter { IfOk result (λ rest. left_behind (option_copied rest) < length text.now + 1) }
     {
-        let end = place_of(b'\n', text);
+        let end = position_of(b'\n', text);
         if self.keep(&text[..end]).is_err() {
             return Err(AllocError);
         }

@@ -7,8 +7,8 @@ ghost use Rattle.gw_replay.specs.Joins.{IsJoinFault};
 
 use crate::command::Command;
 use crate::fault::Fault;
-use crate::hex_record::record;
-use crate::line::Line;
+use gw_input::record;
+use gw_input::Line;
 use crate::policies::{program_policy, table_policy};
 use crate::said::{answer_line, ledger_line};
 use gw_core::{Core, Event, EventRefusal};

@@ -3,7 +3,7 @@
 ghost use Rattle.std.specs.Prelude.{◌≡◌};
 ghost use Rattle.gw_replay.specs.Replies.{answer_line, ledger_line, outcome_line, copy_line};
 
-use crate::line::Line;
+use gw_input::Line;
 use gw_core::Answer;
 use gw_ledger::{FrameCopy, InLedger, Outcome};
 

@@ -7,7 +7,7 @@ ghost use Rattle.gw_replay.specs.Standing.{Begins, IsFirstFault};
 
 use crate::command::{Command, command_of};
 use crate::fault::Fault;
-use crate::line::Line;
+use gw_input::Line;
 use crate::running::Running;
 use std::alloc::{AllocError, Global};
 

@@ -1,22 +1,17 @@
 //! Whole scripts, from a reader to a writer.
 
 ghost use Rattle.std.specs.Prelude.{◌≡◌, ◌≤◌, false, IfErr, OnOk, OnErr};
-ghost use Rattle.gw_trace.specs.Tries.{inner_of, has_failed, reads_of};
+ghost use Rattle.gw_io.specs.Tries.{inner_of, has_failed, reads_of};
 ghost use Rattle.gw_replay.specs.Written.{IsReplayed, IsPartlyReplayed, IsReplayFault};
-ghost use Rattle.gw_trace.specs.Progress.{most_reads};
+ghost use Rattle.gw_io.specs.Pieces.{most_reads};
+ghost use Rattle.gw_replay.specs.declared.whole.ReplayFault.TheVariants as replay;
 
 use crate::progress::Progress;
-use gw_trace::Tried;
-use std::alloc::Global;
+use gw_io::{Pieces, ReadFault, Tried, WriteFault};
+use std::alloc::{AllocError, Global};
 use std::io;
 use std::io::{Read, Write};
 use thiserror::Error;
-
-/// The most reads of a script.
-const MOST_READS: u32 = 16_777_216;
-
-/// How many octets are asked of the reader at once.
-const PIECE: usize = 65536;
 
 /// Why a replay ended before the end of its script.
 #[derive(Clone, Copy, PartialEq, Eq, Debug, Error)]
@@ -47,6 +42,30 @@ impl ReplayFault {
     }
 }
 
+impl From<ReadFault> for ReplayFault {
+    ghost from_gives = { λ _ fault. fault ≡ replay.ReadFault };
+
+    fn from(_: ReadFault) -> ReplayFault {
+        ReplayFault::ReadFault
+    }
+}
+
+impl From<WriteFault> for ReplayFault {
+    ghost from_gives = { λ _ fault. fault ≡ replay.WriteFault };
+
+    fn from(_: WriteFault) -> ReplayFault {
+        ReplayFault::WriteFault
+    }
+}
+
+impl From<AllocError> for ReplayFault {
+    ghost from_gives = { λ _ fault. fault ≡ replay.OutOfMemory };
+
+    fn from(_: AllocError) -> ReplayFault {
+        ReplayFault::OutOfMemory
+    }
+}
+
 /// Runs a script, and writes a line for each of its commands, as soon as the piece that ends it was read. Answers that
 /// stand before a fault are written.
 pub fn replay<R: Read, W: Write>(
@@ -69,7 +88,7 @@ pub fn replay<R: Read, W: Write>(
     replay_told(alloc, reader, writer, &mut Tried::new(io::sink()))
 }
 
-/// The same, and tells a person on the fault stream why lines are refused.
+/// The same, and tells a person on stderr why lines are refused.
 pub fn replay_told<R: Read, W: Write, F: Write>(
     alloc: Global,
     reader: &mut Tried<R>,
@@ -89,19 +108,11 @@ pub fn replay_told<R: Read, W: Write, F: Write>(
     ensures reads { reads_of reader.new ≤ most_reads }
 {
     let mut progress = Progress::new(alloc);
-    let mut piece = [0; PIECE];
-    'pieces: for _read in 0..MOST_READS {
-        let fed = match reader.read(&mut piece) {
-            Ok(0) => return progress.end(alloc, writer, faults),
-            Ok(n) => progress.feed(alloc, &piece[..n], faults),
-            Err(_) => return Err(ReplayFault::ReadFault),
-        };
-        if progress.write(writer).is_err() {
-            return Err(ReplayFault::WriteFault);
-        }
-        if fed.is_err() {
-            return Err(ReplayFault::OutOfMemory);
-        }
+    let mut pieces = Pieces::new();
+    'pieces: while pieces.read(reader)? {
+        let fed = progress.feed(alloc, pieces.piece(), faults);
+        progress.write(writer)?;
+        fed?;
     }
-    Err(ReplayFault::ReadFault)
+    progress.end(alloc, writer, faults)
 }

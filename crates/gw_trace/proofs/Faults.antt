@@ -1,7 +1,6 @@
 -- A fault of octets is of a header or of a record: neither memory nor a reader is one.
-use Rattle.std.proofs.Common.{◌≡◌, ◌≢◌, ℕ, ◌+◌, Bool, true, false, not, cond, List, [], ◌∷◌, ◌++◌, length, take, drop, Option}
-use Rattle.std.proofs.Common.{Some, None, Result, Ok, Err, sym, ap, ◌∙◌, subst, refl, append_assoc, append-nil, true≢false}
-use Rattle.std.specs.Prelude.{is_err, OnOk}
+use Rattle.std.proofs.Common.{◌≡◌, ◌≢◌, ℕ, ◌+◌, Bool, true, false, not, cond, List, [], ◌∷◌, length, take, drop, Option}
+use Rattle.std.proofs.Common.{Some, None, Result, Ok, Err, sym, ap, ◌∙◌, subst, refl}
 use Rattle.std.specs.Io.KnownBytes.{Consumes, IsAtEnd}
 use Rattle.std.specs.Option.{option_map_or}
 use Rattle.gw_trace.specs.declared.order.Order.{Order}
@@ -101,26 +100,3 @@ trace_is_unread before after failed reads fault octets consumed end h =
       refused = ap (λ e. option_map_or Err e (Ok (reading octets).frames)) (sym h);
     })
     (ending_is (reading octets).stage (reading octets).rest fault (reading_faults octets) h)
-
--- what a reader gave, with one more piece
-pub consumed_more : (a b c : Option (List ℕ)) (xs ys : List ℕ) → Consumes a b xs → Consumes b c ys → Consumes a c (xs ++ ys)
-consumed_more None b c xs ys h k = tt
-consumed_more (Some p) None c xs ys h k = absurd h
-consumed_more (Some p) (Some q) None xs ys h k = absurd k
-consumed_more (Some p) (Some q) (Some r) xs ys h k = h ∙ ap (λ zs. xs ++ zs) k ∙ sym (append_assoc xs ys r)
-
--- no read gave nothing
-pub consumed_nothing : (a : Option (List ℕ)) → Consumes a a []
-consumed_nothing None = tt
-consumed_nothing (Some xs) = refl
-
--- the last read gave nothing
-pub consumed_at_end : (a b c : Option (List ℕ)) (xs piece : List ℕ) (n : ℕ) → n ≡ 0 → Consumes a b xs
-    → Consumes b c (take n piece) → Consumes a c xs
-consumed_at_end a b c xs piece n e h k =
-    subst (Consumes a c) (append-nil xs) (consumed_more a b c xs [] h (subst (λ m. Consumes b c (take m piece)) e k))
-
--- what holds of an answer that is not refused
-pub on_ok : {T E P : Type 0} (r : Result T E) → is_err r ≡ false → OnOk r P → P
-on_ok (Ok x) e h = h
-on_ok (Err x) e h = absurd (true≢false e)

@@ -3,7 +3,6 @@ pub mod Contents
 pub mod Faults
 pub mod Feeding
 pub mod Holding
-pub mod Pieces
 pub mod Resuming
 pub mod Shared
 pub mod Verdicts

@@ -1,6 +1,7 @@
 -- What is kept between two pieces of a trace, and what a piece adds.
 use Rattle.std.specs.Io.KnownBytes.{Consumes, IsAtEnd}
 use Rattle.std.specs.Prelude.{◌≡◌, ◌⊎◌, Bool, true, Ok, Err, ℕ, ◌+◌, ◌<◌, List, [], ◌++◌, length, Option, Some, None}
+use Rattle.gw_io.specs.Pieces.{most_reads}
 use Rattle.gw_trace.specs.declared.order.Order.{Order}
 use Rattle.gw_trace.specs.declared.stage.Stage.{Stage}
 use Rattle.gw_trace.specs.declared.stage.Stage.TheVariants.{Header, Records, Failed}
@@ -82,10 +83,6 @@ pub record IsNoTrace (before after : Option (List ℕ)) (fault : TraceRefusal) :
   pub consumed : Consumes before after octets
   pub end : IsAtEnd after
   pub refused : whole_trace octets ≡ Err fault
-
--- the most reads of a trace
-abbrev pub most_reads : ℕ
-most_reads = 16777216
 
 -- why a trace was not read whole: memory was wanting; a read failed or there were too many; else what is wrong with it
 abbrev pub IsUnread : Option (List ℕ) → Option (List ℕ) → Bool → ℕ → TraceRefusal → Type 0

@@ -2,8 +2,10 @@
 
 ghost use Rattle.std.specs.Prelude.{◌≡◌};
 ghost use Rattle.gw_trace.specs.Refusals.{refusal_number};
+ghost use Rattle.gw_trace.specs.declared.refusal.TraceRefusal.TheVariants as refusal;
 
 use gw_frame::FrameRefusal;
+use gw_io::ReadFault;
 use std::error::Error;
 use std::fmt;
 use std::fmt::{Display, Formatter};
@@ -70,3 +72,11 @@ impl Display for TraceRefusal {
 }
 
 impl Error for TraceRefusal {}
+
+impl From<ReadFault> for TraceRefusal {
+    ghost from_gives = { λ _ e. e ≡ refusal.ReadFault };
+
+    fn from(_: ReadFault) -> TraceRefusal {
+        TraceRefusal::ReadFault
+    }
+}

@@ -2,21 +2,16 @@
 
 ghost use Rattle.std.specs.Prelude.{◌≡◌, ◌≤◌, ℕ, true, false, Err, IfOk, IfErr};
 ghost use Rattle.gw_trace.specs.declared.refusal.TraceRefusal.TheVariants.{ReadFault};
-ghost use Rattle.gw_trace.specs.Progress.{IsTraceOf, IsUnread, most_reads};
-ghost use Rattle.gw_trace.specs.Tries.{inner_of, has_failed, reads_of};
+ghost use Rattle.gw_io.specs.Pieces.{most_reads};
+ghost use Rattle.gw_io.specs.Tries.{inner_of, has_failed, reads_of};
+ghost use Rattle.gw_trace.specs.Progress.{IsTraceOf, IsUnread};
 
 use crate::refusal::TraceRefusal;
 use crate::trace::Trace;
-use crate::tried::Tried;
 use gw_frame::Frame;
+use gw_io::{Pieces, Tried};
 use std::alloc::Global;
 use std::io::Read;
-
-/// The most reads of a trace.
-const MOST_READS: u32 = 16_777_216;
-
-/// How many octets are asked of the reader at once.
-const PIECE: usize = 65536;
 
 /// Reads a trace to its end: the frames of all its records, in order. Where a read fails, or 16777216 reads did not reach the
 /// end, it is 96, which comes before 90 to 93 and 95; 94 is want of memory.
@@ -33,22 +28,12 @@ pub fn frames<R: Read>(alloc: Global, reader: &mut Tried<R>) -> Result<Vec<Frame
 {
     let mut trace = Trace::new();
     let mut frames = Vec::new(alloc);
-    let mut piece = [0; PIECE];
-    'pieces: for _read in 0..MOST_READS {
-        match reader.read(&mut piece) {
-            Ok(0) => {
-                return match trace.end() {
-                    Ok(()) => Ok(frames),
-                    Err(fault) => Err(fault),
-                };
-            }
-            Ok(n) => {
-                if trace.feed_to(&mut frames, &piece[..n]).is_err() {
-                    return Err(TraceRefusal::OutOfMemory);
-                }
-            }
-            Err(_) => return Err(TraceRefusal::ReadFault),
+    let mut pieces = Pieces::new();
+    'pieces: while pieces.read(reader)? {
+        if trace.feed_to(&mut frames, pieces.piece()).is_err() {
+            return Err(TraceRefusal::OutOfMemory);
         }
     }
-    Err(TraceRefusal::ReadFault)
+    trace.end()?;
+    Ok(frames)
 }

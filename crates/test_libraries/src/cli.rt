@@ -2,7 +2,7 @@
 
 use crate::streams::{Sink, Source, WHOLE};
 use gw_cli::{Console, command, run_command};
-use gw_trace::Tried;
+use gw_io::Tried;
 use std::alloc::{AllocError, Global};
 use std::marker::Sync;
 use std::rt::{Clock, Files};

@@ -2,7 +2,7 @@
 
 use crate::streams::{Sink, Source, WHOLE};
 use gw_replay::{ReplayFault, replay};
-use gw_trace::Tried;
+use gw_io::Tried;
 use std::io;
 use std::io::Read;
 

@@ -1,6 +1,6 @@
 //! That each call is handed on, which no clause can say in full.
 
-use gw_trace::Tried;
+use gw_io::Tried;
 use std::io;
 use std::io::{ErrorKind, Read, Write};
 use std::test::Fail;

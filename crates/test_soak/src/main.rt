@@ -2,7 +2,7 @@
 //! and one thread judges each outcome again.
 //!
 //! The words are how many frames each port offers, and after how many offers each replacement comes. What it prints on the output
-//! is the same whatever the schedule; how many copies there were is on the fault stream. The status is 0 where all agrees, else
+//! is the same whatever the schedule; how many copies there were is on stderr. The status is 0 where all agrees, else
 //! 1, or that of a fault. With the word `times` it times the ends of a gateway on the table that it reads instead.
 #![tactic(auto)]
 

@@ -1,7 +1,7 @@
 //! The files of policies that a command line names.
 
 ghost use Rattle.std.specs.Prelude.{◌≡◌, length, vec_len, false, IfOk, IfErr};
-ghost use Rattle.gw_trace.specs.Tries.{inner_of, has_failed, reads_of};
+ghost use Rattle.gw_io.specs.Tries.{inner_of, has_failed, reads_of};
 ghost use Rattle.gw_commands.specs.Forwarding.{AreNamed, ForwardsNamed, RefusesFile, RefusesNamed};
 
 use super::watching::Watch;
@@ -10,7 +10,7 @@ use crate::refusal::Refusal;
 use crate::responding::respond;
 use crate::streams::read_input;
 use gw_ledger::Limits;
-use gw_trace::Tried;
+use gw_io::Tried;
 use std::alloc::{AllocError, Global};
 use std::fs;
 use std::io::{Read, Write};

@@ -11,7 +11,7 @@ use crate::judging::program;
 use crate::refusal::Refusal;
 use crate::tables::read_table;
 use gw_policy::{Batch, Policy};
-use gw_trace::Tried;
+use gw_io::Tried;
 use std::alloc::Global;
 use std::io::Write;
 use std::sync::Arc;

@@ -33,7 +33,7 @@ impl Watch for Unwatched {
     fn begins(&self, _frames: usize) {}
 }
 
-/// Tells a person on the fault stream, once a second, how many frames were offered of those that there are.
+/// Tells a person on stderr, once a second, how many frames were offered of those that there are.
 #[derive(Drop)]
 pub struct Progress<'a, R> {
     rt: &'a R,

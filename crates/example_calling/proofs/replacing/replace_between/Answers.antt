@@ -4,8 +4,8 @@ use Rattle.std.proofs.lemmas.List.{get_or-set_same, length-map, length-set, with
 use Rattle.gw_board.specs.Ends.{Publishing}
 use Rattle.gw_policy.specs.Batches.{Pair}
 use Rattle.gw_ports.specs.Ends.{Ingress, end_in, end_out}
-use Rattle.gw_ports.proofs.OneGateway.{ends_in_stay}
-use Rattle.gw_ports.proofs.Opening.{same_gateway}
+use Rattle.gw_ports.proofs.Callers.{ends_in_stay}
+use Rattle.gw_ports.proofs.Callers.{same_gateway}
 use Rattle.example_calling.proofs.replacing.replace_between.Goals as goal
 
 -- what was offered and taken out leaves the parts those of one gateway

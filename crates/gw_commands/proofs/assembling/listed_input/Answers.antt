@@ -1,5 +1,5 @@
 use Rattle.std.proofs.Common.{sym, subst}
-use Rattle.gw_trace.specs.Tries.{inner_of, has_failed}
+use Rattle.gw_io.specs.Tries.{inner_of, has_failed}
 use Rattle.gw_commands.specs.Commands.{IsInput}
 use Rattle.gw_commands.specs.Assemblies.{AnswersList, RefusesList}
 use Rattle.gw_commands.proofs.Found.{found_on}

@@ -3,9 +3,9 @@ use Rattle.std.specs.Prelude.{option_copied}
 use Rattle.std.proofs.lemmas.Option.{slice_get_read}
 use Rattle.std.specs.List.{list_any}
 use Rattle.gw_claims.specs.Holders.{HoldsAfter}
-use Rattle.gw_commands.specs.Lines.{lines_of}
+use Rattle.gw_input.specs.Lines.{lines_of}
 use Rattle.gw_commands.specs.ClaimLines.{records_on, is_bad}
-use Rattle.gw_commands.proofs.LineByLine.{lines_behind, next_line, all_taken}
+use Rattle.gw_input.proofs.Callers.{lines_behind, next_line, all_taken}
 use Rattle.gw_commands.proofs.ClaimLines.{heard_more, good_more, first_bad}
 use Rattle.gw_commands.proofs.claiming.heard.Goals as goal
 

@@ -1,6 +1,6 @@
 use Rattle.std.proofs.Common.{◌≡◌, ℕ, List, Ok, Err, subst, arith, rules}
 use Rattle.std.proofs.lemmas.Grind.{common_steps}
-use Rattle.gw_trace.specs.Tries.{inner_of, has_failed, reads_of}
+use Rattle.gw_io.specs.Tries.{inner_of, has_failed, reads_of}
 use Rattle.gw_trace.specs.Traces.{whole_trace}
 use Rattle.gw_commands.specs.Forwarding.{report_lines}
 use Rattle.gw_commands.proofs.Forwards.{by_lines, by_octets, by_run}

@@ -1,5 +1,5 @@
 use Rattle.std.proofs.Common.{refl, sym, ◌∙◌}
-use Rattle.gw_trace.specs.Tries.{inner_of, has_failed, reads_of}
+use Rattle.gw_io.specs.Tries.{inner_of, has_failed, reads_of}
 use Rattle.gw_replay.specs.declared.whole.ReplayFault.TheVariants as fault
 use Rattle.gw_commands.specs.declared.refusal.Refusal.TheVariants as refusal
 use Rattle.gw_commands.proofs.EndedEarly.{ended_early, unread}

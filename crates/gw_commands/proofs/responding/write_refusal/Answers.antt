@@ -1,7 +1,7 @@
 use Rattle.std.proofs.Common.{ℕ, List, sym, ap, ◌∙◌, subst}
 use Rattle.std.specs.Result.{OnErr}
-use Rattle.gw_trace.specs.Tries.{inner_of}
-use Rattle.gw_trace.specs.Written.{WritesPart}
+use Rattle.gw_io.specs.Tries.{inner_of}
+use Rattle.gw_io.specs.Written.{WritesPart}
 use Rattle.gw_commands.specs.Refusals.{refusal_text}
 use Rattle.gw_commands.proofs.responding.write_refusal.Goals as goal
 

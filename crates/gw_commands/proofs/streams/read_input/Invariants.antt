@@ -1,12 +1,13 @@
-use Rattle.std.proofs.Common.{◌≡◌, ◌-◌, length, false}
+use Rattle.std.proofs.Common.{◌≡◌, ◌≤◌, ◌+◌, ◌-◌, length, false}
 use Rattle.std.specs.Io.KnownBytes.{Consumes}
-use Rattle.gw_trace.specs.Tries.{inner_of, has_failed}
+use Rattle.gw_io.specs.Tries.{inner_of, has_failed}
 use Rattle.gw_commands.proofs.streams.read_input.Given as goal
 
 abbrev pub invariant-pieces : goal.invariant-pieces
 invariant-pieces g l = record {
   whole : has_failed l.reader ≡ false;
   consumed : Consumes (g.R.Read.remaining (inner_of l.fn.reader)) (g.R.Read.remaining (inner_of l.reader)) l.input.items;
+  enough : 16777216 ≤ l.pieces.left + length l.input.items;
 }
 
 abbrev pub decreases-pieces : goal.decreases-pieces

@@ -1,6 +1,6 @@
 use Rattle.std.proofs.Common.{List, ℕ, Option, Some, None, sym, ap, subst}
 use Rattle.std.specs.Prelude.{option_copied}
-use Rattle.gw_trace.specs.Tries.{inner_of, has_failed}
+use Rattle.gw_io.specs.Tries.{inner_of, has_failed}
 use Rattle.gw_commands.specs.Commands.{IsInput, IsFound}
 use Rattle.gw_commands.specs.Tables.{AnswersTable, RefusesTable}
 use Rattle.gw_commands.proofs.Found.{found_on}

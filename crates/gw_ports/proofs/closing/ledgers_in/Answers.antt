@@ -1,7 +1,7 @@
 use Rattle.std.proofs.Common.{◌≡◌, ◌<◌, ◌∙◌, ◌++◌, ◌∷◌, [], List, length, take, get_or, map, arith, ap, sym, subst}
 use Rattle.std.specs.List.{All}
 use Rattle.std.proofs.lemmas.List.{map_more, take_more}
-use Rattle.gw_board.proofs.Shelves.{All-push}
+use Rattle.gw_board.proofs.Callers.{All-push}
 use Rattle.gw_ports.specs.Ends.{Ingress, IsSoundIngress}
 use Rattle.gw_ports.proofs.closing.ledgers_in.Goals as goal
 

@@ -1,79 +1,75 @@
-use Rattle.std.proofs.Common.{◌≡◌, ◌<◌, length, take, sym, ◌∙◌, arith, rules}
-use Rattle.std.proofs.lemmas.Grind.{common_steps}
-use Rattle.std.proofs.lemmas.Bool.Decides.{nat_tests}
-use Rattle.gw_trace.specs.Tries.{inner_of}
-use Rattle.gw_replay.proofs.Reaching.{on_err, on_ok}
-use Rattle.gw_replay.proofs.Streams.{goes_on, stops, stays, ends_unread, replayed_at_end, whole_part}
+use Rattle.std.proofs.Common.{sym, ap, subst, arith}
+use Rattle.std.specs.Prelude.{is_err}
+use Rattle.std.specs.Io.KnownBytes.{Consumes}
+use Rattle.std.proofs.lemmas.Result.{err_from_is_err_and}
+use Rattle.gw_io.specs.Tries.{inner_of}
+use Rattle.gw_io.proofs.Callers.{met_piece, met_end, whole_part}
+use Rattle.gw_replay.proofs.Streams.{goes_on, stops, stays, replayed_at_end}
 use Rattle.gw_replay.proofs.whole.replay_told.Goals as goal
 
-pub returns-in-Ok-eq0-clause-replayed : goal.returns-in-Ok-eq0-clause-replayed
-returns-in-Ok-eq0-clause-replayed g c =
-    let some : 0 < length c.read.new.buf = omega arith in
-    let none : c.in-Ok-eq0.field-0 ≡ 0 = grind (arith, nat_tests) in
-    let both =
-    replayed_at_end (g.R.Read.remaining (inner_of c.args.reader.now)) (g.R.Read.remaining (inner_of c.pieces.reader))
-    (g.R.Read.remaining (inner_of c.read.new.self)) (g.W.Write.contents (inner_of c.args.writer.now))
-    (g.W.Write.contents (inner_of c.pieces.writer)) (g.W.Write.contents (inner_of c.end.new.writer)) c.pieces.progress
-    c.end.result c.read.new.buf c.in-Ok-eq0.field-0 none c.pieces.invariant.way c.in-Ok-eq0.ensures.bytes.0
-    (c.in-Ok-eq0.ensures.bytes.1 none some) c.end.ensures.ended in
-    both.0
+pub returns-in_err-read-clause-part : goal.returns-in_err-read-clause-part
+returns-in_err-read-clause-part g c =
+    let p = err_from_is_err_and c.from_residual.result c.from_residual.ensures.1 in
+    rw p.1 (stays (g.R.Read.remaining (inner_of c.args.reader.now)) (g.R.Read.remaining (inner_of c.pieces.reader)) (g.R.Read.remaining (inner_of c.read.new.reader))
+    (g.W.Write.contents (inner_of c.args.writer.now)) (g.W.Write.contents (inner_of c.pieces.writer)) c.pieces.progress
+    c.pieces.invariant.way c.in_err-read.ensures.piece)
 
-pub returns-in-Ok-eq0-clause-part : goal.returns-in-Ok-eq0-clause-part
-returns-in-Ok-eq0-clause-part g c =
-    let some : 0 < length c.read.new.buf = omega arith in
-    let none : c.in-Ok-eq0.field-0 ≡ 0 = grind (arith, nat_tests) in
-    let both =
-    replayed_at_end (g.R.Read.remaining (inner_of c.args.reader.now)) (g.R.Read.remaining (inner_of c.pieces.reader))
-    (g.R.Read.remaining (inner_of c.read.new.self)) (g.W.Write.contents (inner_of c.args.writer.now))
-    (g.W.Write.contents (inner_of c.pieces.writer)) (g.W.Write.contents (inner_of c.end.new.writer)) c.pieces.progress
-    c.end.result c.read.new.buf c.in-Ok-eq0.field-0 none c.pieces.invariant.way c.in-Ok-eq0.ensures.bytes.0
-    (c.in-Ok-eq0.ensures.bytes.1 none some) c.end.ensures.ended in
-    both.1
+pub returns-in_err-write-clause-part : goal.returns-in_err-write-clause-part
+returns-in_err-write-clause-part g c =
+    let piece = c.piece.result.now in
+    let read = met_piece (g.R.Read.remaining (inner_of c.pieces.reader)) (g.R.Read.remaining (inner_of c.read.new.reader)) c.read.new.self.piece
+        c.in_ok-read.field-0 c.if-branch.true c.in_ok-read.ensures.piece in
+    let consumed = subst (Consumes (g.R.Read.remaining (inner_of c.pieces.reader)) (g.R.Read.remaining (inner_of c.read.new.reader))) (sym c.piece.ensures) read.0 in
+    let p = err_from_is_err_and c.from_residual-in_err-write.result c.from_residual-in_err-write.ensures.1 in
+    rw p.1 (stops (g.R.Read.remaining (inner_of c.args.reader.now)) (g.R.Read.remaining (inner_of c.pieces.reader)) (g.R.Read.remaining (inner_of c.read.new.reader))
+    (g.W.Write.contents (inner_of c.args.writer.now)) (g.W.Write.contents (inner_of c.pieces.writer)) (g.W.Write.contents (inner_of c.write.new.writer))
+    c.pieces.progress c.feed-fed.new.self c.feed-fed.result piece c.pieces.invariant.way consumed c.feed-fed.ensures.fed
+    c.in_err-write.ensures.part)
 
-pub returns-in-Err-clause-part : goal.returns-in-Err-clause-part
-returns-in-Err-clause-part g c =
-    stays (g.R.Read.remaining (inner_of c.args.reader.now)) (g.R.Read.remaining (inner_of c.pieces.reader))
-    (g.R.Read.remaining (inner_of c.read.new.self)) (g.W.Write.contents (inner_of c.args.writer.now))
-    (g.W.Write.contents (inner_of c.pieces.writer)) c.pieces.progress c.pieces.invariant.way c.in-Err.ensures.bytes
-
-pub returns-then-is_err-clause-part : goal.returns-then-is_err-clause-part
-returns-then-is_err-clause-part g c =
-    stops (g.R.Read.remaining (inner_of c.args.reader.now)) (g.R.Read.remaining (inner_of c.pieces.reader))
-    (g.R.Read.remaining (inner_of c.read.new.self)) (g.W.Write.contents (inner_of c.args.writer.now))
-    (g.W.Write.contents (inner_of c.pieces.writer)) (g.W.Write.contents (inner_of c.write.new.writer)) c.pieces.progress
-    c.feed-fed.new.self c.feed-fed.result (take c.in-Ok.n c.read.new.buf) c.pieces.invariant.way c.in-Ok.ensures.bytes.0
-    c.feed-fed.ensures.fed
-    (on_err c.write.result (sym c.is_err.ensures.value ∙ c.if-is_err.true) c.write.ensures.part)
-
-pub returns-then-is_err-2-clause-part : goal.returns-then-is_err-2-clause-part
-returns-then-is_err-2-clause-part g c =
-    stops (g.R.Read.remaining (inner_of c.args.reader.now)) (g.R.Read.remaining (inner_of c.pieces.reader))
-    (g.R.Read.remaining (inner_of c.read.new.self)) (g.W.Write.contents (inner_of c.args.writer.now))
-    (g.W.Write.contents (inner_of c.pieces.writer)) (g.W.Write.contents (inner_of c.write.new.writer)) c.pieces.progress
-    c.feed-fed.new.self c.feed-fed.result (take c.in-Ok.n c.read.new.buf) c.pieces.invariant.way c.in-Ok.ensures.bytes.0
-    c.feed-fed.ensures.fed
+pub returns-in_err-fed-clause-part : goal.returns-in_err-fed-clause-part
+returns-in_err-fed-clause-part g c =
+    let piece = c.piece.result.now in
+    let read = met_piece (g.R.Read.remaining (inner_of c.pieces.reader)) (g.R.Read.remaining (inner_of c.read.new.reader)) c.read.new.self.piece
+        c.in_ok-read.field-0 c.if-branch.true c.in_ok-read.ensures.piece in
+    let consumed = subst (Consumes (g.R.Read.remaining (inner_of c.pieces.reader)) (g.R.Read.remaining (inner_of c.read.new.reader))) (sym c.piece.ensures) read.0 in
+    let p = err_from_is_err_and c.from_residual-in_err-fed.result c.from_residual-in_err-fed.ensures.1 in
+    rw p.1 (stops (g.R.Read.remaining (inner_of c.args.reader.now)) (g.R.Read.remaining (inner_of c.pieces.reader)) (g.R.Read.remaining (inner_of c.read.new.reader))
+    (g.W.Write.contents (inner_of c.args.writer.now)) (g.W.Write.contents (inner_of c.pieces.writer)) (g.W.Write.contents (inner_of c.write.new.writer))
+    c.pieces.progress c.feed-fed.new.self c.feed-fed.result piece c.pieces.invariant.way consumed c.feed-fed.ensures.fed
     (whole_part (g.W.Write.contents (inner_of c.pieces.writer)) (g.W.Write.contents (inner_of c.write.new.writer))
-    c.feed-fed.new.self.answers.items
-    (on_ok c.write.result (sym c.is_err.ensures.value ∙ c.if-is_err.false) c.write.ensures.written))
+    c.feed-fed.new.self.answers.items c.in_ok-write.ensures.written))
 
 pub pieces-preserved : goal.pieces-preserved
-pieces-preserved g c = record {
-  whole = first_of (search rules, grind (arith, common_steps));
-  counted = first_of (search rules, grind (arith, common_steps));
-  writes = on_ok c.write.result (sym c.is_err.ensures.value ∙ c.if-is_err.false) c.write.ensures.whole;
-  way = goes_on (g.R.Read.remaining (inner_of c.args.reader.now)) (g.R.Read.remaining (inner_of c.pieces.reader))
-      (g.R.Read.remaining (inner_of c.read.new.self)) (g.W.Write.contents (inner_of c.args.writer.now))
-      (g.W.Write.contents (inner_of c.pieces.writer)) (g.W.Write.contents (inner_of c.write.new.writer)) c.pieces.progress
-      c.feed-fed.new.self c.write.new.self c.feed-fed.result (take c.in-Ok.n c.read.new.buf) c.pieces.invariant.way
-      c.in-Ok.ensures.bytes.0
-      c.feed-fed.ensures.fed (sym c.is_err-in-pieces.ensures.value ∙ c.if-is_err-2.false)
-      (on_ok c.write.result (sym c.is_err.ensures.value ∙ c.if-is_err.false) c.write.ensures.written)
-      c.write.ensures.script c.write.ensures.kept
-      (on_ok c.write.result (sym c.is_err.ensures.value ∙ c.if-is_err.false) c.write.ensures.empty);
-}
+pieces-preserved g c =
+    let piece = c.piece.result.now in
+    let read = met_piece (g.R.Read.remaining (inner_of c.pieces.reader)) (g.R.Read.remaining (inner_of c.read.new.reader)) c.read.new.self.piece
+        c.in_ok-read.field-0 c.if-branch.true c.in_ok-read.ensures.piece in
+    let consumed = subst (Consumes (g.R.Read.remaining (inner_of c.pieces.reader)) (g.R.Read.remaining (inner_of c.read.new.reader))) (sym c.piece.ensures) read.0 in
+    record {
+      whole = search (c.in_ok-read.ensures.whole, c.pieces.invariant.whole);
+      counted = omega (c.pieces.invariant.counted, c.in_ok-read.ensures.reads (omega (c.pieces.invariant.counted, arith)), arith);
+      writes = c.in_ok-write.ensures.whole;
+      way = goes_on (g.R.Read.remaining (inner_of c.args.reader.now)) (g.R.Read.remaining (inner_of c.pieces.reader)) (g.R.Read.remaining (inner_of c.read.new.reader))
+          (g.W.Write.contents (inner_of c.args.writer.now)) (g.W.Write.contents (inner_of c.pieces.writer)) (g.W.Write.contents (inner_of c.write.new.writer))
+          c.pieces.progress c.feed-fed.new.self c.write.new.self c.feed-fed.result piece c.pieces.invariant.way consumed
+          c.feed-fed.ensures.fed (ap is_err c.in_ok-fed.was) c.in_ok-write.ensures.written
+          c.write.ensures.script c.write.ensures.kept c.in_ok-write.ensures.empty;
+    }
+
+pub returns-clause-replayed : goal.returns-clause-replayed
+returns-clause-replayed g c =
+    let end = met_end (g.R.Read.remaining (inner_of c.pieces.reader)) (g.R.Read.remaining (inner_of c.read.new.reader)) c.read.new.self.piece
+        c.in_ok-read.field-0 c.if-branch.false c.in_ok-read.ensures.piece in
+    let both = replayed_at_end (g.R.Read.remaining (inner_of c.args.reader.now)) (g.R.Read.remaining (inner_of c.pieces.reader)) (g.R.Read.remaining (inner_of c.read.new.reader))
+        (g.W.Write.contents (inner_of c.args.writer.now)) (g.W.Write.contents (inner_of c.pieces.writer)) (g.W.Write.contents (inner_of c.end.new.writer))
+        c.pieces.progress c.end.result c.pieces.invariant.way end.0 end.1 c.end.ensures.ended in
+    both.0
 
 pub returns-clause-part : goal.returns-clause-part
 returns-clause-part g c =
-    ends_unread (g.R.Read.remaining (inner_of c.args.reader.now)) (g.R.Read.remaining (inner_of c.pieces.reader))
-    (g.W.Write.contents (inner_of c.args.writer.now)) (g.W.Write.contents (inner_of c.pieces.writer)) c.pieces.progress
-    c.pieces.invariant.way
+    let end = met_end (g.R.Read.remaining (inner_of c.pieces.reader)) (g.R.Read.remaining (inner_of c.read.new.reader)) c.read.new.self.piece
+        c.in_ok-read.field-0 c.if-branch.false c.in_ok-read.ensures.piece in
+    let both = replayed_at_end (g.R.Read.remaining (inner_of c.args.reader.now)) (g.R.Read.remaining (inner_of c.pieces.reader)) (g.R.Read.remaining (inner_of c.read.new.reader))
+        (g.W.Write.contents (inner_of c.args.writer.now)) (g.W.Write.contents (inner_of c.pieces.writer)) (g.W.Write.contents (inner_of c.end.new.writer))
+        c.pieces.progress c.end.result c.pieces.invariant.way end.0 end.1 c.end.ensures.ended in
+    both.1

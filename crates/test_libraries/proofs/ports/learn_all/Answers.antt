@@ -1,7 +1,7 @@
 use Rattle.std.proofs.Common.{◌≡◌, ◌<◌, ◌∙◌, length, arith, ap, sym}
 use Rattle.std.proofs.lemmas.List.Elements.{All-set}
 use Rattle.gw_ports.specs.Ends.{Ingress}
-use Rattle.gw_ports.proofs.OneGateway.{ends_in_stay}
+use Rattle.gw_ports.proofs.Callers.{ends_in_stay}
 use Rattle.test_libraries.proofs.ports.learn_all.Goals as goal
 
 pub learn-requires : goal.learn-requires

@@ -1,7 +1,7 @@
 use Rattle.std.proofs.Common.{◌∙◌, List, ap, arith, map, subst, sym}
 use Rattle.gw_ports.specs.Ends.{EndOut, end_in, end_out}
 use Rattle.gw_ports.specs.Making.{AreEnds}
-use Rattle.gw_ports.proofs.OneGateway.{ends_out_stay}
+use Rattle.gw_ports.proofs.Callers.{ends_out_stay}
 use Rattle.test_libraries.proofs.ports.next_at.Goals as goal
 
 pub returns : goal.returns

@@ -1,7 +1,7 @@
 use Rattle.std.proofs.Common.{◌∙◌, List, ap, arith, map, subst, sym}
 use Rattle.gw_ports.specs.Ends.{EndIn, end_in, end_out}
 use Rattle.gw_ports.specs.Making.{AreEnds}
-use Rattle.gw_ports.proofs.OneGateway.{ends_in_stay}
+use Rattle.gw_ports.proofs.Callers.{ends_in_stay}
 use Rattle.test_libraries.proofs.ports.offer_at.Goals as goal
 
 pub returns : goal.returns

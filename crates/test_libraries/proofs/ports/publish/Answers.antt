@@ -1,7 +1,7 @@
 use Rattle.std.proofs.Common.{◌∙◌, List, get_or, ap, arith, length, map, subst, sym}
 use Rattle.gw_ports.specs.Ends.{Ingress, end_in, end_out}
 use Rattle.gw_ports.specs.Making.{AreEnds}
-use Rattle.gw_ports.proofs.OneGateway.{of_board}
+use Rattle.gw_ports.proofs.Callers.{of_board}
 use Rattle.test_libraries.proofs.ports.publish.Goals as goal
 
 pub learn_all-requires : goal.learn_all-requires

@@ -1,5 +1,5 @@
 use Rattle.std.proofs.Common.{List, inl, inr, refl, subst}
-use Rattle.gw_trace.specs.Tries.{inner_of, has_failed, reads_of}
+use Rattle.gw_io.specs.Tries.{inner_of, has_failed, reads_of}
 use Rattle.gw_commands.specs.Forwarding.{Forwards}
 use Rattle.gw_commands.specs.declared.forwarding.Source.{Source}
 use Rattle.gw_commands.specs.declared.refusal.Refusal.TheVariants.{OutOfMemory}

@@ -1,7 +1,7 @@
 use Rattle.std.proofs.Common.{◌≡◌, List, length, ◌∙◌, ap, subst, refl, arith}
 use mathlib.Core.List.{IsPrefix}
 use Rattle.gw_policy.specs.Batches.{Pair}
-use Rattle.gw_board.proofs.Prefixes.{prefix_trans}
+use Rattle.gw_board.proofs.Callers.{prefix_trans}
 use Rattle.gw_ports.proofs.Settling.{settled, renewed}
 use Rattle.gw_ports.proofs.port_in.PortIn.settle.Goals as goal
 

@@ -1,5 +1,5 @@
 use Rattle.std.proofs.Common.{sym, subst, arith}
-use Rattle.gw_ledger.proofs.PortLists.{length-part}
+use Rattle.gw_ledger.proofs.Callers.{length-part}
 use Rattle.gw_ledger.specs.declared.ledger.InLedger.{InLedger}
 use Rattle.gw_ports.specs.Ends.{IsCounted}
 use Rattle.gw_ports.proofs.Counting.{one_more_frame}

@@ -1,6 +1,6 @@
 use Rattle.std.proofs.Common.{[], ◌++◌, sym, ap, ◌∙◌, subst, append-nil}
 use Rattle.std.specs.Prelude.{is_ok, if◌then◌else◌}
-use Rattle.gw_replay.specs.Lines.{ended_line}
+use Rattle.gw_input.specs.Lines.{ended_line}
 use Rattle.gw_replay.specs.Said.{said_text}
 use Rattle.gw_replay.specs.Standing.{IsAnswered}
 use Rattle.gw_replay.specs.declared.script.Said.TheVariants.{Refused}

@@ -1,0 +1,5 @@
+pub mod Callers
+pub mod HexDigits
+pub mod DecimalValues
+pub mod PortLists
+pub mod LineByLine

@@ -1,0 +1,8 @@
+-- public meaning: lines and words, records, the programs of listings, tables, and the line of a refusal
+pub mod Lines
+pub mod Words
+pub mod Records
+pub mod Programs
+pub mod Tables
+pub mod PortTexts
+pub mod Refused

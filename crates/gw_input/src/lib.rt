@@ -1,0 +1,19 @@
+//! What is read and written as text: records in hexadecimal digits, listings and tables as policies, lines, words and decimal
+//! digits, and the line of a refusal.
+#![tactic(auto)]
+
+mod line;
+mod lines;
+mod numbers;
+mod programs;
+mod records;
+mod refusing;
+mod tables;
+
+pub use line::Line;
+pub use lines::{first_line, first_word, line_in, position_of};
+pub use numbers::{number, number_before, port, port_before};
+pub use programs::{ProgramFault, program, program_policy};
+pub use records::{RecordFault, record};
+pub use refusing::{refused, refused_code};
+pub use tables::{TableFault, table, table_policy};

@@ -1,0 +1,144 @@
+//! Lines of output, put together without memory.
+
+ghost use Rattle.std.specs.Prelude.{◌≡◌, ◌+◌, ◌≤◌, [], ◌∷◌, ◌++◌, if◌then◌else◌, length, decimal};
+ghost use Rattle.hex.specs.Hex.{encode_lower};
+ghost use Rattle.gw_input.specs.PortTexts.{ports_text};
+
+use arrayvec::ArrayVec;
+use gw_frame::Frame;
+use gw_ledger::PortSet;
+use itoa::Buffer;
+use std::marker::Model;
+
+/// The room of a line.
+const ROOM: usize = 192;
+
+/// A line of output of at most 192 octets.
+#[derive(Drop)]
+pub struct Line {
+    octets: ArrayVec<u8, ROOM>,
+}
+
+impl Model for Line {
+    ghost use Rattle.std.specs.Prelude.{List, ℕ};
+
+    ghost Value = { List ℕ };
+
+    ghost view = { λ l. l.octets.items };
+}
+
+impl Line {
+    /// No octets.
+    pub fn new() -> Line
+        ensures { result ≡ [] }
+    {
+        Line {
+            octets: ArrayVec::new(),
+        }
+    }
+
+    /// The line with a text behind it.
+    pub fn text(mut self, text: &str) -> Line
+        requires { length self + length text.now ≤ 192 }
+        ensures octets { result ≡ self ++ text.now }
+        ensures len { length result ≡ length self + length text.now }
+    {
+        let _fits = self.octets.try_extend_from_slice(text.as_bytes());
+        self
+    }
+
+    /// The line with a space and the decimal digits of a number behind it.
+    pub fn number(mut self, n: u64) -> Line
+        requires { length self + 21 ≤ 192 }
+        ensures octets { result ≡ self ++ 32 ∷ decimal n }
+        ensures len { length result ≤ length self + 21 }
+    {
+        let mut buffer = Buffer::new();
+        self.octets.push(b' ');
+        let _fits = self
+            .octets
+            .try_extend_from_slice(buffer.format(n).as_bytes());
+        self
+    }
+
+    /// The line with the decimal digits of a number behind it.
+    pub fn digits(mut self, n: u64) -> Line
+        requires { length self + 20 ≤ 192 }
+        ensures octets { result ≡ self ++ decimal n }
+        ensures len { length result ≤ length self + 20 }
+    {
+        let mut buffer = Buffer::new();
+        let _fits = self
+            .octets
+            .try_extend_from_slice(buffer.format(n).as_bytes());
+        self
+    }
+
+    /// The line with the decimal digits of a port behind it.
+    pub fn port(mut self, port: u8) -> Line
+        requires { length self + 3 ≤ 192 }
+        ensures octets { result ≡ self ++ decimal port }
+        ensures len { length result ≤ length self + 3 }
+    {
+        let mut buffer = Buffer::new();
+        let _fits = self
+            .octets
+            .try_extend_from_slice(buffer.format(port).as_bytes());
+        self
+    }
+
+    /// The line with a set of ports behind it: their numbers with commas between, or `-` for none.
+    pub fn ports(self, ports: PortSet) -> Line
+        requires { length self + 64 ≤ 192 }
+        ensures octets { result ≡ self ++ ports_text ports }
+        ensures len { length result ≤ length self + 64 }
+    {
+        if ports.len() == 0 {
+            return self.text("-");
+        }
+        let mut line = self;
+        let mut some = false;
+        for port in 0..16u8 {
+            if ports.has(port) {
+                line = line.member(some, port);
+                some = true;
+            }
+        }
+        line
+    }
+
+    /// The line with a port behind it, and a comma before that where others stand there.
+    fn member(self, behind: bool, port: u8) -> Line
+        requires { length self + 4 ≤ 192 }
+        ensures octets { result ≡ self ++ (if behind then 44 ∷ decimal port else decimal port) }
+        ensures len { length result ≤ length self + 4 }
+    {
+        if behind {
+            self.text(",").port(port)
+        } else {
+            self.port(port)
+        }
+    }
+
+    /// The line with the octets of a frame behind it, in lower-case hexadecimal digits.
+    pub fn hex(mut self, frame: &Frame) -> Line
+        requires { length self + 32 ≤ 192 }
+        ensures octets { result ≡ self ++ encode_lower frame.now }
+        ensures len { length result ≤ length self + 32 }
+    {
+        let octets = frame.bytes();
+        let mut digits = [0; 32];
+        let _fits = hex::encode_to_slice(octets, &mut digits[..2 * octets.len()]);
+        let _fits = self
+            .octets
+            .try_extend_from_slice(&digits[..2 * octets.len()]);
+        self
+    }
+
+    /// The octets.
+    pub fn as_bytes(&self) -> &[u8]
+        ensures { result.now ≡ self.now }
+    {
+        self.octets.as_slice()
+    }
+}

@@ -1,0 +1,74 @@
+//! Numbers in decimal digits.
+
+ghost use Rattle.std.specs.Prelude.{◌≡◌, ◌≤◌, ◌↔◌, option_map, IfSome, IsTrue, length, All};
+ghost use Rattle.std.specs.Char.{IsAsciiDigit, is_ascii_digit};
+ghost use Rattle.std.specs.List.{list_all};
+ghost use Rattle.gw_insn.specs.Listing.{decimal};
+ghost use Rattle.gw_input.specs.Words.{number_in, number_before};
+
+use crate::lines::first_word;
+
+/// The number of 1 to 10 decimal digits that a word spells, if that is at most `most`.
+#[tactic(auto, using(crate::proofs::DecimalValues::number_there))]
+pub fn number(word: &[u8], most: u32) -> Option<u32>
+    ensures number { result ≡ number_in most word.now }
+    ensures most { IfSome result (λ n. n ≤ most) }
+{
+    if word.is_empty() || word.len() > 10 || !are_digits(word) {
+        return None;
+    }
+    let n = decimal_value(word);
+    if n > u64::from(most) {
+        return None;
+    }
+    Some(n as u32)
+}
+
+/// Whether a word has decimal digits alone.
+fn are_digits(word: &[u8]) -> bool
+    ensures value { result ≡ list_all is_ascii_digit word.now }
+    ensures all { IsTrue result ↔ All IsAsciiDigit word.now }
+{
+    word.iter().all(|c| c.is_ascii_digit())
+}
+
+/// The number that at most ten digits spell.
+#[tactic(auto, using(crate::proofs::DecimalValues::decimal_small))]
+fn decimal_value(digits: &[u8]) -> u64
+    requires few { length digits.now ≤ 10 }
+    requires ascii { All IsAsciiDigit digits.now }
+    ensures { result ≡ decimal digits.now }
+{
+    let mut n = 0;
+    for digit in digits {
+        n = 10 * n + u64::from(digit - b'0');
+    }
+    n
+}
+
+/// The number of a port, at most 255.
+pub fn port(word: &[u8]) -> Option<u8>
+    ensures { result ≡ number_in 255 word.now }
+{
+    let n = number(word, 255)?;
+    Some(n as u8)
+}
+
+/// The number that a text's first word spells, and what stands behind the space that ends it.
+pub fn number_before(text: &[u8], most: u32) -> Option<(u32, &[u8])>
+    ensures number { option_map (λ f. (f.0, f.1.now)) result ≡ number_before most text.now }
+    ensures most { IfSome result (λ f. f.0 ≤ most) }
+{
+    let (word, behind) = first_word(text);
+    let behind = behind?;
+    let n = number(word, most)?;
+    Some((n, behind))
+}
+
+/// The same of a port's number, at most 255.
+pub fn port_before(text: &[u8]) -> Option<(u8, &[u8])>
+    ensures { option_map (λ f. (f.0, f.1.now)) result ≡ number_before 255 text.now }
+{
+    let (n, behind) = number_before(text, 255)?;
+    Some((n as u8, behind))
+}

@@ -1,0 +1,31 @@
+//! The lines of refusals.
+
+ghost use Rattle.std.specs.Prelude.{◌≡◌, ◌≤◌, length};
+ghost use Rattle.gw_verify.specs.Cause.{cause_number};
+ghost use Rattle.gw_input.specs.Refused.{refused_line, cause_details};
+
+use crate::line::Line;
+use gw_verify::Cause;
+
+/// The line `refused`, a number, and the numbers that it names.
+pub fn refused(number: u32, details: &[u64]) -> Line
+    requires { length details.now ≤ 4 }
+    ensures { result ≡ refused_line number details.now }
+{
+    let mut line = Line::new().text("refused").number(u64::from(number));
+    for detail in details {
+        line = line.number(*detail);
+    }
+    line.text("\n")
+}
+
+/// The line that refuses code: its place, and the scratch word that may be unset.
+pub fn refused_code(why: Cause, place: usize) -> Line
+    ensures { result ≡ refused_line (cause_number why) (cause_details why place) }
+{
+    match why {
+        Cause::OutOfMemory => refused(why.number(), &[]),
+        Cause::UnsetWord { word } => refused(why.number(), &[place as u64, u64::from(word)]),
+        _ => refused(why.number(), &[place as u64]),
+    }
+}

@@ -1,0 +1,53 @@
+-- For whoever reads in pieces or writes: what was read or written so far, with more behind it.
+use Rattle.std.proofs.Common.{◌≡◌, ◌<◌, ◌-◌, ℕ, Bool, true, false, List, [], ◌++◌, length, length-drop, take, drop, Option, Some, None, Ok}
+use Rattle.std.proofs.Common.{sym, ap, ◌∙◌, subst, refl}
+use Rattle.std.proofs.Common.{append_assoc, append-nil, arith}
+use Rattle.std.specs.Io.KnownBytes.{Appends, Consumes, IsAtEnd, Keeps}
+use Rattle.std.proofs.Math.Seq.{take-length}
+use Rattle.std.proofs.lemmas.List.{take_all}
+use Rattle.gw_io.specs.Pieces.{IsNextPiece}
+use Rattle.gw_io.specs.Written.{WritesPart}
+
+-- no read gave nothing
+pub consumed_nothing : (a : Option (List ℕ)) → Consumes a a []
+consumed_nothing None = tt
+consumed_nothing (Some xs) = refl
+
+-- what a reader gave, with one more piece
+pub consumed_more : (a b c : Option (List ℕ)) (xs ys : List ℕ) → Consumes a b xs → Consumes b c ys → Consumes a c (xs ++ ys)
+consumed_more None b c xs ys h k = tt
+consumed_more (Some p) None c xs ys h k = absurd h
+consumed_more (Some p) (Some q) None xs ys h k = absurd k
+consumed_more (Some p) (Some q) (Some r) xs ys h k = h ∙ ap (λ zs. xs ++ zs) k ∙ sym (append_assoc xs ys r)
+
+-- a read that failed gave nothing, and so did the last one
+pub consumed_kept : (a b c : Option (List ℕ)) (xs : List ℕ) → Consumes a b xs → Keeps b c → Consumes a c xs
+consumed_kept None b c xs h k = tt
+consumed_kept (Some p) None c xs h k = absurd h
+consumed_kept (Some p) (Some q) None xs h k = absurd k
+consumed_kept (Some p) (Some q) (Some r) xs h k = h ∙ ap (λ zs. xs ++ zs) (sym k)
+
+-- a read that gave no piece met the end
+pub met_end : (a b : Option (List ℕ)) (piece : List ℕ) (more : Bool) → more ≡ false → IsNextPiece a b piece (Ok more)
+    → Keeps a b × IsAtEnd b
+met_end a b piece more e h = subst (λ m. IsNextPiece a b piece (Ok m)) e h
+
+-- a read that gave a piece
+pub met_piece : (a b : Option (List ℕ)) (piece : List ℕ) (more : Bool) → more ≡ true → IsNextPiece a b piece (Ok more)
+    → Consumes a b piece × (0 < length piece)
+met_piece a b piece more e h = subst (λ m. IsNextPiece a b piece (Ok m)) e h
+
+-- one text written behind another
+pub appended_on : (a b c : Option (List ℕ)) (xs ys : List ℕ) → Appends a b xs → Appends b c ys → Appends a c (xs ++ ys)
+appended_on None b c xs ys h k = tt
+appended_on (Some p) None c xs ys h k = absurd h
+appended_on (Some p) (Some q) None xs ys h k = absurd k
+appended_on (Some p) (Some q) (Some r) xs ys h k = k ∙ ap (λ zs. zs ++ ys) h ∙ append_assoc p xs ys
+
+-- a text that was written whole
+pub whole_part : (a b : Option (List ℕ)) (text : List ℕ) → Appends a b text → WritesPart a b text
+whole_part a b text h = (length text, subst (Appends a b) (sym (take-length text)) h)
+
+-- what stands behind a place, as a slice from there on gives it
+pub rest_from : (at : ℕ) (xs : List ℕ) → take (length xs - at) (drop at xs) ≡ drop at xs
+rest_from at xs = take_all (length xs - at) (drop at xs) (simp length-drop (omega arith))

@@ -1,0 +1,82 @@
+//! What a reader gives, piece by piece.
+
+ghost use Rattle.std.specs.Prelude.{◌≡◌, ◌≤◌, ◌+◌, ◌⊎◌, true, OnOk, OnErr};
+ghost use Rattle.gw_io.specs.Pieces.{IsNextPiece, most_reads};
+ghost use Rattle.gw_io.specs.Tries.{inner_of, has_failed, reads_of};
+
+use crate::tried::Tried;
+use std::io::Read;
+use std::marker::Model;
+
+/// The most reads of one input.
+const MOST_READS: u32 = 16_777_216;
+
+/// How many octets are asked of the reader at once.
+const PIECE: usize = 65536;
+
+/// A read failed, or 16777216 reads did not reach the end.
+#[derive(Clone, Copy, PartialEq, Eq, Debug)]
+pub struct ReadFault;
+
+/// A piece of an input, and how many reads of it are left.
+#[derive(Drop)]
+pub struct Pieces {
+    octets: [u8; PIECE],
+    len: usize,
+    left: u32,
+}
+
+impl Model for Pieces {
+    ghost use Rattle.std.specs.Prelude.{◌≤◌, take};
+    ghost use Rattle.gw_io.specs.Pieces.{Known};
+
+    ghost Value = { Known };
+
+    ghost view = { λ p. record { piece = take p.len p.octets; left = p.left } };
+
+    ghost invariant = { λ p. p.len ≤ 65536 };
+}
+
+impl Pieces {
+    /// No piece yet, and 16777216 reads left.
+    pub fn new() -> Pieces
+        ensures { result.left ≡ most_reads }
+    {
+        Pieces {
+            octets: [0; PIECE],
+            len: 0,
+            left: MOST_READS,
+        }
+    }
+
+    /// Reads the next piece, of at most 65536 octets; false at the end. It is one read call, and none where no read is left.
+    pub fn read<R: Read>(&mut self, reader: &mut Tried<R>) -> Result<bool, ReadFault>
+        ensures piece { IsNextPiece (R.remaining (inner_of reader.old)) (R.remaining (inner_of reader.new))
+            self.new.piece result }
+        ensures whole { OnOk result (has_failed reader.new ≡ has_failed reader.old) }
+        ensures fault { OnErr result ((has_failed reader.new ≡ true) ⊎ (self.old.left ≡ 0)) }
+        ensures left { OnOk result (self.new.left + 1 ≡ self.old.left) }
+        ensures fewer { self.new.left ≤ self.old.left }
+        ensures reads { reads_of reader.old + self.old.left ≤ 4294967295
+            → reads_of reader.new + self.new.left ≡ reads_of reader.old + self.old.left }
+    {
+        if self.left == 0 {
+            return Err(ReadFault);
+        }
+        self.left -= 1;
+        match reader.read(&mut self.octets) {
+            Ok(n) => {
+                self.len = n;
+                Ok(n > 0)
+            }
+            Err(_) => Err(ReadFault),
+        }
+    }
+
+    /// The piece that was read last.
+    pub fn piece(&self) -> &[u8]
+        ensures { result.now ≡ self.now.piece }
+    {
+        &self.octets[..self.len]
+    }
+}

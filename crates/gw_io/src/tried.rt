@@ -1,0 +1,42 @@
+//! Readers and writers that remember whether a call failed.
+
+ghost use Rattle.std.specs.Prelude.{◌≡◌, false};
+
+/// A reader or a writer that remembers whether a call failed and how often it was read. Each call is handed on.
+#[derive(Drop)]
+pub struct Tried<T> {
+    pub(crate) inner: T,
+    pub(crate) failed: bool,
+    pub(crate) reads: u32,
+}
+
+impl<T> Tried<T> {
+    ghost use Rattle.gw_io.specs.Tries.{inner_of, has_failed, reads_of};
+
+    /// Wraps a reader or a writer that was not called before.
+    pub fn new(inner: T) -> Self
+        ensures inner { inner_of result ≡ inner }
+        ensures failed { has_failed result ≡ false }
+        ensures reads { reads_of result ≡ 0 }
+    {
+        Tried {
+            inner,
+            failed: false,
+            reads: 0,
+        }
+    }
+
+    /// Whether a call failed, or a write of at least one octet took nothing. It stays true.
+    pub fn failed(&self) -> bool
+        ensures { result ≡ has_failed self.now }
+    {
+        self.failed
+    }
+
+    /// How many read calls there were, up to 4294967295.
+    pub fn reads(&self) -> u32
+        ensures { result ≡ reads_of self.now }
+    {
+        self.reads
+    }
+}

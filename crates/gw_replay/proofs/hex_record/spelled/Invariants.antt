@@ -1,6 +1,0 @@
-use Rattle.std.proofs.Common.{◌≡◌, ℕ, ◌<◌, true, get_or}
-use Rattle.hex.specs.Hex.{is_hex_digit}
-use Rattle.gw_replay.proofs.hex_record.spelled.Given as goal
-
-abbrev pub invariant-loop-at : goal.invariant-loop-at
-invariant-loop-at l = (k : ℕ) → k < l.at → is_hex_digit (get_or l.text k 0) ≡ true
