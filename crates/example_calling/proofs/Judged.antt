@@ -1,15 +1,15 @@
 -- What the set of the two policies says of a record.
 use Rattle.std.proofs.Common.{◌≡◌, ℕ, ◌↔◌, Bool, not, ◌==◌, List, None, refl, ap, ◌∙◌}
 use Rattle.std.specs.Option.{option_map_or}
-use Rattle.gw_frame.specs.Record.{IsRecord}
-use Rattle.gw_insn.specs.declared.insn.Insn.{Insn}
-use Rattle.gw_verify.specs.Flow.{program_forms}
-use Rattle.gw_verify.specs.Accepted.{IsAccepted}
-use Rattle.gw_machine.specs.Runs.{Returns}
-use Rattle.gw_machine.specs.Answers.{answer_of, steps_of}
-use Rattle.gw_table.specs.Table.{table_passes}
-use Rattle.gw_policy.specs.Filter.{Filter, filter_passes}
-use Rattle.gw_policy.specs.Batches.{Places, passes, policy_at}
+use Rattle.j1939_gateway.specs.Record.{IsRecord}
+use Rattle.j1939_gateway.specs.Insn.{Insn}
+use Rattle.j1939_gateway.specs.Flow.{program_forms}
+use Rattle.j1939_gateway.specs.Accepted.{IsAccepted}
+use Rattle.j1939_gateway.specs.Runs.{Returns}
+use Rattle.j1939_gateway.specs.Answers.{answer_of, steps_of}
+use Rattle.j1939_gateway.specs.Table.{table_passes}
+use Rattle.j1939_gateway.specs.Filter.{Filter, filter_passes}
+use Rattle.j1939_gateway.specs.Batches.{Places, passes, policy_at}
 use Rattle.example_calling.specs.Calls.{IsInForce, AreVerdicts}
 
 -- what gw_machine's law says of accepted code

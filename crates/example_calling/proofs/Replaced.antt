@@ -1,13 +1,13 @@
 -- The outcomes of a frame that is offered before and after a replacement.
 use Rattle.std.proofs.Common.{◌∙◌, ℕ, List, [], ◌∷◌, ap, arith}
 use mathlib.Core.List.{IsPrefix}
-use Rattle.gw_board.proofs.Callers.{prefix_length, prefix_trans}
-use Rattle.gw_ledger.specs.declared.ledger.InLedger.{InLedger}
-use Rattle.gw_ledger.specs.declared.outcome.Outcome.{Outcome}
-use Rattle.gw_policy.specs.Batches.{Pair}
-use Rattle.gw_ports.specs.Ends.{Ingress}
-use Rattle.gw_ports.specs.Making.{IsNewIngress}
-use Rattle.gw_ports.proofs.Callers.{judged_one}
+use Rattle.j1939_gateway.proofs.Callers.{prefix_length, prefix_trans}
+use Rattle.j1939_gateway.specs.InLedger.{InLedger}
+use Rattle.j1939_gateway.specs.Outcome.{Outcome}
+use Rattle.j1939_gateway.specs.Batches.{Pair}
+use Rattle.j1939_gateway.specs.PortEnds.{Ingress}
+use Rattle.j1939_gateway.specs.Making.{IsNewIngress}
+use Rattle.j1939_gateway.proofs.Callers.{judged_one}
 use Rattle.example_calling.specs.Replacing.{bounds, told_of, AreOutcomes, TakesTold}
 
 -- both outcomes of a frame that port 0 of a new gateway took twice, told of the first batch and then of both

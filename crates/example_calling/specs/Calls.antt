@@ -1,17 +1,17 @@
 -- From a listing, a table and a record, all given as octets, to verdicts.
 use Rattle.std.specs.Prelude.{◌≡◌, ℕ, ◌⊎◌, not, ◌==◌, List, [], ◌∷◌, map, Some, None}
-use Rattle.gw_frame.specs.Record.{IsRecord, refusal_of}
-use Rattle.gw_insn.specs.declared.insn.Raw.{Raw}
-use Rattle.gw_insn.specs.Table.{insn_of}
-use Rattle.gw_insn.specs.Listing.{IsListing, IsListRefusal}
-use Rattle.gw_verify.specs.Flow.{forms_of, program_forms}
-use Rattle.gw_verify.specs.Accepted.{IsAccepted, IsRefusal}
-use Rattle.gw_machine.specs.Runs.{Returns}
-use Rattle.gw_table.specs.Table.{Meaning, table_passes}
-use Rattle.gw_table.specs.TableText.{IsTableText, IsTableRefusal}
-use Rattle.gw_table.specs.Emission.{emission}
-use Rattle.gw_policy.specs.Filter.{Filter}
-use Rattle.gw_policy.specs.Batches.{Places, StandsAfter}
+use Rattle.j1939_gateway.specs.Record.{IsRecord, refusal_of}
+use Rattle.j1939_gateway.specs.Raw.{Raw}
+use Rattle.j1939_gateway.specs.Instructions.{insn_of}
+use Rattle.j1939_gateway.specs.Listing.{IsListing, IsListRefusal}
+use Rattle.j1939_gateway.specs.Flow.{forms_of, program_forms}
+use Rattle.j1939_gateway.specs.Accepted.{IsAccepted, IsRefusal}
+use Rattle.j1939_gateway.specs.Runs.{Returns}
+use Rattle.j1939_gateway.specs.Table.{Meaning, table_passes}
+use Rattle.j1939_gateway.specs.TableText.{IsTableText, IsTableRefusal}
+use Rattle.j1939_gateway.specs.Emission.{emission}
+use Rattle.j1939_gateway.specs.Filter.{Filter}
+use Rattle.j1939_gateway.specs.Batches.{Places, StandsAfter}
 use Rattle.example_calling.specs.declared.fault.Fault.{Fault}
 use Rattle.example_calling.specs.declared.fault.Fault.TheVariants.{Record, Listing, Program, Table, OutOfMemory}
 use Rattle.example_calling.specs.declared.gateway.Verdicts.{Verdicts}

@@ -1,19 +1,19 @@
 -- Policies that are replaced between two offers of a frame.
 use Rattle.std.specs.Prelude.{◌≡◌, ℕ, ◌⊎◌, false, List, [], ◌∷◌, length, sum_by, All}
 use mathlib.Core.List.{IsPrefix}
-use Rattle.gw_board.specs.Ends.{Board, Publishing}
-use Rattle.gw_board.specs.Lists.{longer}
-use Rattle.gw_board.specs.Refusals.{MayPublish, Refuses}
-use Rattle.gw_board.specs.declared.refusals.ReplaceRefusal.{ReplaceRefusal}
-use Rattle.gw_ledger.specs.Bounds.{Bounds}
-use Rattle.gw_ledger.specs.Ledgers.{AreBalanced}
-use Rattle.gw_ledger.specs.declared.outcome.Outcome.{Outcome}
-use Rattle.gw_policy.specs.Batches.{Pair}
-use Rattle.gw_ports.specs.Ends.{Ingress, Egress}
-use Rattle.gw_ports.specs.Making.{AreNewEnds, AreOfOneGateway}
-use Rattle.gw_ports.specs.Offers.{Offered}
-use Rattle.gw_ports.specs.Reports.{IsJudged}
-use Rattle.gw_ports.specs.declared.refusals.OfferRefusal.TheVariants.{NoReading}
+use Rattle.j1939_gateway.specs.BoardEnds.{Board, Publishing}
+use Rattle.j1939_gateway.specs.Lists.{longer}
+use Rattle.j1939_gateway.specs.BoardRefusals.{MayPublish, Refuses}
+use Rattle.j1939_gateway.specs.ReplaceRefusal.{ReplaceRefusal}
+use Rattle.j1939_gateway.specs.Bounds.{Bounds}
+use Rattle.j1939_gateway.specs.Ledgers.{AreBalanced}
+use Rattle.j1939_gateway.specs.Outcome.{Outcome}
+use Rattle.j1939_gateway.specs.Batches.{Pair}
+use Rattle.j1939_gateway.specs.PortEnds.{Ingress, Egress}
+use Rattle.j1939_gateway.specs.Making.{AreNewEnds, AreOfOneGateway}
+use Rattle.j1939_gateway.specs.Offers.{Offered}
+use Rattle.j1939_gateway.specs.Reports.{IsJudged}
+use Rattle.j1939_gateway.specs.OfferRefusal.TheVariants.{NoReading}
 use Rattle.example_calling.specs.declared.fault.Fault.{Fault}
 use Rattle.example_calling.specs.declared.fault.Fault.TheVariants.{NotMade, NotPublished, NotTaken, NotClosed}
 use Rattle.example_calling.specs.declared.replacing.Replaced.{Replaced}

@@ -1,11 +1,9 @@
 //! Why there is no verdict, or no outcome.
 
-use gw_board::ReplaceRefusal;
-use gw_frame::FrameRefusal;
-use gw_insn::ListRefusal;
-use gw_ports::{CloseRefusal, MakeRefusal, OfferRefusal};
-use gw_table::TableRefusal;
-use gw_verify::Cause;
+use j1939_gateway::{
+    Cause, CloseRefusal, FrameRefusal, ListRefusal, MakeRefusal, OfferRefusal, ReplaceRefusal,
+    TableRefusal,
+};
 use std::fmt::{Display, Formatter};
 use std::{fmt, io};
 

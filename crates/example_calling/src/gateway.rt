@@ -6,9 +6,7 @@ ghost use Rattle.example_calling.specs.Calls.{IsInForce, IsPolicyFault, AreVerdi
 
 use crate::fault::Fault;
 use crate::policies::{program_policy, table_policy};
-use gw_frame::Frame;
-use gw_machine::one_answer;
-use gw_policy::{Batch, Policy, PolicySet};
+use j1939_gateway::{Batch, Frame, Policy, PolicySet, one_answer};
 use std::alloc::Global;
 use std::sync::Arc;
 

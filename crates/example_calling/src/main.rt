@@ -12,8 +12,7 @@ mod replacing;
 
 use fault::Fault;
 use gateway::{batch_for, judge};
-use gw_frame::Frame;
-use gw_ledger::Outcome;
+use j1939_gateway::{Frame, Outcome};
 use policies::{program_policy, table_policy};
 use replacing::replace_between;
 use std::alloc::Global;

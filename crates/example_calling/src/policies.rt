@@ -4,10 +4,7 @@ ghost use Rattle.std.specs.Prelude.{IfOk, IfErr};
 ghost use Rattle.example_calling.specs.Calls.{IsProgramPolicy, IsTablePolicy, IsProgramFault, IsTableFault};
 
 use crate::fault::Fault;
-use gw_insn::read_listing;
-use gw_policy::Policy;
-use gw_table::Table;
-use gw_verify::Program;
+use j1939_gateway::{Policy, Program, Table, read_listing};
 use std::alloc::Global;
 
 /// The policy of a listing: the text is read, its code is checked, and the accepted program is the policy.

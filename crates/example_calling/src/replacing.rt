@@ -1,12 +1,12 @@
 //! Policies that are replaced while frames flow.
 
 ghost use Rattle.std.specs.Prelude.{◌≡◌, ◌≢◌, ◌++◌, ◌∷◌, [], ℕ, List, IfOk, IfErr, OnOk, map};
-ghost use Rattle.gw_board.specs.Refusals.{MayPublish};
-ghost use Rattle.gw_claims.specs.Holders.{HoldsAfter};
-ghost use Rattle.gw_ports.specs.Ends.{end_in, end_out};
-ghost use Rattle.gw_ports.specs.Making.{IsNewIngress};
-ghost use Rattle.gw_ports.specs.declared.refusals.MakeRefusal.{MakeRefusal};
-ghost use Rattle.gw_ports.specs.declared.refusals.OfferRefusal.TheVariants.{NoReading};
+ghost use Rattle.j1939_gateway.specs.BoardRefusals.{MayPublish};
+ghost use Rattle.j1939_gateway.specs.Holders.{HoldsAfter};
+ghost use Rattle.j1939_gateway.specs.PortEnds.{end_in, end_out};
+ghost use Rattle.j1939_gateway.specs.Making.{IsNewIngress};
+ghost use Rattle.j1939_gateway.specs.MakeRefusal.{MakeRefusal};
+ghost use Rattle.j1939_gateway.specs.OfferRefusal.TheVariants.{NoReading};
 ghost use Rattle.example_calling.specs.declared.fault.Fault.TheVariants.{NotMade, NotTaken};
 ghost use Rattle.example_calling.specs.Replacing.{
   bounds,
@@ -20,11 +20,9 @@ ghost use Rattle.example_calling.specs.Replacing.{
 };
 
 use crate::fault::Fault;
-use gw_board::Operator;
-use gw_frame::Frame;
-use gw_ledger::{Limits, Outcome};
-use gw_policy::Batch;
-use gw_ports::{Parts, PortIn, PortOut, Report, close, gateway};
+use j1939_gateway::{
+    Batch, Frame, Limits, Operator, Outcome, Parts, PortIn, PortOut, Report, close, gateway,
+};
 use std::alloc::Global;
 use std::sync::Wait;
 

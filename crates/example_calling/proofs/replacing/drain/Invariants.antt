@@ -1,5 +1,5 @@
 use Rattle.std.proofs.Common.{◌≡◌}
-use Rattle.gw_ports.specs.Ends.{end_out}
+use Rattle.j1939_gateway.specs.PortEnds.{end_out}
 use Rattle.example_calling.proofs.replacing.drain.Given as goal
 
 abbrev pub invariant-loop-step : goal.invariant-loop-step

@@ -1,10 +1,10 @@
 use Rattle.std.proofs.Common.{◌≡◌, ◌∙◌, List, sym, ap, subst}
 use mathlib.Core.List.{IsPrefix}
-use Rattle.gw_board.specs.Lists.{longer}
-use Rattle.gw_claims.specs.Holders.{HoldsAfter}
-use Rattle.gw_policy.specs.Batches.{Pair}
-use Rattle.gw_ports.specs.Ends.{Ingress}
-use Rattle.gw_ports.specs.Offers.{Offered}
+use Rattle.j1939_gateway.specs.Lists.{longer}
+use Rattle.j1939_gateway.specs.Holders.{HoldsAfter}
+use Rattle.j1939_gateway.specs.Batches.{Pair}
+use Rattle.j1939_gateway.specs.PortEnds.{Ingress}
+use Rattle.j1939_gateway.specs.Offers.{Offered}
 use Rattle.example_calling.specs.Replacing.{told_of}
 use Rattle.example_calling.proofs.replacing.offer.Goals as goal
 

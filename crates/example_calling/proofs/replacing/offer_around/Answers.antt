@@ -1,7 +1,7 @@
 use Rattle.std.proofs.Common.{◌≡◌, ◌∙◌, ◌++◌, ◌∷◌, [], List, ap, subst, arith}
-use Rattle.gw_board.specs.Ends.{Publishing}
-use Rattle.gw_ledger.specs.declared.ledger.InLedger.{InLedger}
-use Rattle.gw_policy.specs.Batches.{Pair}
+use Rattle.j1939_gateway.specs.BoardEnds.{Publishing}
+use Rattle.j1939_gateway.specs.InLedger.{InLedger}
+use Rattle.j1939_gateway.specs.Batches.{Pair}
 use Rattle.example_calling.specs.Replacing.{TakesTold}
 use Rattle.example_calling.proofs.Replaced.{judged_around}
 use Rattle.example_calling.proofs.replacing.offer_around.Goals as goal

@@ -1,11 +1,11 @@
 use Rattle.std.proofs.Common.{◌≡◌, ◌<◌, ◌∙◌, ◌++◌, List, length, map, take, drop, slice_set, ap, subst, sym, arith}
 use mathlib.Core.List.{IsPrefix}
 use Rattle.std.proofs.lemmas.List.{get_or-set_same, length-map, length-set, with_items_is}
-use Rattle.gw_board.specs.Ends.{Publishing}
-use Rattle.gw_policy.specs.Batches.{Pair}
-use Rattle.gw_ports.specs.Ends.{Ingress, end_in, end_out}
-use Rattle.gw_ports.proofs.Callers.{ends_in_stay}
-use Rattle.gw_ports.proofs.Callers.{same_gateway}
+use Rattle.j1939_gateway.specs.BoardEnds.{Publishing}
+use Rattle.j1939_gateway.specs.Batches.{Pair}
+use Rattle.j1939_gateway.specs.PortEnds.{Ingress, end_in, end_out}
+use Rattle.j1939_gateway.proofs.Callers.{ends_in_stay}
+use Rattle.j1939_gateway.proofs.Callers.{same_gateway}
 use Rattle.example_calling.proofs.replacing.replace_between.Goals as goal
 
 -- what was offered and taken out leaves the parts those of one gateway

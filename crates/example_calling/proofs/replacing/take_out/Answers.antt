@@ -1,5 +1,5 @@
 use Rattle.std.proofs.Common.{◌<◌, ◌∙◌, length, arith}
-use Rattle.gw_ports.proofs.Callers.{ends_out_stay}
+use Rattle.j1939_gateway.proofs.Callers.{ends_out_stay}
 use Rattle.example_calling.proofs.replacing.take_out.Goals as goal
 
 pub loop-port-preserved : goal.loop-port-preserved

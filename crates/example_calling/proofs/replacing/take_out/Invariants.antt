@@ -1,5 +1,5 @@
 use Rattle.std.proofs.Common.{◌≡◌, map}
-use Rattle.gw_ports.specs.Ends.{end_out}
+use Rattle.j1939_gateway.specs.PortEnds.{end_out}
 use Rattle.example_calling.proofs.replacing.take_out.Given as goal
 
 abbrev pub invariant-loop-port : goal.invariant-loop-port
