@@ -1,5 +1,6 @@
 -- For whoever reads in pieces or writes: what was read or written so far, with more behind it.
-use Rattle.std.proofs.Common.{◌≡◌, ◌<◌, ◌-◌, ℕ, Bool, true, false, List, [], ◌++◌, length, length-drop, take, drop, Option, Some, None, Ok}
+use Rattle.std.proofs.Common.{◌≡◌, ◌<◌, ◌-◌, ℕ, Bool, true, false, List, [], ◌++◌, length, length-drop, take, drop, Option, Some}
+use Rattle.std.proofs.Common.{None, Ok}
 use Rattle.std.proofs.Common.{sym, ap, ◌∙◌, subst, refl}
 use Rattle.std.proofs.Common.{append_assoc, append-nil, arith}
 use Rattle.std.specs.Io.KnownBytes.{Appends, Consumes, IsAtEnd, Keeps}

@@ -4,7 +4,7 @@
 //! - Programs: `read_listing`, `assemble`, `Program::check`, `State` and `run_program`, `disassemble`, `write_listing`.
 //! - Tables: `Table`, `IndexedTable`, `compile`, and `table` from octets.
 //! - Policies: `Policy`, `Batch`, `PolicySet`; `program_policy` and `table_policy` from octets.
-//! - A gateway: `Limits`, `gateway`, its ends `Operator`, `PortIn` and `PortOut`, `close`; or `run_from`, with threads of its own.
+//! - A gateway: `Limits`, `gateway`, its ends `Operator`, `PortIn` and `PortOut`, `close`; or `run_from`, with its own threads.
 //! - Traces: `frames`, `Trace`, `Checked`. Scripts: `replay`.
 #![tactic(auto)]
 

@@ -36,12 +36,12 @@ returns-in_err-read-clause-failed g c failed =
 
 pub returns-in_err-end-clause-refused : goal.returns-in_err-end-clause-refused
 returns-in_err-end-clause-refused g c =
-    let p = err_from_is_err_and c.from_residual-in_err-end.result c.from_residual-in_err-end.ensures.1 in
-    let end = met_end (g.R.Read.remaining (inner_of c.pieces.reader)) (g.R.Read.remaining (inner_of c.read.new.reader))
-        c.read.new.self.piece c.in_ok-read.field-0 c.if-branch.false c.in_ok-read.ensures.piece in
-    rw (p.1, p.2) (trace_is_unread (g.R.Read.remaining (inner_of c.args.reader.now)) (g.R.Read.remaining (inner_of c.read.new.reader))
-    (has_failed c.read.new.reader) (reads_of c.read.new.reader) c.in_err-end.field-0.0 c.pieces.invariant.given.octets
-    (consumed_kept (g.R.Read.remaining (inner_of c.args.reader.now)) (g.R.Read.remaining (inner_of c.pieces.reader))
-    (g.R.Read.remaining (inner_of c.read.new.reader)) c.pieces.invariant.given.octets c.pieces.invariant.given.consumed
-    end.0) end.1
-    (c.in_err-end.ensures c.pieces.invariant.given.octets c.pieces.invariant.given.read))
+    let given = g.R.Read.remaining (inner_of c.args.reader.now) in
+    let before = g.R.Read.remaining (inner_of c.pieces.reader) in
+    let after = g.R.Read.remaining (inner_of c.read.new.reader) in
+    let so_far = c.pieces.invariant.given in
+    let fault = err_from_is_err_and c.from_residual-in_err-end.result c.from_residual-in_err-end.ensures.1 in
+    let end = met_end before after c.read.new.self.piece c.in_ok-read.field-0 c.if-branch.false c.in_ok-read.ensures.piece in
+    rw (fault.1, fault.2) (trace_is_unread given after (has_failed c.read.new.reader) (reads_of c.read.new.reader)
+    c.in_err-end.field-0.0 so_far.octets (consumed_kept given before after so_far.octets so_far.consumed end.0) end.1
+    (c.in_err-end.ensures so_far.octets so_far.read))

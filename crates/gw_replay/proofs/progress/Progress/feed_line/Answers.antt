@@ -9,8 +9,8 @@ returns-then-is_err-clause-fed g c = λ octets before h.
 
 pub returns-then-end-text-clause-fed : goal.returns-then-end-text-clause-fed
 returns-then-end-text-clause-fed g c = λ octets before h.
-    text_kept octets c.args.text.now before c.position_of-end.result c.args.self.now c.keep.new.self h c.position_of-end.ensures.place
-    c.if-end-text.true (on_ok c.keep.result (sym c.is_err.ensures.value ∙ c.if-is_err.false) c.keep.ensures.kept)
+    text_kept octets c.args.text.now before c.position_of-end.result c.args.self.now c.keep.new.self h
+    c.position_of-end.ensures.place c.if-end-text.true (on_ok c.keep.result (sym c.is_err.ensures.value ∙ c.if-is_err.false) c.keep.ensures.kept)
     c.keep.ensures.script c.keep.ensures.answers
 
 pub returns-in-Err-clause-fed : goal.returns-in-Err-clause-fed
@@ -23,7 +23,7 @@ returns-clause-fed g c = λ octets before h.
     let other = c.if-end-text.false in
     let bound = c.position_of-end.ensures.bound in
     let within : c.position_of-end.result < length c.args.text.now = omega arith in
-    line_passed octets c.args.text.now before _ c.position_of-end.result c.args.self.now c.keep.new.self c.answer_kept.new.self _ h
-    c.position_of-end.ensures.place within (rest_from (c.position_of-end.result + 1) c.args.text.now)
+    line_passed octets c.args.text.now before _ c.position_of-end.result c.args.self.now c.keep.new.self c.answer_kept.new.self _
+    h c.position_of-end.ensures.place within (rest_from (c.position_of-end.result + 1) c.args.text.now)
     (on_ok c.keep.result (sym c.is_err.ensures.value ∙ c.if-is_err.false) c.keep.ensures.kept)
     c.keep.ensures.script c.keep.ensures.answers c.in-Ok.ensures.answered refl refl c.clear.ensures.items
