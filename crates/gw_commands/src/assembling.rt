@@ -11,8 +11,8 @@ use crate::refusal::Refusal;
 use crate::responding::respond;
 use crate::streams::read_input;
 use gw_insn::write_listing;
-use gw_text::{assemble, disassemble};
 use gw_io::Tried;
+use gw_text::{assemble, disassemble};
 use std::alloc::{AllocError, Global};
 use std::io::{Read, Write};
 

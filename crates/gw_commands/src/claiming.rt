@@ -19,14 +19,13 @@ ghost use Rattle.gw_commands.specs.ClaimLines.{
 };
 
 use crate::answer::Answer;
-use gw_input::first_line;
 use crate::notes::note_uncounted;
 use crate::refusal::Refusal;
 use crate::responding::respond;
 use crate::streams::read_input;
 use gw_claims::Claims;
 use gw_ident::Name;
-use gw_input::{RecordFault, record};
+use gw_input::{RecordFault, first_line, record};
 use gw_io::Tried;
 use std::alloc::{AllocError, Global};
 use std::io::{Read, Write};

@@ -1,8 +1,8 @@
 //! What a person should know of an input that is not refused.
 
 use gw_frame::Frame;
-use gw_table::Table;
 use gw_io::Tried;
+use gw_table::Table;
 use std::io::Write;
 
 /// The greatest identifier of a standard frame, eleven bits.

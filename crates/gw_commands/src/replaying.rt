@@ -6,8 +6,8 @@ ghost use Rattle.gw_commands.specs.Replays.{Replays};
 
 use crate::refusal::Refusal;
 use crate::responding::respond;
-use gw_replay::{ReplayFault, replay_told};
 use gw_io::Tried;
+use gw_replay::{ReplayFault, replay_told};
 use std::alloc::Global;
 use std::io::{Read, Write};
 

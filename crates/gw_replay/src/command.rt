@@ -11,8 +11,7 @@ ghost use Rattle.gw_replay.specs.Requests.{
 };
 ghost use Rattle.gw_replay.specs.Commands.{command_view};
 
-use gw_input::first_word;
-use gw_input::{number, number_before, port, port_before};
+use gw_input::{first_word, number, number_before, port, port_before};
 
 /// A command, with its texts not yet read.
 #[derive(Clone, Copy)]

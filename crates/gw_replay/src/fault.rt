@@ -80,8 +80,14 @@ impl Fault {
         ensures { result ≡ refused_line (fault_number self.now) (fault_details self.now) }
     {
         match self {
-            Fault::Listing(ListRefusal::BadField { index }) => refused(self.number(), &[*index as u64]),
-            Fault::Table(TableRefusal::BadRange { rule, .. }) => refused(self.number(), &[*rule as u64]),
+            Fault::Listing(ListRefusal::BadField { index }) => refused(
+                self.number(),
+                &[*index as u64],
+            ),
+            Fault::Table(TableRefusal::BadRange { rule, .. }) => refused(
+                self.number(),
+                &[*rule as u64],
+            ),
             Fault::Program(code) => refused_code(code.why, code.place),
             _ => refused(self.number(), &[]),
         }

@@ -6,9 +6,9 @@ ghost use Rattle.std.specs.Io.KnownBytes.{Appends};
 ghost use Rattle.gw_io.specs.Tries.{inner_of, has_failed};
 ghost use Rattle.gw_io.specs.Written.{WritesPart};
 
-use gw_input::{line_in, position_of};
 use crate::script::{MOST, Said, Script};
 use crate::whole::ReplayFault;
+use gw_input::{line_in, position_of};
 use gw_io::{Tried, write_all};
 use std::alloc::{AllocError, Global};
 use std::io::Write;

@@ -7,11 +7,10 @@ ghost use Rattle.gw_replay.specs.Joins.{IsJoinFault};
 
 use crate::command::Command;
 use crate::fault::Fault;
-use gw_input::record;
-use gw_input::Line;
 use crate::policies::{program_policy, table_policy};
 use crate::said::{answer_line, ledger_line};
 use gw_core::{Core, Event, EventRefusal};
+use gw_input::{Line, record};
 use gw_ledger::Limits;
 use gw_policy::{Batch, BatchRefusal, Policy};
 use std::alloc::Global;

@@ -3,8 +3,8 @@
 ghost use Rattle.std.specs.Prelude.{◌≡◌};
 ghost use Rattle.gw_replay.specs.Replies.{answer_line, ledger_line, outcome_line, copy_line};
 
-use gw_input::Line;
 use gw_core::Answer;
+use gw_input::Line;
 use gw_ledger::{FrameCopy, InLedger, Outcome};
 
 /// The line of an answer.

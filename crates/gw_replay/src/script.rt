@@ -7,8 +7,8 @@ ghost use Rattle.gw_replay.specs.Standing.{Begins, IsFirstFault};
 
 use crate::command::{Command, command_of};
 use crate::fault::Fault;
-use gw_input::Line;
 use crate::running::Running;
+use gw_input::Line;
 use std::alloc::{AllocError, Global};
 
 /// The most octets of a line.

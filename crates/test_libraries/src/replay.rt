@@ -1,8 +1,8 @@
 //! Scripts in pieces, and streams that fail.
 
 use crate::streams::{Sink, Source, WHOLE};
-use gw_replay::{ReplayFault, replay};
 use gw_io::Tried;
+use gw_replay::{ReplayFault, replay};
 use std::io;
 use std::io::Read;
 

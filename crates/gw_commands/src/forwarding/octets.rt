@@ -20,7 +20,10 @@ pub(super) fn read_trace<R: Read>(alloc: Global, reader: &mut Tried<R>) -> Resul
 {
     let mut octets = Vec::new(alloc);
     let mut pieces = Pieces::new();
-    'pieces: while pieces.read(reader).map_err(|_| Refusal::Trace(TraceRefusal::ReadFault))? {
+    'pieces: while pieces
+        .read(reader)
+        .map_err(|_| Refusal::Trace(TraceRefusal::ReadFault))?
+    {
         octets.extend_from_slice(pieces.piece())?;
     }
     Ok(octets)

@@ -48,7 +48,8 @@ returns-in_err-fed-clause-part g c =
     let consumed = subst (Consumes before after) (sym c.piece.ensures) read.0 in
     let fault = err_from_is_err_and c.from_residual-in_err-fed.result c.from_residual-in_err-fed.ensures.1 in
     rw fault.1 (stops given before after old taken new c.pieces.progress c.feed-fed.new.self c.feed-fed.result piece
-    c.pieces.invariant.way consumed c.feed-fed.ensures.fed (whole_part taken new c.feed-fed.new.self.answers.items c.in_ok-write.ensures.written))
+    c.pieces.invariant.way consumed c.feed-fed.ensures.fed
+    (whole_part taken new c.feed-fed.new.self.answers.items c.in_ok-write.ensures.written))
 
 pub pieces-preserved : goal.pieces-preserved
 pieces-preserved g c =
@@ -63,10 +64,11 @@ pieces-preserved g c =
     let consumed = subst (Consumes before after) (sym c.piece.ensures) read.0 in
     record {
       whole = search (c.in_ok-read.ensures.whole, c.pieces.invariant.whole);
-      counted = omega (c.pieces.invariant.counted, c.in_ok-read.ensures.reads (omega (c.pieces.invariant.counted, arith)), arith);
+      counted = let reads = c.in_ok-read.ensures.reads (omega (c.pieces.invariant.counted, arith)) in
+          omega (c.pieces.invariant.counted, arith);
       writes = c.in_ok-write.ensures.whole;
-      way = goes_on given before after old taken new c.pieces.progress c.feed-fed.new.self c.write.new.self c.feed-fed.result piece
-          c.pieces.invariant.way consumed c.feed-fed.ensures.fed (ap is_err c.in_ok-fed.was) c.in_ok-write.ensures.written
+      way = goes_on given before after old taken new c.pieces.progress c.feed-fed.new.self c.write.new.self c.feed-fed.result
+          piece c.pieces.invariant.way consumed c.feed-fed.ensures.fed (ap is_err c.in_ok-fed.was) c.in_ok-write.ensures.written
           c.write.ensures.script c.write.ensures.kept c.in_ok-write.ensures.empty;
     }
 
@@ -80,7 +82,7 @@ returns-clause-replayed g c =
     let new = g.W.Write.contents (inner_of c.end.new.writer) in
     let end = met_end before after c.read.new.self.piece c.in_ok-read.field-0 c.if-branch.false c.in_ok-read.ensures.piece in
     let both = replayed_at_end given before after old taken new c.pieces.progress c.end.result c.pieces.invariant.way end.0 end.1
-        c.end.ensures.ended in
+    c.end.ensures.ended in
     both.0
 
 pub returns-clause-part : goal.returns-clause-part
@@ -93,5 +95,5 @@ returns-clause-part g c =
     let new = g.W.Write.contents (inner_of c.end.new.writer) in
     let end = met_end before after c.read.new.self.piece c.in_ok-read.field-0 c.if-branch.false c.in_ok-read.ensures.piece in
     let both = replayed_at_end given before after old taken new c.pieces.progress c.end.result c.pieces.invariant.way end.0 end.1
-        c.end.ensures.ended in
+    c.end.ensures.ended in
     both.1
