@@ -1,34 +1,17 @@
-//! The machine, tables with their compiler, the assembler and traces, as a static library for the benchmark that times them
-//! beside libpcap's.
+//! bench_calls as a static library, for the driver in C that times its calls beside libpcap's.
 #![tactic(auto)]
 
 ghost use Rattle.std.specs.Prelude.{◌≡◌, ◌≢◌, drop, length};
 ghost use Rattle.std.specs.Bool.{OnFalse, OnTrue};
-ghost use Rattle.bench_exports.specs.Exports.{IsCompiled, IsJudged, IsRun};
+ghost use Rattle.bench_calls.specs.Calls.{IsAssembled, IsCompiled, IsJudged, IsRun, IsWhole};
 
-mod cold;
-mod events;
-mod indexed;
-mod interchange;
-mod loading;
-mod rounds;
-mod texts;
-mod traces;
-
-pub use cold::gw_bench_cold;
-pub use events::{gw_bench_events, gw_bench_steps};
-use gw_table::compile;
-use indexed::index_rounds;
-pub use interchange::{BpfInsn, Record};
-use loading::{load_frames, load_index, load_program, load_table, store_code};
-use rounds::{judge_rounds, run_rounds};
+use bench_calls::{
+    BpfInsn, Record, Tally, count_assembled, count_events, count_steps, judge_by_index,
+    judge_by_rules, pass_cold, run_code, tally_pieces, tally_shares, write_compiled,
+};
 use std::alloc::Global;
-pub use texts::gw_bench_assemble;
-pub use traces::{Tally, gw_bench_feed, gw_bench_shares};
 
-/// Runs code on each record, taken at port 0, in so many rounds. True: the answers are those of the code's program, or
-/// with no round what they were. False: the code is refused (`Program::check`), the octets of a record are no
-/// record (`Frame::read`), or memory was wanting; the answers are what they were.
+/// `run_code`.
 #[unsafe(no_mangle)]
 pub extern "C" fn gw_bench_run(
     alloc: Global,
@@ -41,19 +24,10 @@ pub extern "C" fn gw_bench_run(
     ensures ran { OnTrue result (IsRun code.now records.now rounds answers.old answers.new) }
     ensures refused { OnFalse result (answers.new ≡ answers.old) }
 {
-    let Some(program) = load_program(alloc, code) else {
-        return false;
-    };
-    let Some(frames) = load_frames(alloc, records) else {
-        return false;
-    };
-    run_rounds(&program, &frames, rounds, answers);
-    true
+    run_code(alloc, code, records, rounds, answers)
 }
 
-/// Judges each record, taken at port 0, by the table of a TOML text in so many rounds. True: the verdicts are the
-/// table's (true passes), or with no round what they were. False: the text is no table (`Table::read`), the
-/// octets of a record are no record, or memory was wanting; the verdicts are what they were.
+/// `judge_by_rules`.
 #[unsafe(no_mangle)]
 pub extern "C" fn gw_bench_judge(
     alloc: Global,
@@ -66,17 +40,10 @@ pub extern "C" fn gw_bench_judge(
     ensures judged { OnTrue result (IsJudged text.now records.now rounds verdicts.old verdicts.new) }
     ensures refused { OnFalse result (verdicts.new ≡ verdicts.old) }
 {
-    let Some(table) = load_table(alloc, text) else {
-        return false;
-    };
-    let Some(frames) = load_frames(alloc, records) else {
-        return false;
-    };
-    judge_rounds(&table, &frames, rounds, verdicts);
-    true
+    judge_by_rules(alloc, text, records, rounds, verdicts)
 }
 
-/// As `gw_bench_judge`, by the table's index.
+/// `judge_by_index`.
 #[unsafe(no_mangle)]
 pub extern "C" fn gw_bench_index(
     alloc: Global,
@@ -89,37 +56,77 @@ pub extern "C" fn gw_bench_index(
     ensures judged { OnTrue result (IsJudged text.now records.now rounds verdicts.old verdicts.new) }
     ensures refused { OnFalse result (verdicts.new ≡ verdicts.old) }
 {
-    let Some(table) = load_index(alloc, text) else {
-        return false;
-    };
-    let Some(frames) = load_frames(alloc, records) else {
-        return false;
-    };
-    index_rounds(&table, &frames, rounds, verdicts);
-    true
+    judge_by_index(alloc, text, records, rounds, verdicts)
 }
 
-/// Writes the program that the table of a TOML text is compiled to, and returns how many instructions it has: at
-/// least 22. What stands behind them in `code` is left. 0, with nothing written: the text is no table, the code has no room
-/// for the program, or memory was wanting.
+/// `write_compiled`.
 #[unsafe(no_mangle)]
 pub extern "C" fn gw_bench_compile(alloc: Global, text: &[u8], code: &mut [BpfInsn]) -> usize
     ensures compiled { result ≢ 0 → IsCompiled text.now result code.new }
     ensures behind { drop result code.new ≡ drop result code.old }
 {
-    let Some(table) = load_table(alloc, text) else {
-        return 0;
-    };
-    let Ok(program) = compile(alloc, &table) else {
-        return 0;
-    };
-    let insns = program.code();
-    if insns.len() > code.len() {
-        return 0;
-    }
-    store_code(insns, code);
-    insns.len()
+    write_compiled(alloc, text, code)
 }
 
-#[cfg(test)]
-mod tests;
+/// `count_assembled`.
+#[unsafe(no_mangle)]
+pub extern "C" fn gw_bench_assemble(alloc: Global, text: &[u8]) -> usize
+    ensures { result ≢ 0 → IsAssembled text.now result }
+{
+    count_assembled(alloc, text)
+}
+
+/// `tally_shares`.
+#[unsafe(no_mangle)]
+pub extern "C" fn gw_bench_shares(octets: &[u8], ports: usize, tally: &mut Tally) -> bool
+    ensures { OnTrue result (IsWhole octets.now) }
+{
+    tally_shares(octets, ports, tally)
+}
+
+/// `tally_pieces`.
+#[unsafe(no_mangle)]
+pub extern "C" fn gw_bench_feed(
+    alloc: Global,
+    octets: &[u8],
+    piece: usize,
+    tally: &mut Tally,
+) -> bool {
+    tally_pieces(alloc, octets, piece, tally)
+}
+
+/// `count_events`, or 0.
+#[unsafe(no_mangle)]
+pub extern "C" fn gw_bench_events(
+    alloc: Global,
+    text: &[u8],
+    records: &[Record],
+    run: bool,
+) -> usize {
+    count_events(alloc, text, records, run).unwrap_or(0)
+}
+
+/// `count_steps`, or 0.
+#[unsafe(no_mangle)]
+pub extern "C" fn gw_bench_steps(
+    alloc: Global,
+    code: &[BpfInsn],
+    records: &[Record],
+    rounds: u32,
+    core: bool,
+) -> u64 {
+    count_steps(alloc, code, records, rounds, core).unwrap_or(0)
+}
+
+/// `pass_cold`, or 0.
+#[unsafe(no_mangle)]
+pub extern "C" fn gw_bench_cold(
+    alloc: Global,
+    text: &[u8],
+    records: &[Record],
+    walk: &[u64],
+    rounds: u32,
+    way: u32,
+) -> u64 {
+    pass_cold(alloc, text, records, walk, rounds, way).unwrap_or(0)
+}

@@ -3,6 +3,8 @@
 //! one crate since a crate with tests is proved a second time with them.
 
 #[cfg(test)]
+mod bench;
+#[cfg(test)]
 mod board;
 #[cfg(test)]
 mod claims;
