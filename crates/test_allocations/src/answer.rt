@@ -1,8 +1,6 @@
 //! What a call answered, as one line without memory.
 
 use gw_insn::ListRefusal;
-use gw_table::TableRefusal;
-use gw_text::AsmRefusal;
 use gw_verify::{Cause, Path};
 use std::fmt;
 use std::fmt::{Display, Formatter};
@@ -10,8 +8,14 @@ use std::fmt::{Display, Formatter};
 /// What a call answered.
 #[derive(Drop)]
 pub enum Answer {
-    /// Code of so many instructions.
-    Instructions(usize),
+    /// So many of what the word names.
+    Count(usize, &'static str),
+    /// So many frames were taken at port 0.
+    Taken(u64),
+    /// What the words say.
+    Said(&'static str),
+    /// A refusal by its number alone.
+    Refused(u32),
     /// The listing or the assembler text that was written.
     Listing(Vec<u8>),
     /// An accepted program of so many instructions.
@@ -22,48 +26,16 @@ pub enum Answer {
         place: usize,
         is_back: bool,
     },
-    /// The path that leaves the scratch word unset, if there is one.
-    Path(Option<Path>),
-    /// A table of so many rules.
-    Rules(usize),
-    /// A table that became no policy, and whether the very table came back.
-    NoPolicy {
-        is_back: bool,
-    },
-    /// A set of policies after so many batches, and whether the port that the last one names passes a frame.
-    InForce {
+    /// The path that leaves the scratch word unset.
+    Path(Path),
+    /// So many batches are published or in force, and what is said behind that.
+    Front {
         front: u32,
-        passes: bool,
-    },
-    /// So many frames were taken at port 0.
-    Taken(u64),
-    /// So many events were accepted.
-    Events(usize),
-    /// No gateway.
-    NoCore,
-    /// Events that were not done, and whether they came back with the gateway as it was.
-    NoAnswers {
-        is_back: bool,
-    },
-    /// A board with so many watches.
-    Watches(usize),
-    /// So many lanes.
-    Lanes(usize),
-    /// A gateway of so many ports.
-    Ports(usize),
-    /// So many batches are published.
-    Front(u32),
-    /// A batch that was not published, and whether it came back with nothing published.
-    NotPublished {
-        is_back: bool,
+        behind: &'static str,
     },
     /// A gateway that was closed with so many copies left.
     Closed {
         left: usize,
-    },
-    /// A gateway that was not closed, and whether its parts came back with their copies.
-    NotClosed {
-        is_back: bool,
     },
     /// A run that took so many frames, how many batches were published, and why the next was not.
     Ran {
@@ -71,26 +43,24 @@ pub enum Answer {
         front: u32,
         refused: Option<u32>,
     },
-    /// A refusal by its number alone.
-    Refused(u32),
-    /// A piece of a trace, or all of it, gave so many frames.
-    Frames(usize),
     /// A piece was refused for want of memory, and gave so many frames when it was fed again.
     FramesAgain(usize),
     /// Why a text is no listing.
     NoListing(ListRefusal),
-    /// Why a text is refused by the assembler.
-    NoAssembly(AsmRefusal),
-    /// Why a text is no table.
-    NoTable(TableRefusal),
+}
+
+impl Answer {
     /// Want of memory, where the call has no number of its own for it.
-    OutOfMemory,
+    pub const OUT_OF_MEMORY: Answer = Answer::Refused(100);
 }
 
 impl Display for Answer {
     fn fmt<W: fmt::Write>(&self, f: &mut Formatter<W>) -> fmt::Result {
         match self {
-            Answer::Instructions(count) => write!(f, "{count} instructions"),
+            Answer::Count(count, what) => write!(f, "{count} {what}"),
+            Answer::Taken(count) => write!(f, "{count} frames taken"),
+            Answer::Said(words) => f.write_str(words),
+            Answer::Refused(number) => write!(f, "refused {number}"),
             Answer::Listing(octets) => f.write_str(str::from_utf8(octets).unwrap_or("no text")),
             Answer::Accepted(count) => write!(f, "accepted {count}"),
             Answer::NotAccepted {
@@ -98,69 +68,16 @@ impl Display for Answer {
                 place,
                 is_back,
             } => not_accepted(f, *why, *place, *is_back),
-            Answer::Path(Some(path)) => places(f, path),
-            Answer::Path(None) => f.write_str("no path"),
-            Answer::Rules(count) => write!(f, "{count} rules"),
-            Answer::NoPolicy { is_back } => f.write_str(if *is_back {
-                "refused, the table is back"
-            } else {
-                "refused, another table is back"
-            }),
-            Answer::InForce { front, passes } => {
-                let verdict = if *passes { "pass" } else { "block" };
-                write!(f, "front {front}, {verdict}")
-            }
-            Answer::Taken(count) => write!(f, "{count} frames taken"),
-            Answer::Events(count) => write!(f, "{count} events"),
-            Answer::NoCore => f.write_str("refused 71"),
-            Answer::NoAnswers { is_back } => f.write_str(if *is_back {
-                "refused 71, the events are back"
-            } else {
-                "refused 71, other events are back"
-            }),
-            Answer::Watches(count) => write!(f, "{count} watches"),
-            Answer::Lanes(count) => write!(f, "{count} lanes"),
-            Answer::Ports(count) => write!(f, "{count} ports"),
-            Answer::Front(front) => write!(f, "front {front}"),
-            Answer::NotPublished { is_back } => f.write_str(if *is_back {
-                "refused 82, the batch is back"
-            } else {
-                "refused 82, another batch is back"
-            }),
+            Answer::Path(path) => places(f, path),
+            Answer::Front { front, behind } => write!(f, "front {front}{behind}"),
             Answer::Closed { left } => write!(f, "closed, {left} copies left"),
-            Answer::NotClosed { is_back } => f.write_str(if *is_back {
-                "refused 85, the parts are back"
-            } else {
-                "refused 85, other parts are back"
-            }),
             Answer::Ran {
                 taken,
                 front,
-                refused: None,
-            } => write!(f, "{taken} frames taken, front {front}"),
-            Answer::Ran {
-                taken,
-                front,
-                refused: Some(number),
-            } => {
-                write!(
-                    f,
-                    "{taken} frames taken, front {front}, then refused {number}"
-                )
-            }
-            Answer::Refused(number) => write!(f, "refused {number}"),
-            Answer::Frames(count) => write!(f, "{count} frames"),
+                refused,
+            } => ran(f, *taken, *front, *refused),
             Answer::FramesAgain(count) => write!(f, "refused 94, fed again {count} frames"),
             Answer::NoListing(why) => no_listing(f, *why),
-            Answer::NoAssembly(why) => {
-                let number = why.number();
-                write!(f, "refused {number}")
-            }
-            Answer::NoTable(why) => {
-                let number = why.number();
-                write!(f, "refused {number}")
-            }
-            Answer::OutOfMemory => f.write_str("refused 100"),
         }
     }
 }
@@ -191,6 +108,19 @@ fn places<W: fmt::Write>(f: &mut Formatter<W>, path: &Path) -> fmt::Result {
         write!(f, " {place}")?;
     }
     Ok(())
+}
+
+fn ran<W: fmt::Write>(
+    f: &mut Formatter<W>,
+    taken: usize,
+    front: u32,
+    refused: Option<u32>,
+) -> fmt::Result {
+    write!(f, "{taken} frames taken, front {front}")?;
+    match refused {
+        Some(number) => write!(f, ", then refused {number}"),
+        None => Ok(()),
+    }
 }
 
 fn no_listing<W: fmt::Write>(f: &mut Formatter<W>, why: ListRefusal) -> fmt::Result {

@@ -19,7 +19,7 @@ pub fn make_board<W: Write>(alloc: Global, output: &mut W) -> Result<Answer, Fau
     let limits = limits_of()?;
     say_ready(output)?;
     Ok(match board(alloc, limits) {
-        Ok((_operator, watches)) => Answer::Watches(watches.len()),
+        Ok((_operator, watches)) => Answer::Count(watches.len(), "watches"),
         Err(why) => Answer::Refused(why.number()),
     })
 }
@@ -28,7 +28,7 @@ pub fn make_lanes<W: Write>(alloc: Global, output: &mut W) -> Result<Answer, Fau
     let limits = limits_of()?;
     say_ready(output)?;
     Ok(match lanes(alloc, limits) {
-        Ok(ends) => Answer::Lanes(ends.ins.len()),
+        Ok(ends) => Answer::Count(ends.ins.len(), "lanes"),
         Err(why) => Answer::Refused(why.number()),
     })
 }
@@ -37,7 +37,7 @@ pub fn make_gateway<W: Write>(alloc: Global, output: &mut W) -> Result<Answer, F
     let limits = limits_of()?;
     say_ready(output)?;
     Ok(match gateway(alloc, limits) {
-        Ok(parts) => Answer::Ports(parts.ins.len()),
+        Ok(parts) => Answer::Count(parts.ins.len(), "ports"),
         Err(why) => Answer::Refused(why.number()),
     })
 }
@@ -54,10 +54,14 @@ pub fn make_replace<R: Wait, W: Write>(
     let batch = batch_of(alloc, PASS)?;
     say_ready(output)?;
     Ok(match parts.operator.replace(rt, batch) {
-        Ok(front) => Answer::Front(front),
-        Err(ReplaceRefusal::OutOfMemory(Some(back))) => Answer::NotPublished {
-            is_back: back.len() == 1 && parts.operator.tell().len() == 0,
-        },
+        Ok(front) => Answer::Front { front, behind: "" },
+        Err(ReplaceRefusal::OutOfMemory(Some(back))) => {
+            if back.len() == 1 && parts.operator.tell().len() == 0 {
+                Answer::Said("refused 82, the batch is back")
+            } else {
+                Answer::Said("refused 82, another batch is back")
+            }
+        }
         Err(why) => Answer::Refused(why.number()),
     })
 }
@@ -78,9 +82,11 @@ pub fn make_close<R: Wait, W: Write>(
                 .map(|lane| lane.left.len())
                 .fold(0, usize::saturating_add),
         },
-        Err(CloseRefusal::OutOfMemory(back)) => Answer::NotClosed {
-            is_back: are_waiting(back),
-        },
+        Err(CloseRefusal::OutOfMemory(back)) => Answer::Said(if are_waiting(back) {
+            "refused 85, the parts are back"
+        } else {
+            "refused 85, other parts are back"
+        }),
         Err(why) => Answer::Refused(why.number()),
     })
 }

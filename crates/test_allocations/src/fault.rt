@@ -5,7 +5,7 @@ use std::fmt::{Display, Formatter};
 use std::{fmt, io};
 
 /// Why a call was not made, or its answer not told.
-#[derive(Clone, Copy, PartialEq, Eq, Debug)]
+#[derive(Clone, Copy)]
 pub enum Fault {
     /// A write failed.
     WriteFailed,

@@ -16,7 +16,7 @@ pub fn make_core<W: Write>(alloc: Global, output: &mut W) -> Result<Answer, Faul
     say_ready(output)?;
     Ok(match Core::new(alloc, limits) {
         Ok(core) => Answer::Taken(core.ledger(0).taken),
-        Err(_) => Answer::NoCore,
+        Err(_) => Answer::Refused(71),
     })
 }
 
@@ -28,10 +28,15 @@ pub fn make_run<W: Write>(alloc: Global, output: &mut W) -> Result<Answer, Fault
     let count = events.len();
     say_ready(output)?;
     Ok(match core.run(alloc, events) {
-        Ok(answers) => Answer::Events(answers.iter().filter(|answer| answer.is_ok()).count()),
-        Err(back) => Answer::NoAnswers {
-            is_back: back.len() == count && core.ledger(0).taken == 0,
-        },
+        Ok(answers) => Answer::Count(
+            answers.iter().filter(|answer| answer.is_ok()).count(),
+            "events",
+        ),
+        Err(back) => Answer::Said(if back.len() == count && core.ledger(0).taken == 0 {
+            "refused 71, the events are back"
+        } else {
+            "refused 71, other events are back"
+        }),
     })
 }
 
@@ -47,7 +52,7 @@ pub fn make_events<W: Write>(alloc: Global, output: &mut W) -> Result<Answer, Fa
             accepted = accepted.saturating_add(1);
         }
     }
-    Ok(Answer::Events(accepted))
+    Ok(Answer::Count(accepted, "events"))
 }
 
 /// Four ports, lanes of two copies, one batch and two frames at a port.

@@ -35,7 +35,7 @@ pub fn make_read_cut_listing<W: Write>(alloc: Global, output: &mut W) -> Result<
 fn read<W: Write>(alloc: Global, text: &str, output: &mut W) -> Result<Answer, Fault> {
     say_ready(output)?;
     Ok(match read_listing(alloc, text.as_bytes()) {
-        Ok(code) => Answer::Instructions(code.len()),
+        Ok(code) => Answer::Count(code.len(), "instructions"),
         Err(why) => Answer::NoListing(why),
     })
 }
@@ -45,7 +45,7 @@ pub fn make_write_listing<W: Write>(alloc: Global, output: &mut W) -> Result<Ans
     say_ready(output)?;
     Ok(match write_listing(alloc, &code) {
         Ok(listing) => Answer::Listing(listing),
-        Err(_) => Answer::OutOfMemory,
+        Err(_) => Answer::OUT_OF_MEMORY,
     })
 }
 
@@ -75,16 +75,17 @@ pub fn make_explain<W: Write>(alloc: Global, output: &mut W) -> Result<Answer, F
     let code = code_of(alloc, UNSET_WORD)?;
     say_ready(output)?;
     Ok(match explain(alloc, &code, 2, 3) {
-        Ok(path) => Answer::Path(path),
-        Err(_) => Answer::OutOfMemory,
+        Ok(Some(path)) => Answer::Path(path),
+        Ok(None) => Answer::Said("no path"),
+        Err(_) => Answer::OUT_OF_MEMORY,
     })
 }
 
 pub fn make_assemble<W: Write>(alloc: Global, output: &mut W) -> Result<Answer, Fault> {
     say_ready(output)?;
     Ok(match assemble(alloc, ASSEMBLER_TEXT) {
-        Ok(code) => Answer::Instructions(code.len()),
-        Err(why) => Answer::NoAssembly(why),
+        Ok(code) => Answer::Count(code.len(), "instructions"),
+        Err(why) => Answer::Refused(why.number()),
     })
 }
 
@@ -93,6 +94,6 @@ pub fn make_disassemble<W: Write>(alloc: Global, output: &mut W) -> Result<Answe
     say_ready(output)?;
     Ok(match disassemble(alloc, &program) {
         Ok(text) => Answer::Listing(text.into_bytes()),
-        Err(_) => Answer::OutOfMemory,
+        Err(_) => Answer::OUT_OF_MEMORY,
     })
 }

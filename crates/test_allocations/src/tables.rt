@@ -78,8 +78,8 @@ const BLOCK: &str = "1,6 0 0 0,";
 pub fn make_read_table<W: Write>(alloc: Global, output: &mut W) -> Result<Answer, Fault> {
     say_ready(output)?;
     Ok(match Table::read(alloc, TABLE) {
-        Ok(table) => Answer::Rules(table.rules().len()),
-        Err(why) => Answer::NoTable(why),
+        Ok(table) => Answer::Count(table.rules().len(), "rules"),
+        Err(why) => Answer::Refused(why.number()),
     })
 }
 
@@ -87,8 +87,8 @@ pub fn make_compile<W: Write>(alloc: Global, output: &mut W) -> Result<Answer, F
     let table = Table::read(alloc, TABLE).map_err(|_| Fault::Unprepared)?;
     say_ready(output)?;
     Ok(match compile(alloc, &table) {
-        Ok(program) => Answer::Instructions(program.len()),
-        Err(_) => Answer::OutOfMemory,
+        Ok(program) => Answer::Count(program.len(), "instructions"),
+        Err(_) => Answer::OUT_OF_MEMORY,
     })
 }
 
@@ -98,12 +98,17 @@ pub fn make_from_table<W: Write>(alloc: Global, output: &mut W) -> Result<Answer
     let rules = table.rules().to_vec(alloc)?;
     say_ready(output)?;
     Ok(match Policy::from_table(alloc, table) {
-        Ok(policy) => Answer::Instructions(policy.program().len()),
-        Err(back) => Answer::NoPolicy {
-            is_back: back.default() == default
+        Ok(policy) => Answer::Count(policy.program().len(), "instructions"),
+        Err(back) => {
+            let is_back = back.default() == default
                 && back.other() == other
-                && back.rules() == rules.as_slice(),
-        },
+                && back.rules() == rules.as_slice();
+            Answer::Said(if is_back {
+                "refused, the table is back"
+            } else {
+                "refused, another table is back"
+            })
+        }
     })
 }
 
@@ -115,10 +120,14 @@ pub fn make_absorb<W: Write>(alloc: Global, output: &mut W) -> Result<Answer, Fa
     let batch = batch_of(alloc, PASS)?;
     say_ready(output)?;
     Ok(match set.absorb(&batch) {
-        Ok(()) => Answer::InForce {
+        Ok(()) => Answer::Front {
             front: set.front(),
-            passes: set.verdict(PORT, &frame, 0),
+            behind: if set.verdict(PORT, &frame, 0) {
+                ", pass"
+            } else {
+                ", block"
+            },
         },
-        Err(_) => Answer::OutOfMemory,
+        Err(_) => Answer::OUT_OF_MEMORY,
     })
 }

@@ -24,7 +24,7 @@ pub fn make_feed<W: Write>(alloc: Global, output: &mut W) -> Result<Answer, Faul
     trace.feed(alloc, beginning).map_err(|_| Fault::Unprepared)?;
     say_ready(output)?;
     Ok(match trace.feed(alloc, piece) {
-        Ok(frames) => Answer::Frames(frames.len()),
+        Ok(frames) => Answer::Count(frames.len(), "frames"),
         Err(TraceRefusal::OutOfMemory) => match trace.feed(alloc, piece) {
             Ok(frames) => Answer::FramesAgain(frames.len()),
             Err(why) => Answer::Refused(why.number()),
@@ -38,7 +38,7 @@ pub fn make_frames<W: Write>(alloc: Global, output: &mut W) -> Result<Answer, Fa
     let mut reader = Tried::new(octets);
     say_ready(output)?;
     Ok(match frames(alloc, &mut reader) {
-        Ok(frames) => Answer::Frames(frames.len()),
+        Ok(frames) => Answer::Count(frames.len(), "frames"),
         Err(why) => Answer::Refused(why.number()),
     })
 }
