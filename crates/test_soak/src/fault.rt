@@ -6,7 +6,7 @@ use std::fmt::{Display, Formatter};
 use std::{fmt, io};
 
 /// Why nothing was soaked or timed, or not told.
-#[derive(Clone, Copy, PartialEq, Eq, Debug)]
+#[derive(Clone, Copy)]
 pub enum Fault {
     /// A write, or the reading of the words or of the clock, failed.
     Io,

@@ -11,7 +11,7 @@ use std::alloc::Global;
 const POOL: u32 = 1024;
 
 /// Knuth's linear congruential sequence for MMIX, of which the high bits are used.
-#[derive(Clone, Copy, PartialEq, Eq, Debug)]
+#[derive(Clone, Copy)]
 struct Sequence(u64);
 
 impl Sequence {

@@ -40,7 +40,7 @@ fn main(rt: HostRuntime) -> ExitCode {
 }
 
 /// What the words ask for.
-#[derive(Clone, Copy, PartialEq, Eq, Debug)]
+#[derive(Clone, Copy)]
 enum Request {
     Soak { each: u32, every: u32 },
     Times,

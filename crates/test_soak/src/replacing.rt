@@ -18,7 +18,7 @@ use std::time::{Clock, Duration, Instant};
 const ROUNDS: u32 = 5000;
 
 /// What a long run of offers took, in nanoseconds.
-#[derive(Clone, Copy, PartialEq, Eq, Debug)]
+#[derive(Clone, Copy)]
 pub struct Offers {
     /// All offers together, each with a reading of the clock.
     pub all: u64,

@@ -23,7 +23,7 @@ const LANE: u32 = 64;
 const LANES: usize = 12;
 
 /// What a soak found.
-#[derive(Clone, Copy, PartialEq, Eq, Debug)]
+#[derive(Clone, Copy)]
 pub struct Found {
     /// How many frames were offered, and how many batches were to be published behind the first.
     pub offers: usize,
