@@ -1,12 +1,12 @@
 //! Readers and writers that remember whether a call failed, what a reader gives piece by piece, and whole texts, written.
 #![tactic(auto)]
 
+mod full_write;
 mod pieces;
 mod reading;
 mod tried;
 mod writing;
-mod written;
 
+pub use full_write::{WriteFault, write_all};
 pub use pieces::{Pieces, ReadFault};
 pub use tried::Tried;
-pub use written::{WriteFault, write_all};

@@ -9,7 +9,7 @@ use std::io::Read;
 use std::marker::Model;
 
 /// The most reads of one input.
-const MOST_READS: u32 = 16_777_216;
+const MAX_READS: u32 = 16_777_216;
 
 /// How many octets are asked of the reader at once.
 const PIECE: usize = 65536;
@@ -45,7 +45,7 @@ impl Pieces {
         Pieces {
             octets: [0; PIECE],
             len: 0,
-            left: MOST_READS,
+            left: MAX_READS,
         }
     }
 

@@ -1,7 +1,7 @@
 use Rattle.std.proofs.Common.{◌≡◌, ◌≤◌, ◌-◌, length, take, false}
 use Rattle.std.specs.Io.KnownBytes.{Appends}
 use Rattle.gw_io.specs.Tries.{inner_of, has_failed}
-use Rattle.gw_io.proofs.written.write_all.Given as goal
+use Rattle.gw_io.proofs.full_write.write_all.Given as goal
 
 abbrev pub invariant-loop-at : goal.invariant-loop-at
 invariant-loop-at g l = record {

@@ -3,7 +3,7 @@ use Rattle.std.proofs.lemmas.Grind.{common_steps}
 use Rattle.gw_io.specs.Tries.{inner_of}
 use Rattle.gw_io.proofs.Callers.{rest_from}
 use Rattle.gw_io.proofs.Texts.{more_written}
-use Rattle.gw_io.proofs.written.write_all.Goals as goal
+use Rattle.gw_io.proofs.full_write.write_all.Goals as goal
 
 pub loop-at-preserved : goal.loop-at-preserved
 loop-at-preserved g c = record {
