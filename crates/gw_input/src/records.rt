@@ -11,7 +11,7 @@ use std::fmt;
 use std::fmt::{Display, Formatter};
 
 /// The most octets of a record.
-const MOST: usize = 16;
+const RECORD_OCTETS: usize = 16;
 
 /// Why a text is no record. Of several causes the first of these is given.
 #[derive(Clone, Copy, PartialEq, Eq, Debug)]
@@ -72,10 +72,10 @@ pub fn record(text: &[u8]) -> Result<Frame, RecordFault>
 {
     spelled(text)?;
     let len = text.len() / 2;
-    if len > MOST {
+    if len > RECORD_OCTETS {
         return Err(RecordFault::NoRecord(FrameRefusal::TooLong { len }));
     }
-    let mut octets = [0; MOST];
+    let mut octets = [0; RECORD_OCTETS];
     let _decoded = hex::decode_to_slice(text, &mut octets[..len]);
     match Frame::read(&octets[..len]) {
         Ok(frame) => Ok(frame),
