@@ -5,12 +5,12 @@ use Rattle.std.proofs.lemmas.Bool.Decides.{nat_tests}
 use Rattle.std.proofs.lemmas.List.{take-append-le, drop-append-le}
 use Rattle.gw_frame.specs.declared.refusal.FrameRefusal.{FrameRefusal}
 use Rattle.gw_frame.specs.Record.{refusal_of}
-use Rattle.gw_trace.specs.declared.order.Order.{Order}
+use Rattle.gw_trace.specs.declared.byte_order.Endian.{Endian}
 use Rattle.gw_trace.specs.declared.record.Beginning.TheVariants.{Unfinished, Bad, Whole}
 use Rattle.gw_trace.specs.Traces.{number, field, captured_length, captured, begun, beginning}
 
 -- a field that stands in the front is not changed by what follows
-pub field_on : (order : Order) (at count : ℕ) (xs ys : List ℕ) → at + count ≤ length xs
+pub field_on : (order : Endian) (at count : ℕ) (xs ys : List ℕ) → at + count ≤ length xs
     → field order at count (xs ++ ys) ≡ field order at count xs
 field_on order at count xs ys h = ap (number order count) (part_on at count xs ys h)
   where
@@ -47,14 +47,14 @@ pub begun_on : (there more count : ℕ) (refusal later : Option FrameRefusal) �
 begun_on there more count refusal later same h = grind (arith, nat_tests)
 
 -- the same of octets
-pub whole_of : (order : Order) (xs : List ℕ) (n : ℕ) → beginning order xs ≡ Whole n
+pub whole_of : (order : Endian) (xs : List ℕ) (n : ℕ) → beginning order xs ≡ Whole n
     → IsWhole (length xs) (captured_length order xs) n (refusal_of (captured (captured_length order xs) xs))
 unfolding beginning
 whole_of order xs n e =
     whole_says (length xs) (captured_length order xs) n (refusal_of (captured (captured_length order xs) xs)) e
 
 -- no octets are no record
-pub nothing_is_unfinished : (order : Order) (xs : List ℕ) → length xs < 16 → beginning order xs ≡ Unfinished
+pub nothing_is_unfinished : (order : Endian) (xs : List ℕ) → length xs < 16 → beginning order xs ≡ Unfinished
 unfolding beginning
 nothing_is_unfinished order xs h =
     short (length xs) (captured_length order xs) (refusal_of (captured (captured_length order xs) xs)) h
@@ -63,7 +63,7 @@ nothing_is_unfinished order xs h =
     short there count refusal h = grind (arith, nat_tests)
 
 -- what octets begin with, once it shows, is not changed by what follows
-pub begins_on : (order : Order) (xs ys : List ℕ) → beginning order xs ≢ Unfinished
+pub begins_on : (order : Endian) (xs ys : List ℕ) → beginning order xs ≢ Unfinished
     → beginning order (xs ++ ys) ≡ beginning order xs
 unfolding beginning
 begins_on order xs ys h =
@@ -85,14 +85,14 @@ begins_on order xs ys h =
         rw (drop-append-le 16 xs ys header, take-append-le count (drop 16 xs) ys there) refl
 
 -- a whole record stays whole
-pub whole_on : (order : Order) (xs ys : List ℕ) (n : ℕ) → beginning order xs ≡ Whole n → beginning order (xs ++ ys) ≡ Whole n
+pub whole_on : (order : Endian) (xs ys : List ℕ) (n : ℕ) → beginning order xs ≡ Whole n → beginning order (xs ++ ys) ≡ Whole n
 whole_on order xs ys n e = begins_on order xs ys (rw e (λ h. whole_is_unfinished n h)) ∙ e
   where
     whole_is_unfinished : (n : ℕ) → Whole n ≡ Unfinished → ⊥
     whole_is_unfinished n h = cc
 
 -- a record that is no frame stays so
-pub bad_on : (order : Order) (xs ys : List ℕ) (why : FrameRefusal) → beginning order xs ≡ Bad why
+pub bad_on : (order : Endian) (xs ys : List ℕ) (why : FrameRefusal) → beginning order xs ≡ Bad why
     → beginning order (xs ++ ys) ≡ Bad why
 bad_on order xs ys why e = begins_on order xs ys (rw e (λ h. bad_is_unfinished why h)) ∙ e
   where
@@ -100,7 +100,7 @@ bad_on order xs ys why e = begins_on order xs ys (rw e (λ h. bad_is_unfinished 
     bad_is_unfinished why h = cc
 
 -- a record that is not whole is shorter than the whole one
-pub unfinished_is_shorter : (order : Order) (xs ys : List ℕ) (n : ℕ) → beginning order xs ≡ Unfinished
+pub unfinished_is_shorter : (order : Endian) (xs ys : List ℕ) (n : ℕ) → beginning order xs ≡ Unfinished
     → beginning order (xs ++ ys) ≡ Whole n → length xs < 16 + n
 unfolding beginning
 unfinished_is_shorter order xs ys n u e =
@@ -121,7 +121,7 @@ unfinished_is_shorter order xs ys n u e =
     finished there n count (Some why) same low high all u = grind (arith, nat_tests)
 
 -- what is not whole yet is less than the longest record with its header
-pub unfinished_is_short : (order : Order) (xs : List ℕ) → beginning order xs ≡ Unfinished → length xs < 32
+pub unfinished_is_short : (order : Endian) (xs : List ℕ) → beginning order xs ≡ Unfinished → length xs < 32
 unfolding beginning
 unfinished_is_short order xs u =
     short (length xs) (captured_length order xs) (refusal_of (captured (captured_length order xs) xs)) u

@@ -3,7 +3,7 @@ use Rattle.std.proofs.Common.{◌≡◌, ℕ, zero, suc, ◌+◌, ◌≤◌, Lis
 use Rattle.std.proofs.Common.{length-drop}
 use Rattle.std.proofs.lemmas.List.{take-append-le, drop-append-le}
 use Rattle.gw_frame.specs.declared.refusal.FrameRefusal.{FrameRefusal}
-use Rattle.gw_trace.specs.declared.order.Order.{Order}
+use Rattle.gw_trace.specs.declared.byte_order.Endian.{Endian}
 use Rattle.gw_trace.specs.declared.record.Beginning.{Beginning}
 use Rattle.gw_trace.specs.declared.record.Beginning.TheVariants.{Unfinished, Bad, Whole}
 use Rattle.gw_trace.specs.Traces.{captured, beginning, Contents, stopped, behind, contents_from, records, contents}
@@ -17,7 +17,7 @@ by_beginning P (Bad why) unfinished bad whole = bad why refl
 by_beginning P (Whole n) unfinished bad whole = whole n refl
 
 -- what is left behind a whole record is shorter
-shorter : (order : Order) (xs : List ℕ) (n most : ℕ) → beginning order xs ≡ Whole n → length xs ≤ suc most
+shorter : (order : Endian) (xs : List ℕ) (n most : ℕ) → beginning order xs ≡ Whole n → length xs ≤ suc most
     → length (drop (16 + n) xs) ≤ most
 shorter order xs n most e h =
     let w = whole_of order xs n e in
@@ -25,7 +25,7 @@ shorter order xs n most e h =
     rw (length-drop (16 + n) xs) (omega arith)
 
 -- an induction over the records of octets
-pub over_records : (P : List ℕ → Type 0) (order : Order)
+pub over_records : (P : List ℕ → Type 0) (order : Endian)
     → ((xs : List ℕ) → beginning order xs ≡ Unfinished → P xs)
     → ((xs : List ℕ) (why : FrameRefusal) → beginning order xs ≡ Bad why → P xs)
     → ((xs : List ℕ) (n : ℕ) → beginning order xs ≡ Whole n → P (drop (16 + n) xs) → P xs)
@@ -38,7 +38,7 @@ over_records P order unfinished bad whole xs = over (length xs) xs (omega arith)
         (λ n e. whole xs n e (over most (drop (16 + n) xs) (shorter order xs n most e h)))
 
 -- a bound on the records that is great enough changes nothing
-enough : (n m : ℕ) (order : Order) (xs : List ℕ) → length xs ≤ n → length xs ≤ m → records n order xs ≡ records m order xs
+enough : (n m : ℕ) (order : Endian) (xs : List ℕ) → length xs ≤ n → length xs ≤ m → records n order xs ≡ records m order xs
 unfolding records
 enough zero zero order xs h k = refl
 enough zero (suc m) order xs h k = rw (nothing_is_unfinished order xs (omega arith)) refl
@@ -52,22 +52,22 @@ enough (suc n) (suc m) order xs h k =
     (enough n m order (drop (16 + count) xs) (shorter order xs count n e h) (shorter order xs count m e k))))
 
 -- the contents by what the octets begin with
-step : (order : Order) (xs : List ℕ)
+step : (order : Endian) (xs : List ℕ)
     → contents order xs ≡ contents_from xs (beginning order xs) (λ rest. records (length xs) order rest)
 unfolding contents records
 step order xs = enough (length xs) (suc (length xs)) order xs (omega arith) (omega arith)
 
 -- contents by what the octets begin with
-pub contents_unfinished : (order : Order) (xs : List ℕ) → beginning order xs ≡ Unfinished → contents order xs ≡ stopped xs None
+pub contents_unfinished : (order : Endian) (xs : List ℕ) → beginning order xs ≡ Unfinished → contents order xs ≡ stopped xs None
 contents_unfinished order xs e = step order xs ∙ ap (λ b. contents_from xs b (λ rest. records (length xs) order rest)) e
 
 -- at a record that is no frame the contents stop
-pub contents_bad : (order : Order) (xs : List ℕ) (why : FrameRefusal) → beginning order xs ≡ Bad why
+pub contents_bad : (order : Endian) (xs : List ℕ) (why : FrameRefusal) → beginning order xs ≡ Bad why
     → contents order xs ≡ stopped xs (Some why)
 contents_bad order xs why e = step order xs ∙ ap (λ b. contents_from xs b (λ rest. records (length xs) order rest)) e
 
 -- a whole record stands before the contents of the rest
-pub contents_whole : (order : Order) (xs : List ℕ) (n : ℕ) → beginning order xs ≡ Whole n
+pub contents_whole : (order : Endian) (xs : List ℕ) (n : ℕ) → beginning order xs ≡ Whole n
     → contents order xs ≡ behind (captured n xs) (contents order (drop (16 + n) xs))
 unfolding contents
 contents_whole order xs n e =
@@ -80,25 +80,25 @@ abbrev pub after_frames : List (List ℕ) → Contents → Contents
 after_frames frames c = record c { frames = frames ++ c.frames }
 
 -- a whole record is not changed by what follows
-pub captured_on : (order : Order) (xs ys : List ℕ) (n : ℕ) → beginning order xs ≡ Whole n → captured n (xs ++ ys) ≡ captured n xs
+pub captured_on : (order : Endian) (xs ys : List ℕ) (n : ℕ) → beginning order xs ≡ Whole n → captured n (xs ++ ys) ≡ captured n xs
 captured_on order xs ys n e =
     let all : 16 + n ≤ length xs = (whole_of order xs n e).all in
     let header : 16 ≤ length xs = omega arith in
     let there : n ≤ length (drop 16 xs) = rw (length-drop 16 xs) (omega arith) in
     rw (drop-append-le 16 xs ys header, take-append-le n (drop 16 xs) ys there) refl
 
-rest_on : (order : Order) (xs ys : List ℕ) (n : ℕ) → beginning order xs ≡ Whole n
+rest_on : (order : Endian) (xs ys : List ℕ) (n : ℕ) → beginning order xs ≡ Whole n
     → drop (16 + n) (xs ++ ys) ≡ drop (16 + n) xs ++ ys
 rest_on order xs ys n e = drop-append-le (16 + n) xs ys (whole_of order xs n e).all
 
 -- octets without a fault, and more behind them: what was unfinished goes on
-abbrev GoesOn : Order → List ℕ → Type 0
+abbrev GoesOn : Endian → List ℕ → Type 0
 GoesOn order xs =
     (ys : List ℕ) → (contents order xs).fault ≡ None
     → contents order (xs ++ ys) ≡ after_frames (contents order xs).frames (contents order ((contents order xs).rest ++ ys))
 
 -- the contents of both, by those of the first
-pub goes_on : (order : Order) (xs : List ℕ) → GoesOn order xs
+pub goes_on : (order : Endian) (xs : List ℕ) → GoesOn order xs
 goes_on order = over_records (GoesOn order) order
     (λ xs e ys h. rw (contents_unfinished order xs e) refl)
     (λ xs why e ys h. absurd (some_is_none why (rw (contents_bad order xs why e) at h)))
@@ -112,12 +112,12 @@ goes_on order = over_records (GoesOn order) order
     some_is_none why h = cc
 
 -- what stands before a fault, and the fault, stay as they are
-abbrev StaysFaulty : Order → List ℕ → Type 0
+abbrev StaysFaulty : Endian → List ℕ → Type 0
 StaysFaulty order xs = (ys : List ℕ) (why : FrameRefusal) → (contents order xs).fault ≡ Some why
     → ((contents order (xs ++ ys)).frames ≡ (contents order xs).frames) × ((contents order (xs ++ ys)).fault ≡ Some why)
 
 -- octets with a fault, whatever follows
-pub stays_faulty : (order : Order) (xs : List ℕ) → StaysFaulty order xs
+pub stays_faulty : (order : Endian) (xs : List ℕ) → StaysFaulty order xs
 stays_faulty order = over_records (StaysFaulty order) order
     (λ xs e ys why h. absurd (none_is_some why (rw (contents_unfinished order xs e) at h)))
     (λ xs why e ys fault h.
@@ -139,11 +139,11 @@ stays_faulty order = over_records (StaysFaulty order) order
     none_is_some why h = cc
 
 -- without a fault, what stands behind the whole records is no record yet
-abbrev EndsUnfinished : Order → List ℕ → Type 0
+abbrev EndsUnfinished : Endian → List ℕ → Type 0
 EndsUnfinished order xs = (contents order xs).fault ≡ None → beginning order (contents order xs).rest ≡ Unfinished
 
 -- the rest of octets without a fault
-pub ends_unfinished : (order : Order) (xs : List ℕ) → EndsUnfinished order xs
+pub ends_unfinished : (order : Endian) (xs : List ℕ) → EndsUnfinished order xs
 ends_unfinished order = over_records (EndsUnfinished order) order
     (λ xs e h. rw (contents_unfinished order xs e) e)
     (λ xs why e h. absurd (some_is_none why (rw (contents_bad order xs why e) at h)))

@@ -3,7 +3,7 @@ use Rattle.std.proofs.Common.{◌≡◌, ◌≢◌, ℕ, ◌+◌, Bool, true, fa
 use Rattle.std.proofs.Common.{Some, None, Result, Ok, Err, sym, ap, ◌∙◌, subst, refl}
 use Rattle.std.specs.Io.KnownBytes.{Consumes, IsAtEnd}
 use Rattle.std.specs.Option.{option_map_or}
-use Rattle.gw_trace.specs.declared.order.Order.{Order}
+use Rattle.gw_trace.specs.declared.byte_order.Endian.{Endian}
 use Rattle.gw_trace.specs.declared.stage.Stage.{Stage}
 use Rattle.gw_trace.specs.declared.stage.Stage.TheVariants.{Header, Records, Failed}
 use Rattle.gw_trace.specs.declared.refusal.TraceRefusal.{TraceRefusal}
@@ -15,24 +15,24 @@ use Rattle.gw_trace.specs.FaultKinds.{IsFault}
 use Rattle.gw_trace.specs.Progress.{IsNoTrace, IsUnread}
 use Rattle.gw_trace.proofs.Resuming.{reading_header, reading_records, by_test}
 
-header_faults : (header : List ℕ) (r : Result Order TraceRefusal) (fault : TraceRefusal) → header_of header ≡ r → r ≡ Err fault
+header_faults : (header : List ℕ) (r : Result Endian TraceRefusal) (fault : TraceRefusal) → header_of header ≡ r → r ≡ Err fault
     → IsFault fault
 unfolding header_of
 header_faults header r fault e h = behind_magic (order_of header) (e ∙ h)
   where
-    failed_with : (met : TraceRefusal) → IsFault met → ◌≡◌ {A = Result Order TraceRefusal} (Err met) (Err fault) → IsFault fault
+    failed_with : (met : TraceRefusal) → IsFault met → ◌≡◌ {A = Result Endian TraceRefusal} (Err met) (Err fault) → IsFault fault
     failed_with met is same = let one : met ≡ fault = cc in subst IsFault one is
 
-    is_fine : (order : Order) → ◌≡◌ {A = Result Order TraceRefusal} (Ok order) (Err fault) → ⊥
+    is_fine : (order : Endian) → ◌≡◌ {A = Result Endian TraceRefusal} (Ok order) (Err fault) → ⊥
     is_fine order h = cc
 
-    behind_version : (order : Order) (version link : Bool)
+    behind_version : (order : Endian) (version link : Bool)
         → cond (not version) (Err BadVersion) (cond (not link) (Err BadLink) (Ok order)) ≡ Err fault → IsFault fault
     behind_version order false link h = failed_with BadVersion tt h
     behind_version order true false h = failed_with BadLink tt h
     behind_version order true true h = absurd (is_fine order h)
 
-    behind_magic : (order : Option Order) → header_in header order ≡ Err fault → IsFault fault
+    behind_magic : (order : Option Endian) → header_in header order ≡ Err fault → IsFault fault
     behind_magic None h = failed_with BadMagic tt h
     behind_magic (Some order) h = behind_version order (is_version_2_4 order header) (is_link_227 order header) h
 
@@ -46,20 +46,20 @@ reading_faults octets fault h =
     in_header : Header ≡ Failed fault → ⊥
     in_header h = cc
 
-    among : (order : Order) → Records order ≡ Failed fault → ⊥
+    among : (order : Endian) → Records order ≡ Failed fault → ⊥
     among order h = cc
 
     failed_with : (met : TraceRefusal) → IsFault met → Failed met ≡ Failed fault → IsFault fault
     failed_with met is same = let one : met ≡ fault = cc in subst IsFault one is
 
-    in_records : (order : Order) (c : Contents) → (reading_from order 0 c).stage ≡ Failed fault → IsFault fault
+    in_records : (order : Endian) (c : Contents) → (reading_from order 0 c).stage ≡ Failed fault → IsFault fault
     in_records order c h = elim c.fault as (λ f. option_map_or (λ why. Failed (BadRecord (index_of (0 + length c.frames)) why))
         f (Records order) ≡ Failed fault → IsFault fault) [
           | None ↦ λ e. absurd (among order e)
           | Some why ↦ λ e. failed_with (BadRecord (index_of (0 + length c.frames)) why) tt e
         ] h
 
-    behind : (r : Result Order TraceRefusal) → header_of (take 24 octets) ≡ r
+    behind : (r : Result Endian TraceRefusal) → header_of (take 24 octets) ≡ r
         → (reading_behind r (drop 24 octets)).stage ≡ Failed fault → IsFault fault
     behind (Err met) e h = failed_with met (header_faults (take 24 octets) (Err met) met e refl) h
     behind (Ok order) e h = in_records order (contents order (drop 24 octets)) h

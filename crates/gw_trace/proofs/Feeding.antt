@@ -6,8 +6,8 @@ use Rattle.std.proofs.lemmas.List.{take-append-drop}
 use Rattle.std.proofs.Math.Nat.{min-eq_left}
 use Rattle.std.specs.Option.{option_map_or, option_to_list}
 use Rattle.gw_frame.specs.declared.refusal.FrameRefusal.{FrameRefusal}
-use Rattle.gw_trace.specs.declared.added.Added.{Added}
-use Rattle.gw_trace.specs.declared.order.Order.{Order}
+use Rattle.gw_trace.specs.declared.decoded_piece.DecodedPiece.{DecodedPiece}
+use Rattle.gw_trace.specs.declared.byte_order.Endian.{Endian}
 use Rattle.gw_trace.specs.declared.record.Beginning.TheVariants.{Unfinished, Bad, Whole}
 use Rattle.gw_trace.specs.declared.stage.Stage.{Stage}
 use Rattle.gw_trace.specs.declared.stage.Stage.TheVariants.{Header, Records, Failed}
@@ -17,16 +17,16 @@ use Rattle.gw_trace.specs.Traces.{beginning, captured, Contents, contents, stopp
 use Rattle.gw_trace.specs.Traces.{reading_behind, reading, header_of}
 use Rattle.gw_trace.specs.Progress.{Progress, progress, read_on, kept_after, fault_in, in_records, at_fault, HasRead, Gives}
 use Rattle.gw_trace.specs.Progress.{IsRefused}
-use Rattle.gw_trace.specs.Additions.{frames_in, IsAdded, refusal_in}
+use Rattle.gw_trace.specs.DecodedPieces.{frames_in, IsDecoded, refusal_in}
 use Rattle.gw_trace.proofs.Beginnings.{whole_on, bad_on, unfinished_is_short, unfinished_is_shorter}
 use Rattle.gw_trace.proofs.Contents.{contents_unfinished, contents_bad, contents_whole, captured_on}
-use Rattle.gw_trace.proofs.Holding.{drop_behind, short_front}
+use Rattle.gw_trace.proofs.Joining.{drop_behind, short_front}
 use Rattle.gw_trace.proofs.Resuming.{reading_header, reading_records, resumed, progress_on}
 
--- an addition by its parts
-pub added : (a : Added) (given : ℕ) (r : Reading) (first : Option (List ℕ)) (others : List (List ℕ)) → a.first ≡ first
-    → a.others ≡ others → option_to_list first ++ others ≡ r.frames → a.next ≡ kept_after given r → IsAdded a given r
-added a given r first others one more frames next =
+-- a decoded piece by its parts
+pub decoded : (a : DecodedPiece) (given : ℕ) (r : Reading) (first : Option (List ℕ)) (others : List (List ℕ)) → a.first ≡ first
+    → a.others ≡ others → option_to_list first ++ others ≡ r.frames → a.next ≡ kept_after given r → IsDecoded a given r
+decoded a given r first others one more frames next =
     record {
       frames = ap (λ f. option_to_list f ++ a.others) one ∙ ap (λ o. option_to_list first ++ o) more
           ∙ frames;
@@ -51,13 +51,13 @@ header_short xs front e h =
     ∙ ap (λ rest. record { frames = []; rest = rest; stage = Header }) (sym (short_front 24 xs front e h).0)
 
 -- a header that is whole
-pub header_whole : (xs front : List ℕ) (header : Result Order TraceRefusal) → front ≡ take 24 xs → 24 ≤ length xs
+pub header_whole : (xs front : List ℕ) (header : Result Endian TraceRefusal) → front ≡ take 24 xs → 24 ≤ length xs
     → header ≡ header_of front → reading xs ≡ reading_behind header (drop 24 xs)
 header_whole xs front header e long h =
     reading_records xs long ∙ ap (λ r. reading_behind r (drop 24 xs)) (sym (h ∙ ap header_of e))
 
 -- the first record is not whole yet
-pub record_short : (order : Order) (given : ℕ) (xs front : List ℕ) → given < 2 ^ 64 → front ≡ take 32 xs
+pub record_short : (order : Endian) (given : ℕ) (xs front : List ℕ) → given < 2 ^ 64 → front ≡ take 32 xs
     → Unfinished ≡ beginning order front
     → (reading_from order given (contents order xs) ≡ record { frames = []; rest = front; stage = Records order })
     × (in_records order front given ≡ kept_after given (reading_from order given (contents order xs)))
@@ -69,7 +69,7 @@ record_short order given xs front fits e b =
     (r, ap (in_records order front) (index_same given fits) ∙ sym (ap (kept_after given) r))
 
 -- the first record is no frame
-pub record_bad : (order : Order) (given : ℕ) (xs front : List ℕ) (why : FrameRefusal) → given < 2 ^ 64 → front ≡ take 32 xs
+pub record_bad : (order : Endian) (given : ℕ) (xs front : List ℕ) (why : FrameRefusal) → given < 2 ^ 64 → front ≡ take 32 xs
     → Bad why ≡ beginning order front
     → ((reading_from order given (contents order xs)).frames ≡ [])
     × (at_fault (BadRecord given why) given ≡ kept_after given (reading_from order given (contents order xs)))
@@ -84,28 +84,29 @@ record_bad order given xs front why fits e b =
     )
 
 -- the first record is whole
-pub record FirstWhole (order : Order) (held piece : List ℕ) (count : ℕ) (front : List ℕ) : Type 0 where
-  pub contents_are : contents order (held ++ piece)
-      ≡ behind (captured count front) (contents order (drop (16 + count - length held) piece))
-  pub longer : length held < 16 + count
+pub record FirstWhole (order : Endian) (partial piece : List ℕ) (count : ℕ) (front : List ℕ) : Type 0 where
+  pub contents_are : contents order (partial ++ piece)
+      ≡ behind (captured count front) (contents order (drop (16 + count - length partial) piece))
+  pub longer : length partial < 16 + count
 
 -- the record that was begun becomes whole within its first 32 octets
-pub record_whole : (order : Order) (held piece front : List ℕ) (count : ℕ) → front ≡ take 32 (held ++ piece)
-    → beginning order held ≡ Unfinished → Whole count ≡ beginning order front → FirstWhole order held piece count front
-record_whole order held piece front count e unfinished b =
-    let parts : take 32 (held ++ piece) ++ drop 32 (held ++ piece) ≡ held ++ piece = take-append-drop 32 (held ++ piece) in
-    let whole : beginning order (take 32 (held ++ piece)) ≡ Whole count = sym (b ∙ ap (beginning order) e) in
-    let there : beginning order (held ++ piece) ≡ Whole count =
-    ap (beginning order) (sym parts) ∙ whole_on order (take 32 (held ++ piece)) (drop 32 (held ++ piece)) count whole in
-    let same : captured count (held ++ piece) ≡ captured count front =
-    ap (captured count) (sym parts) ∙ captured_on order (take 32 (held ++ piece)) (drop 32 (held ++ piece)) count whole
+pub record_whole : (order : Endian) (partial piece front : List ℕ) (count : ℕ) → front ≡ take 32 (partial ++ piece)
+    → beginning order partial ≡ Unfinished → Whole count ≡ beginning order front → FirstWhole order partial piece count front
+record_whole order partial piece front count e unfinished b =
+    let parts : take 32 (partial ++ piece) ++ drop 32 (partial ++ piece) ≡ partial ++ piece =
+    take-append-drop 32 (partial ++ piece) in
+    let whole : beginning order (take 32 (partial ++ piece)) ≡ Whole count = sym (b ∙ ap (beginning order) e) in
+    let there : beginning order (partial ++ piece) ≡ Whole count =
+    ap (beginning order) (sym parts) ∙ whole_on order (take 32 (partial ++ piece)) (drop 32 (partial ++ piece)) count whole in
+    let same : captured count (partial ++ piece) ≡ captured count front =
+    ap (captured count) (sym parts) ∙ captured_on order (take 32 (partial ++ piece)) (drop 32 (partial ++ piece)) count whole
     ∙ ap (captured count) (sym e) in
-    let longer : length held < 16 + count = unfinished_is_shorter order held piece count unfinished there in
+    let longer : length partial < 16 + count = unfinished_is_shorter order partial piece count unfinished there in
     record {
-      contents_are = contents_whole order (held ++ piece) count there
-          ∙ ap (λ frame. behind frame (contents order (drop (16 + count) (held ++ piece)))) same
+      contents_are = contents_whole order (partial ++ piece) count there
+          ∙ ap (λ frame. behind frame (contents order (drop (16 + count) (partial ++ piece)))) same
           ∙ ap (λ rest. behind (captured count front) (contents order rest))
-          (drop_behind (16 + count) held piece (at_most (length held) (16 + count) longer));
+          (drop_behind (16 + count) partial piece (at_most (length partial) (16 + count) longer));
       longer = longer;
     }
   where
@@ -113,7 +114,7 @@ record_whole order held piece front count e unfinished b =
     at_most m n h = omega arith
 
 -- what is kept behind one frame and others is what is kept behind the others, counted one further
-pub kept_behind : (order : Order) (given next : ℕ) (frame : List ℕ) (d : Contents) → next ≡ index_of (given + 1)
+pub kept_behind : (order : Endian) (given next : ℕ) (frame : List ℕ) (d : Contents) → next ≡ index_of (given + 1)
     → kept_after next (reading_from order next d) ≡ kept_after given (reading_from order given (behind frame d))
 kept_behind order given next frame d e =
     ap (λ i. record {
@@ -127,17 +128,17 @@ kept_behind order given next frame d e =
     further given next n e = grind (arith, nat_tests)
 
 -- what a piece adds is what the trace says
-pub record Fed (a : Added) (octets piece : List ℕ) : Type 0 where
+pub record Fed (a : DecodedPiece) (octets piece : List ℕ) : Type 0 where
   pub so_far : (reading (octets ++ piece)).frames ≡ (reading octets).frames ++ frames_in a
   pub stage : a.next.stage ≡ (reading (octets ++ piece)).stage
   pub read : HasRead a.next (octets ++ piece)
 
 -- a trace that has read octets, and what it adds of a piece
-pub fed : (trace : Progress) (a : Added) (octets piece : List ℕ) → IsAdded a trace.given (read_on trace piece)
+pub fed : (trace : Progress) (a : DecodedPiece) (octets piece : List ℕ) → IsDecoded a trace.given (read_on trace piece)
     → HasRead trace octets → Fed a octets piece
-fed trace a octets piece is h = at (subst (λ t. IsAdded a t.given (read_on t piece)) h is)
+fed trace a octets piece is h = at (subst (λ t. IsDecoded a t.given (read_on t piece)) h is)
   where
-    at : IsAdded a (progress octets).given (read_on (progress octets) piece) → Fed a octets piece
+    at : IsDecoded a (progress octets).given (read_on (progress octets) piece) → Fed a octets piece
     at is = record {
       so_far = ap (λ r. r.frames) (resumed octets piece) ∙ ap (λ fs. (reading octets).frames ++ fs) (sym is.frames);
       stage = ap (λ p. p.stage) is.next ∙ sym (ap (λ r. r.stage) (resumed octets piece));
@@ -169,7 +170,7 @@ pub refusal_none : (frames : List (List ℕ)) (stage : Stage) → refusal_in fra
 refusal_none frames stage h e = sym (ap (λ fs. refusal_in fs stage) e) ∙ h
 
 -- an answer of feed that refuses, and one that gives frames
-pub refuses : (a : Added) (octets piece : List ℕ) (fault : TraceRefusal) → Fed a octets piece
+pub refuses : (a : DecodedPiece) (octets piece : List ℕ) (fault : TraceRefusal) → Fed a octets piece
     → refusal_in (frames_in a) a.next.stage ≡ Some fault → IsRefused octets piece fault
 refuses a octets piece fault f h =
     let r = refusal_some (frames_in a) a.next.stage fault h in
@@ -179,7 +180,7 @@ refuses a octets piece fault f h =
     }
 
 -- frames that are given
-pub gives : (a : Added) (octets piece : List ℕ) (frames : List (List ℕ)) → Fed a octets piece
+pub gives : (a : DecodedPiece) (octets piece : List ℕ) (frames : List (List ℕ)) → Fed a octets piece
     → refusal_in (frames_in a) a.next.stage ≡ None → frames ≡ frames_in a → Gives octets piece frames
 gives a octets piece frames f h e = record {
   so_far = f.so_far ∙ ap (λ fs. (reading octets).frames ++ fs) (sym e);

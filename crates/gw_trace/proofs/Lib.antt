@@ -2,9 +2,9 @@ pub mod Beginnings
 pub mod Contents
 pub mod Faults
 pub mod Feeding
-pub mod Holding
+pub mod Joining
 pub mod Resuming
 pub mod Shared
 pub mod Verdicts
-pub mod Walked
+pub mod Scanned
 mod TraceExamples

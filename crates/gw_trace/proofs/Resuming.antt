@@ -6,7 +6,7 @@ use Rattle.std.proofs.lemmas.Bool.Decides.{nat_tests}
 use Rattle.std.proofs.lemmas.List.{take-append-le, drop-append-le}
 use Rattle.std.specs.Option.{option_map_or}
 use Rattle.gw_frame.specs.declared.refusal.FrameRefusal.{FrameRefusal}
-use Rattle.gw_trace.specs.declared.order.Order.{Order}
+use Rattle.gw_trace.specs.declared.byte_order.Endian.{Endian}
 use Rattle.gw_trace.specs.declared.stage.Stage.TheVariants.{Header, Records, Failed}
 use Rattle.gw_trace.specs.declared.refusal.TraceRefusal.{TraceRefusal}
 use Rattle.gw_trace.specs.declared.refusal.TraceRefusal.TheVariants.{BadRecord}
@@ -44,7 +44,7 @@ index_again : (a b : ℕ) → index_of (a + b) ≡ index_of (index_of a + b)
 index_again a b = grind (arith, nat_tests)
 
 -- contents without a fault, resumed
-sound_on : (order : Order) (xs ys : List ℕ) → (contents order xs).fault ≡ None
+sound_on : (order : Endian) (xs ys : List ℕ) → (contents order xs).fault ≡ None
     → reading_from order 0 (contents order (xs ++ ys)) ≡ on (reading_from order 0 (contents order xs)) ys
 sound_on order xs ys sound =
     ap (reading_from order 0) (goes_on order xs ys sound)
@@ -62,7 +62,7 @@ sound_on order xs ys sound =
     same_index frames others = ap index_of (zero_and (length (frames ++ others)) ∙ length-append frames others)
         ∙ index_again (length frames) (length others)
 
-    counted : (order : Order) (frames : List (List ℕ)) (d : Contents)
+    counted : (order : Endian) (frames : List (List ℕ)) (d : Contents)
         → reading_from order 0 (after_frames frames d) ≡ with_frames frames (reading_from order (index_of (length frames)) d)
     counted order frames d = ap (λ n.
         record {
@@ -72,7 +72,7 @@ sound_on order xs ys sound =
         }) (same_index frames d.frames)
 
 -- contents with a fault, resumed
-faulty_on : (order : Order) (xs ys : List ℕ) (why : FrameRefusal) → (contents order xs).fault ≡ Some why
+faulty_on : (order : Endian) (xs ys : List ℕ) (why : FrameRefusal) → (contents order xs).fault ≡ Some why
     → reading_from order 0 (contents order (xs ++ ys)) ≡ on (reading_from order 0 (contents order xs)) ys
 faulty_on order xs ys why faulty =
     at_fault (contents order xs) (contents order (xs ++ ys)) faulty (stays_faulty order xs ys why faulty).0
@@ -90,7 +90,7 @@ faulty_on order xs ys why faulty =
         (sym (append-nil c.frames))
         ∙ sym (ap (λ a. on (reading_from order 0 a) ys) now)
 
-behind_on : (header : Result Order TraceRefusal) (xs ys : List ℕ)
+behind_on : (header : Result Endian TraceRefusal) (xs ys : List ℕ)
     → reading_behind header (xs ++ ys) ≡ on (reading_behind header xs) ys
 behind_on (Err fault) xs ys = refl
 behind_on (Ok order) xs ys = by_fault (contents order xs).fault refl

@@ -4,7 +4,7 @@ use Rattle.std.proofs.Common.{sym, ap, ◌∙◌, refl, arith}
 use Rattle.std.proofs.Math.Nat.{min-eq_left}
 use Rattle.std.specs.Option.{option_map_or}
 use Rattle.gw_frame.specs.declared.refusal.FrameRefusal.{FrameRefusal}
-use Rattle.gw_trace.specs.declared.order.Order.{Order}
+use Rattle.gw_trace.specs.declared.byte_order.Endian.{Endian}
 use Rattle.gw_trace.specs.declared.refusal.TraceRefusal.{TraceRefusal}
 use Rattle.gw_trace.specs.declared.refusal.TraceRefusal.TheVariants.{BadRecord, Cut}
 use Rattle.gw_trace.specs.Traces.{Contents, contents, Reading, index_of, reading_from, reading_behind, reading, header_of, ending}
@@ -25,7 +25,7 @@ header_refused octets header why long front h =
     ap verdict (reading_records octets long ∙ ap (λ r. reading_behind r (drop 24 octets)) (sym (h ∙ ap header_of front)))
 
 -- the reading of octets with a good header
-behind_header : (octets header rest : List ℕ) (order : Order) (c : Contents) → 24 ≤ length octets → header ≡ take 24 octets
+behind_header : (octets header rest : List ℕ) (order : Endian) (c : Contents) → 24 ≤ length octets → header ≡ take 24 octets
     → rest ≡ drop 24 octets → Ok order ≡ header_of header → c ≡ contents order rest
     → reading octets ≡ reading_from order 0 c
 behind_header octets header rest order c long front back h e =
@@ -33,7 +33,7 @@ behind_header octets header rest order c long front back h e =
     ∙ ap (λ xs. reading_from order 0 (contents order xs)) (sym back) ∙ sym (ap (reading_from order 0) e)
 
 -- octets with a record that is refused
-pub record_refused : (octets header rest : List ℕ) (order : Order) (c : Contents) (why : FrameRefusal) (n : ℕ)
+pub record_refused : (octets header rest : List ℕ) (order : Endian) (c : Contents) (why : FrameRefusal) (n : ℕ)
     → 24 ≤ length octets → header ≡ take 24 octets → rest ≡ drop 24 octets → Ok order ≡ header_of header
     → c ≡ contents order rest
     → c.fault ≡ Some why → n ≡ length c.frames → 24 * n < 2 ^ 64 → whole_trace octets ≡ Err (BadRecord n why)
@@ -52,7 +52,7 @@ record_refused octets header rest order c why n long front back h e fault count 
     small n h = ap index_of (zero_and n) ∙ min-eq_left (within n h)
 
 -- without a fault the octets are a trace where nothing is left
-pub record_cut : (octets header rest : List ℕ) (order : Order) (c : Contents) → 24 ≤ length octets → header ≡ take 24 octets
+pub record_cut : (octets header rest : List ℕ) (order : Endian) (c : Contents) → 24 ≤ length octets → header ≡ take 24 octets
     → rest ≡ drop 24 octets → Ok order ≡ header_of header → c ≡ contents order rest
     → c.fault ≡ None → 0 < length c.rest → whole_trace octets ≡ Err Cut
 record_cut octets header rest order c long front back h e sound some =
@@ -66,7 +66,7 @@ record_cut octets header rest order c long front back h e sound some =
     cut (octet ∷ rest) some = refl
 
 -- octets of a whole trace
-pub is_whole : (octets header rest : List ℕ) (order : Order) (c : Contents) → 24 ≤ length octets → header ≡ take 24 octets
+pub is_whole : (octets header rest : List ℕ) (order : Endian) (c : Contents) → 24 ≤ length octets → header ≡ take 24 octets
     → rest ≡ drop 24 octets → Ok order ≡ header_of header → c ≡ contents order rest
     → c.fault ≡ None → length c.rest ≡ 0 → whole_trace octets ≡ Ok c.frames
 is_whole octets header rest order c long front back h e sound none =

@@ -3,9 +3,9 @@ pub mod Traces
 pub mod Progress
 pub mod Shares
 pub mod Refusals
--- inside: what a checked trace keeps, what a walk and a piece find, and which faults are of octets
+-- inside: what a checked trace keeps, what a scan and a piece find, and which faults are of octets
 pub mod Wholes
 pub mod Kept
-pub mod Walks
-pub mod Additions
+pub mod Scans
+pub mod DecodedPieces
 pub mod FaultKinds

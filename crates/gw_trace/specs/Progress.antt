@@ -2,7 +2,7 @@
 use Rattle.std.specs.Io.KnownBytes.{Consumes, IsAtEnd}
 use Rattle.std.specs.Prelude.{◌≡◌, ◌⊎◌, Bool, true, Ok, Err, ℕ, ◌+◌, ◌<◌, List, [], ◌++◌, length, Option, Some, None}
 use Rattle.gw_io.specs.Pieces.{most_reads}
-use Rattle.gw_trace.specs.declared.order.Order.{Order}
+use Rattle.gw_trace.specs.declared.byte_order.Endian.{Endian}
 use Rattle.gw_trace.specs.declared.stage.Stage.{Stage}
 use Rattle.gw_trace.specs.declared.stage.Stage.TheVariants.{Header, Records, Failed}
 use Rattle.gw_trace.specs.declared.record.Beginning.TheVariants.{Unfinished}
@@ -21,7 +21,7 @@ pub record Progress : Type 0 where
 abbrev pub in_header : List ℕ → Progress
 in_header rest = record { stage = Header; rest = rest; given = 0 }
 
-abbrev pub in_records : Order → List ℕ → ℕ → Progress
+abbrev pub in_records : Endian → List ℕ → ℕ → Progress
 in_records order rest given = record { stage = Records order; rest = rest; given = given }
 
 abbrev pub at_fault : TraceRefusal → ℕ → Progress

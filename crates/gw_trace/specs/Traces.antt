@@ -8,8 +8,8 @@ use Rattle.byteorder.specs.Endian.{big_number, little_number}
 use Rattle.gw_frame.specs.declared.refusal.FrameRefusal.{FrameRefusal}
 use Rattle.gw_frame.specs.declared.refusal.FrameRefusal.TheVariants.{TooShort, TooLong}
 use Rattle.gw_frame.specs.Record.{refusal_of}
-use Rattle.gw_trace.specs.declared.order.Order.{Order}
-use Rattle.gw_trace.specs.declared.order.Order.TheVariants.{Big, Little}
+use Rattle.gw_trace.specs.declared.byte_order.Endian.{Endian}
+use Rattle.gw_trace.specs.declared.byte_order.Endian.TheVariants.{Big, Little}
 use Rattle.gw_trace.specs.declared.record.Beginning.{Beginning}
 use Rattle.gw_trace.specs.declared.record.Beginning.TheVariants.{Unfinished, Bad, Whole}
 use Rattle.gw_trace.specs.declared.stage.Stage.{Stage}
@@ -18,12 +18,12 @@ use Rattle.gw_trace.specs.declared.refusal.TraceRefusal.{TraceRefusal}
 use Rattle.gw_trace.specs.declared.refusal.TraceRefusal.TheVariants.{BadMagic, BadVersion, BadLink, BadRecord, Cut}
 
 -- the number in the first octets, so many, in the writer's byte order
-abbrev pub number : Order → ℕ → List ℕ → ℕ
+abbrev pub number : Endian → ℕ → List ℕ → ℕ
 number Big count octets = big_number count octets
 number Little count octets = little_number count octets
 
 -- the number in so many octets from a place on
-abbrev pub field : Order → ℕ → ℕ → List ℕ → ℕ
+abbrev pub field : Endian → ℕ → ℕ → List ℕ → ℕ
 field order at count octets = number order count (take count (drop at octets))
 
 -- 0xA1B2C3D4, or 0xA1B23C4D where the fractions of seconds are nanoseconds
@@ -31,20 +31,20 @@ abbrev pub is_magic : ℕ → Bool
 is_magic n = (n == 0xA1B2C3D4) || (n == 0xA1B23C4D)
 
 -- the writer's byte order, which the magic number shows
-abbrev pub order_of : List ℕ → Option Order
+abbrev pub order_of : List ℕ → Option Endian
 order_of header =
     if is_magic (field Big 0 4 header) then Some Big
     else if is_magic (field Little 0 4 header) then Some Little
     else None
 
-abbrev pub is_version_2_4 : Order → List ℕ → Bool
+abbrev pub is_version_2_4 : Endian → List ℕ → Bool
 is_version_2_4 order header = (field order 4 2 header == 2) && (field order 6 2 header == 4)
 
-abbrev pub is_link_227 : Order → List ℕ → Bool
+abbrev pub is_link_227 : Endian → List ℕ → Bool
 is_link_227 order header = field order 20 4 header == 227
 
 -- what is wrong with the header of a trace in this byte order, if there is one
-abbrev pub header_in : List ℕ → Option Order → Result Order TraceRefusal
+abbrev pub header_in : List ℕ → Option Endian → Result Endian TraceRefusal
 header_in header None = Err BadMagic
 header_in header (Some order) =
     if not (is_version_2_4 order header) then Err BadVersion
@@ -52,11 +52,11 @@ header_in header (Some order) =
     else Ok order
 
 -- the byte order of a trace with this header, or what is wrong with the header
-unfoldable pub header_of : List ℕ → Result Order TraceRefusal
+unfoldable pub header_of : List ℕ → Result Endian TraceRefusal
 header_of header = header_in header (order_of header)
 
 -- the captured length, as a record's header has it
-abbrev pub captured_length : Order → List ℕ → ℕ
+abbrev pub captured_length : Endian → List ℕ → ℕ
 captured_length order octets = field order 8 4 octets
 
 -- the octets of the record behind its header, of this captured length
@@ -74,7 +74,7 @@ begun there count refusal =
 
 -- what the octets behind a header or a record begin with. A captured length outside 8 to 16 shows as soon as the record's
 -- header is whole.
-unfoldable pub beginning : Order → List ℕ → Beginning
+unfoldable pub beginning : Endian → List ℕ → Beginning
 beginning order octets =
     begun (length octets) (captured_length order octets) (refusal_of (captured (captured_length order octets) octets))
 
@@ -98,11 +98,11 @@ contents_from octets (Bad why) contents = stopped octets (Some why)
 contents_from octets (Whole count) contents = behind (captured count octets) (contents (drop (16 + count) octets))
 
 -- the contents of octets that hold at most so many records
-unfoldable pub records : ℕ → Order → List ℕ → Contents
+unfoldable pub records : ℕ → Endian → List ℕ → Contents
 records zero order octets = stopped octets None
 records (suc most) order octets = contents_from octets (beginning order octets) (λ rest. records most order rest)
 
-unfoldable pub contents : Order → List ℕ → Contents
+unfoldable pub contents : Endian → List ℕ → Contents
 contents order octets = records (length octets) order octets
 
 -- how far octets are a trace: the frames of the whole records up to the first fault; what stands behind the last of these
@@ -118,7 +118,7 @@ abbrev pub index_of : ℕ → ℕ
 index_of n = min n 18446744073709551615
 
 -- the reading of records that stand behind so many others
-abbrev pub reading_from : Order → ℕ → Contents → Reading
+abbrev pub reading_from : Endian → ℕ → Contents → Reading
 reading_from order before contents = record {
   frames = contents.frames;
   rest = option_map_or (λ why. []) contents.fault contents.rest;
@@ -127,7 +127,7 @@ reading_from order before contents = record {
 }
 
 -- the reading of what stands behind a header
-abbrev pub reading_behind : Result Order TraceRefusal → List ℕ → Reading
+abbrev pub reading_behind : Result Endian TraceRefusal → List ℕ → Reading
 reading_behind (Err fault) octets = record { frames = []; rest = []; stage = Failed fault }
 reading_behind (Ok order) octets = reading_from order 0 (contents order octets)
 

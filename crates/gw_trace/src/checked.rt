@@ -5,17 +5,17 @@ ghost use Rattle.std.specs.Prelude.{None, Ok, Err, IfOk, IfErr};
 ghost use Rattle.gw_trace.specs.Traces.{whole_trace};
 ghost use Rattle.gw_trace.specs.Shares.{share_of};
 
-use crate::order::{HEADER, Order};
+use crate::byte_order::{Endian, HEADER};
 use crate::refusal::TraceRefusal;
 use crate::share::Share;
-use crate::{order, walk};
+use crate::{byte_order, scan};
 use gw_frame::Frame;
 use std::marker::Model;
 
 /// The frames of octets that were checked to be whole records. It borrows the octets, and copies none.
 #[derive(Drop)]
 pub struct Checked<'a> {
-    pub(crate) order: Order,
+    pub(crate) order: Endian,
     pub(crate) records: &'a [u8],
     pub(crate) len: usize,
 }
@@ -42,19 +42,19 @@ impl<'a> Checked<'a> {
             return Err(TraceRefusal::Cut);
         }
         let (header, records) = octets.split_at(HEADER);
-        let order = match order::header(header) {
+        let order = match byte_order::header(header) {
             Ok(order) => order,
             Err(why) => return Err(why),
         };
-        let walk = walk::over(order, records);
-        match walk.fault {
+        let scan = scan::over(order, records);
+        match scan.fault {
             Some(why) => Err(TraceRefusal::BadRecord {
-                index: walk.whole.len(),
+                index: scan.whole.len(),
                 why,
             }),
             None => {
-                if walk.rest.is_empty() {
-                    Ok(walk.whole)
+                if scan.rest.is_empty() {
+                    Ok(scan.whole)
                 } else {
                     Err(TraceRefusal::Cut)
                 }

@@ -2,21 +2,21 @@
 //! shares of octets that were checked once.
 #![tactic(auto)]
 
-mod added;
+mod byte_order;
 mod checked;
-mod held;
-mod order;
+mod decoded_piece;
+mod partial;
+mod read_frames;
 mod record;
 mod refusal;
+mod scan;
 mod share;
 mod stage;
 mod trace;
-mod walk;
-mod whole;
 
 pub use checked::Checked;
 pub use gw_io::{Tried, WriteFault, write_all};
+pub use read_frames::frames;
 pub use refusal::TraceRefusal;
 pub use share::Share;
 pub use trace::Trace;
-pub use whole::frames;

@@ -6,14 +6,14 @@ ghost use Rattle.gw_trace.specs.declared.record.Beginning.TheVariants.{Whole};
 ghost use Rattle.gw_trace.specs.Traces.{captured, captured_length, beginning};
 ghost use Rattle.gw_trace.specs.Wholes.{IsWithin};
 
-use crate::order::Order;
+use crate::byte_order::Endian;
 use gw_frame::{Frame, FrameRefusal};
 
 /// How many octets stand before a record's own.
 pub const RECORD_HEADER: usize = 16;
 
 /// The most octets of a record, behind its header. Most writers give each record so many.
-pub const LONGEST: usize = 16;
+pub const RECORD_OCTETS: usize = 16;
 
 /// What octets behind a header or a record begin with.
 #[derive(Clone, Copy, PartialEq, Eq, Debug)]
@@ -27,7 +27,7 @@ pub enum Beginning {
 }
 
 /// The captured length, as a record's header has it.
-pub fn captured_len(order: Order, octets: &[u8]) -> usize
+pub fn captured_len(order: Endian, octets: &[u8]) -> usize
     requires { RECORD_HEADER ≤ length octets.now }
     ensures { result ≡ captured_length order octets.now }
 {
@@ -36,7 +36,7 @@ pub fn captured_len(order: Order, octets: &[u8]) -> usize
 
 /// What the octets begin with.
 #[tactic(auto, unfolding(crate::specs::Traces::beginning))]
-pub fn begins(order: Order, octets: &[u8]) -> Beginning
+pub fn begins(order: Endian, octets: &[u8]) -> Beginning
     ensures begins { result ≡ beginning order octets.now }
     ensures within { IsWithin (length octets.now) result }
 {
@@ -61,18 +61,18 @@ pub fn begins(order: Order, octets: &[u8]) -> Beginning
 
 /// Whether the octets begin with a whole record of the longest form.
 #[tactic(auto, unfolding(crate::specs::Traces::beginning))]
-pub fn begins_longest(order: Order, octets: &[u8]) -> bool
-    ensures begins { OnTrue result (beginning order octets.now ≡ Whole LONGEST) }
-    ensures otherwise { OnFalse result (beginning order octets.now ≢ Whole LONGEST) }
-    ensures within { OnTrue result (RECORD_HEADER + LONGEST ≤ length octets.now) }
+pub fn begins_longest(order: Endian, octets: &[u8]) -> bool
+    ensures begins { OnTrue result (beginning order octets.now ≡ Whole RECORD_OCTETS) }
+    ensures otherwise { OnFalse result (beginning order octets.now ≢ Whole RECORD_OCTETS) }
+    ensures within { OnTrue result (RECORD_HEADER + RECORD_OCTETS ≤ length octets.now) }
 {
-    octets.len() >= RECORD_HEADER + LONGEST
-        && captured_len(order, octets) == LONGEST
-        && Frame::read(&octets[RECORD_HEADER..RECORD_HEADER + LONGEST]).is_ok()
+    octets.len() >= RECORD_HEADER + RECORD_OCTETS
+        && captured_len(order, octets) == RECORD_OCTETS
+        && Frame::read(&octets[RECORD_HEADER..RECORD_HEADER + RECORD_OCTETS]).is_ok()
 }
 
 /// The frame of the whole record that the octets begin with.
-pub fn frame_in(order: Order, octets: &[u8], count: usize) -> Frame
+pub fn frame_in(order: Endian, octets: &[u8], count: usize) -> Frame
     requires whole { beginning order octets.now ≡ Whole count }
     requires within { RECORD_HEADER + count ≤ length octets.now }
     ensures { result ≡ captured count octets.now }

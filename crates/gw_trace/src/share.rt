@@ -5,15 +5,15 @@ ghost use Rattle.std.specs.Iterator.{YieldsFirst, item_count};
 ghost use Rattle.gw_trace.specs.Traces.{captured_length, contents};
 ghost use Rattle.gw_trace.specs.Wholes.{AreRecords};
 
-use crate::order::Order;
-use crate::record::{LONGEST, RECORD_HEADER, captured_len};
+use crate::byte_order::Endian;
+use crate::record::{RECORD_HEADER, RECORD_OCTETS, captured_len};
 use gw_frame::Frame;
 use std::marker::Model;
 
 /// One port's frames of checked octets, in order.
 #[derive(Drop)]
 pub struct Share<'a> {
-    pub(crate) order: Order,
+    pub(crate) order: Endian,
     /// The records from the one behind the last frame given.
     pub(crate) records: &'a [u8],
     /// How many of these stand before the next frame.
@@ -55,7 +55,7 @@ impl<'a> Iterator for Share<'a> {
 }
 
 // The length of the first record, behind its header.
-fn first_len(order: Order, records: &[u8]) -> usize
+fn first_len(order: Endian, records: &[u8]) -> usize
     requires whole { AreRecords order records.now }
     requires some { 0 < length records.now }
     ensures len { result ≡ captured_length order records.now }
@@ -66,20 +66,20 @@ fn first_len(order: Order, records: &[u8]) -> usize
 }
 
 // The first record's frame, and the records behind it. A record of the longest form has an arm of its own, as in `passed`.
-fn first<'a>(order: Order, records: &'a [u8]) -> (Frame, &'a [u8])
+fn first<'a>(order: Endian, records: &'a [u8]) -> (Frame, &'a [u8])
     requires whole { AreRecords order records.now }
     requires some { 0 < length records.now }
     ensures frames { (contents order records.now).frames ≡ result.0 ∷ (contents order result.1.now).frames }
     ensures others { AreRecords order result.1.now }
 {
     match first_len(order, records) {
-        LONGEST => parted(order, records, LONGEST),
+        RECORD_OCTETS => parted(order, records, RECORD_OCTETS),
         len => parted(order, records, len),
     }
 }
 
 // The frame of the first record, which has this length, and the records behind it.
-fn parted<'a>(order: Order, records: &'a [u8], len: usize) -> (Frame, &'a [u8])
+fn parted<'a>(order: Endian, records: &'a [u8], len: usize) -> (Frame, &'a [u8])
     requires whole { AreRecords order records.now }
     requires some { 0 < length records.now }
     requires len { len ≡ captured_length order records.now }
@@ -94,24 +94,24 @@ fn parted<'a>(order: Order, records: &'a [u8], len: usize) -> (Frame, &'a [u8])
 
 // The records behind so many, or none where there are no more. Records of the longest form have a loop of their own, so that
 // the processor need not wait for a record's length before it looks for the next one.
-fn passed<'a>(order: Order, records: &'a [u8], count: usize) -> &'a [u8]
+fn passed<'a>(order: Endian, records: &'a [u8], count: usize) -> &'a [u8]
     requires { AreRecords order records.now }
     ensures frames { (contents order result.now).frames ≡ drop count (contents order records.now).frames }
     ensures whole { AreRecords order result.now }
 {
     let mut rest = records;
     'longest: for i in 0..count {
-        if rest.is_empty() || first_len(order, rest) != LONGEST {
+        if rest.is_empty() || first_len(order, rest) != RECORD_OCTETS {
             return passed_any(order, rest, count - i);
         }
-        let (_record, others) = rest.split_at(RECORD_HEADER + LONGEST);
+        let (_record, others) = rest.split_at(RECORD_HEADER + RECORD_OCTETS);
         rest = others;
     }
     rest
 }
 
 // The same, whatever the records' lengths.
-fn passed_any<'a>(order: Order, records: &'a [u8], count: usize) -> &'a [u8]
+fn passed_any<'a>(order: Endian, records: &'a [u8], count: usize) -> &'a [u8]
     requires { AreRecords order records.now }
     ensures frames { (contents order result.now).frames ≡ drop count (contents order records.now).frames }
     ensures whole { AreRecords order result.now }

@@ -1,6 +1,6 @@
 //! How far a trace was read.
 
-use crate::order::Order;
+use crate::byte_order::Endian;
 use crate::refusal::TraceRefusal;
 
 /// Where the octets read so far end.
@@ -9,7 +9,7 @@ pub enum Stage {
     /// Within the header.
     Header,
     /// Behind the header, among records in this byte order.
-    Records(Order),
+    Records(Endian),
     /// At a fault, or behind it.
     Failed(TraceRefusal),
 }

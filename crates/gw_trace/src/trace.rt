@@ -6,12 +6,12 @@ ghost use Rattle.gw_trace.specs.declared.refusal.TraceRefusal.TheVariants.{OutOf
 ghost use Rattle.gw_trace.specs.Traces.{beginning, ending, reading};
 ghost use Rattle.gw_trace.specs.declared.record.Beginning.TheVariants.{Unfinished};
 ghost use Rattle.gw_trace.specs.Progress.{HasRead, Gives, IsRefused, fault_in, in_header, in_records, at_fault, read_on};
-ghost use Rattle.gw_trace.specs.Additions.{IsAdded};
+ghost use Rattle.gw_trace.specs.DecodedPieces.{IsDecoded};
 
-use crate::added;
-use crate::added::Added;
-use crate::held::Held;
-use crate::order::Order;
+use crate::byte_order::Endian;
+use crate::decoded_piece;
+use crate::decoded_piece::DecodedPiece;
+use crate::partial::Partial;
 use crate::refusal::TraceRefusal;
 use crate::stage::Stage;
 use gw_frame::Frame;
@@ -22,7 +22,7 @@ use std::marker::Model;
 #[derive(Drop)]
 pub struct Trace {
     pub(crate) stage: Stage,
-    pub(crate) held: Held,
+    pub(crate) partial: Partial,
     /// How many frames were given, up to 18446744073709551615.
     pub(crate) given: usize,
 }
@@ -32,9 +32,9 @@ impl Model for Trace {
 
     ghost Value = { Progress };
 
-    ghost view = { λ t. record { stage = t.stage; rest = t.held; given = t.given } };
+    ghost view = { λ t. record { stage = t.stage; rest = t.partial; given = t.given } };
 
-    ghost invariant = { λ t. IsKept t.stage t.held t.given };
+    ghost invariant = { λ t. IsKept t.stage t.partial t.given };
 }
 
 impl Trace {
@@ -42,7 +42,7 @@ impl Trace {
     pub fn new() -> Self
         ensures { HasRead result [] }
     {
-        Trace::beginning(Held::new())
+        Trace::beginning(Partial::new())
     }
 
     /// Reads the next piece, and gives the frames that become whole with it. A fault, 90 to 93, is the answer at once where
@@ -58,17 +58,17 @@ impl Trace {
         ensures unchanged { (octets : List ℕ) → HasRead self.old octets →
             result ≡ Err OutOfMemory → self.new ≡ self.old }
     {
-        let added = self.read_on(piece);
-        match added.refusal() {
+        let decoded = self.read_on(piece);
+        match decoded.refusal() {
             Some(fault) => {
-                *self = added.next;
+                *self = decoded.next;
                 Err(fault)
             }
             None => {
-                let Ok(mut frames) = Vec::with_capacity(alloc, added.len()) else {
+                let Ok(mut frames) = Vec::with_capacity(alloc, decoded.len()) else {
                     return Err(TraceRefusal::OutOfMemory);
                 };
-                *self = added.give(&mut frames);
+                *self = decoded.give(&mut frames);
                 Ok(frames)
             }
         }
@@ -83,7 +83,7 @@ impl Trace {
             Stage::Header => Err(TraceRefusal::Cut),
             Stage::Failed(fault) => Err(fault),
             Stage::Records(_) => {
-                if self.held.octets().is_empty() {
+                if self.partial.octets().is_empty() {
                     Ok(())
                 } else {
                     Err(TraceRefusal::Cut)
@@ -103,20 +103,25 @@ impl Trace {
         ensures read { (octets : List ℕ) → HasRead self.old octets →
             OnOk result (HasRead self.new (octets ++ piece.now)) }
     {
-        let added = self.read_on(piece);
-        frames.reserve(added.len())?;
-        *self = added.give(frames);
+        let decoded = self.read_on(piece);
+        frames.reserve(decoded.len())?;
+        *self = decoded.give(frames);
         Ok(())
     }
 
     // What a piece adds.
-    fn read_on<'a>(&self, piece: &'a [u8]) -> Added<'a>
-        ensures { IsAdded result self.now.given (read_on self.now piece.now) }
+    fn read_on<'a>(&self, piece: &'a [u8]) -> DecodedPiece<'a>
+        ensures { IsDecoded result self.now.given (read_on self.now piece.now) }
     {
         match self.stage {
-            Stage::Header => added::to_header(&self.held, piece),
-            Stage::Records(order) => added::to_records(order, self.given, &self.held, piece),
-            Stage::Failed(fault) => Added::nothing(Trace::failed(fault, self.given)),
+            Stage::Header => decoded_piece::decode_header(&self.partial, piece),
+            Stage::Records(order) => decoded_piece::decode_records(
+                order,
+                self.given,
+                &self.partial,
+                piece,
+            ),
+            Stage::Failed(fault) => DecodedPiece::nothing(Trace::failed(fault, self.given)),
         }
     }
 
@@ -131,25 +136,25 @@ impl Trace {
     }
 
     // A trace within its header.
-    pub(crate) fn beginning(held: Held) -> Trace
-        requires { length held < 24 }
-        ensures { result ≡ in_header held }
+    pub(crate) fn beginning(partial: Partial) -> Trace
+        requires { length partial < 24 }
+        ensures { result ≡ in_header partial }
     {
         Trace {
             stage: Stage::Header,
-            held,
+            partial,
             given: 0,
         }
     }
 
     // A trace behind its header, with the front of a record.
-    pub(crate) fn among(order: Order, held: Held, given: usize) -> Trace
-        requires { beginning order held ≡ Unfinished }
-        ensures { result ≡ in_records order held given }
+    pub(crate) fn among(order: Endian, partial: Partial, given: usize) -> Trace
+        requires { beginning order partial ≡ Unfinished }
+        ensures { result ≡ in_records order partial given }
     {
         Trace {
             stage: Stage::Records(order),
-            held,
+            partial,
             given,
         }
     }
@@ -160,7 +165,7 @@ impl Trace {
     {
         Trace {
             stage: Stage::Failed(fault),
-            held: Held::new(),
+            partial: Partial::new(),
             given,
         }
     }

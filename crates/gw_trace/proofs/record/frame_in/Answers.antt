@@ -2,7 +2,7 @@ use Rattle.std.proofs.Common.{sym, ap, ◌∙◌}
 use Rattle.gw_frame.specs.Record.{refusal_of}
 use Rattle.gw_trace.specs.Traces.{captured}
 use Rattle.gw_trace.proofs.Beginnings.{whole_of}
-use Rattle.gw_trace.proofs.Walked.{first_octets, read_ok, read_gives}
+use Rattle.gw_trace.proofs.Scanned.{first_octets, read_ok, read_gives}
 use Rattle.gw_trace.proofs.record.frame_in.Goals as goal
 
 pub unwrap-frame-requires : goal.unwrap-frame-requires

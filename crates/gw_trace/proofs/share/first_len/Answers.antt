@@ -1,6 +1,6 @@
 use Rattle.std.proofs.Common.{arith}
 use Rattle.gw_trace.proofs.Beginnings.{whole_of}
-use Rattle.gw_trace.proofs.Walked.{first_of_records}
+use Rattle.gw_trace.proofs.Scanned.{first_of_records}
 use Rattle.gw_trace.proofs.share.first_len.Goals as goal
 
 pub captured_len-requires : goal.captured_len-requires

@@ -1,6 +1,6 @@
 use Rattle.std.proofs.Common.{sym, ap, ◌∙◌}
 use Rattle.gw_frame.specs.Record.{refusal_of}
-use Rattle.gw_trace.proofs.Walked.{first_octets, first_is_frame, first_frames, first_others, read_ok, read_gives}
+use Rattle.gw_trace.proofs.Scanned.{first_octets, first_is_frame, first_frames, first_others, read_ok, read_gives}
 use Rattle.gw_trace.proofs.share.parted.Goals as goal
 
 pub unwrap-frame-requires : goal.unwrap-frame-requires

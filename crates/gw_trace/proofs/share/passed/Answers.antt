@@ -2,7 +2,7 @@ use Rattle.std.proofs.Common.{◌≡◌, ◌<◌, length, refl, arith}
 use Rattle.std.proofs.lemmas.Bool.Decides.{nat_tests}
 use Rattle.gw_trace.specs.Traces.{contents, captured, captured_length}
 use Rattle.gw_trace.proofs.Shared.{drop_one_more}
-use Rattle.gw_trace.proofs.Walked.{first_frames, first_others}
+use Rattle.gw_trace.proofs.Scanned.{first_frames, first_others}
 use Rattle.gw_trace.proofs.share.passed.Goals as goal
 
 pub longest-preserved : goal.longest-preserved

@@ -2,7 +2,7 @@ use Rattle.std.proofs.Common.{◌≡◌, ◌<◌, length, sym, refl, ◌∙◌, 
 use Rattle.std.proofs.lemmas.Bool.Decides.{nat_tests}
 use Rattle.gw_trace.specs.Traces.{contents, captured}
 use Rattle.gw_trace.proofs.Shared.{drop_one_more, drop_past}
-use Rattle.gw_trace.proofs.Walked.{empty_frames, first_frames, first_others}
+use Rattle.gw_trace.proofs.Scanned.{empty_frames, first_frames, first_others}
 use Rattle.gw_trace.proofs.share.passed_any.Goals as goal
 
 pub passed-preserved : goal.passed-preserved

@@ -1,5 +1,5 @@
 use Rattle.std.proofs.Common.{arith}
-use Rattle.gw_trace.proofs.Walked.{frames_fit}
+use Rattle.gw_trace.proofs.Scanned.{frames_fit}
 use Rattle.gw_trace.proofs.checked.Checked.len.Goals as goal
 
 pub returns-clause-few : goal.returns-clause-few

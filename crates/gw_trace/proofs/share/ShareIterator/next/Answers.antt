@@ -3,7 +3,7 @@ use Rattle.std.proofs.lemmas.Bool.Decides.{nat_tests}
 use Rattle.gw_trace.specs.Traces.{contents}
 use Rattle.gw_trace.specs.Shares.{every}
 use Rattle.gw_trace.proofs.Shared.{none_left, none_at_all, next_is}
-use Rattle.gw_trace.proofs.Walked.{empty_frames}
+use Rattle.gw_trace.proofs.Scanned.{empty_frames}
 use Rattle.gw_trace.proofs.share.ShareIterator.next.Goals as goal
 
 pub returns-then-is_empty-clause-steps : goal.returns-then-is_empty-clause-steps

@@ -1,6 +1,0 @@
-use Rattle.std.proofs.Common.{◌++◌, take, ap, ◌∙◌}
-use Rattle.gw_trace.proofs.Holding.{alone}
-use Rattle.gw_trace.proofs.held.Held.of.Goals as goal
-
-pub returns : goal.returns
-returns c = c.joined.ensures ∙ ap (λ xs. take 32 (xs ++ c.args.octets.now)) c.new.ensures ∙ alone 32 c.args.octets.now c.requires

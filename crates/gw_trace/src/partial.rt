@@ -1,0 +1,66 @@
+//! The front of a header or a record, until the rest comes.
+
+ghost use Rattle.std.specs.Prelude.{◌≡◌, ◌≤◌, ◌++◌, [], length, take};
+
+use std::marker::Model;
+
+/// The most octets of a header or a record that is not whole yet: a record of 16 octets behind its header.
+pub const MAX_PARTIAL: usize = 32;
+
+/// Up to 32 octets.
+#[derive(Drop)]
+pub struct Partial {
+    octets: [u8; MAX_PARTIAL],
+    len: usize,
+}
+
+impl Model for Partial {
+    ghost use Rattle.std.specs.Prelude.{◌≤◌, ℕ, List, take};
+
+    ghost Value = { List ℕ };
+
+    ghost view = { λ h. take h.len h.octets };
+
+    ghost invariant = { λ h. h.len ≤ 32 };
+}
+
+impl Partial {
+    /// No octets.
+    pub fn new() -> Self
+        ensures { result ≡ [] }
+    {
+        Partial {
+            octets: [0; MAX_PARTIAL],
+            len: 0,
+        }
+    }
+
+    /// These octets, of which there are few enough.
+    pub fn of(octets: &[u8]) -> Self
+        requires { length octets.now ≤ MAX_PARTIAL }
+        ensures { result ≡ octets.now }
+    {
+        Partial::new().joined(octets, MAX_PARTIAL)
+    }
+
+    /// The octets.
+    pub fn octets(&self) -> &[u8]
+        ensures octets { result.now ≡ self.now }
+        ensures len { length result.now ≤ 32 }
+    {
+        &self.octets[..self.len]
+    }
+
+    /// The octets, and a piece behind them: so many at most.
+    pub fn joined(&self, piece: &[u8], most: usize) -> Partial
+        requires within { length self.now ≤ most }
+        requires room { most ≤ MAX_PARTIAL }
+        ensures { result ≡ take most (self.now ++ piece.now) }
+    {
+        let mut octets = self.octets;
+        let more = piece.len().min(most - self.len);
+        let len = self.len + more;
+        octets[self.len..len].copy_from_slice(&piece[..more]);
+        Partial { octets, len }
+    }
+}
