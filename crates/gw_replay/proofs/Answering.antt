@@ -7,21 +7,21 @@ use Rattle.gw_replay.specs.declared.fault.Fault.TheVariants.{Record}
 use Rattle.gw_replay.specs.declared.fault.Fault.TheVariants.{Listing, Program, NoHex, NoUtf8, Table, SamePort, FullBatch}
 use Rattle.gw_replay.specs.declared.fault.Fault.TheVariants.{OutOfMemory}
 use Rattle.gw_replay.specs.declared.fault.Fault.TheVariants.{Event as EventFault}
-use Rattle.gw_replay.specs.declared.running.Running.{Running}
+use Rattle.gw_replay.specs.declared.session.Session.{Session}
 use Rattle.gw_replay.specs.Faults.{UnlessMemory, line_of}
 use Rattle.gw_replay.specs.Requests.{Request}
-use Rattle.gw_replay.specs.Replies.{Session}
+use Rattle.gw_replay.specs.Replies.{SessionState}
 use Rattle.gw_replay.specs.Scripts.{asks, meaning_of, Answers}
-use Rattle.gw_replay.specs.Standing.{IsRunning, IsDone, Done, Begins, StandsIn, IsObeyed, IsAnswered}
+use Rattle.gw_replay.specs.Standing.{HasState, IsDone, Done, Begins, StandsIn, IsObeyed, IsAnswered}
 use Rattle.gw_replay.proofs.Sessions.{unless_map}
 
 -- a command of a gateway
-pub obeyed_on : (s : Option Session) (running : Option Running) (old new : Running) (request : Request)
-    (said : Result (List ℕ) Fault) → running ≡ Some old → StandsIn running s
-    → ((t : Session) → IsRunning old t → Done t request said new)
+pub obeyed_on : (s : Option SessionState) (session : Option Session) (old new : Session) (request : Request)
+    (said : Result (List ℕ) Fault) → session ≡ Some old → StandsIn session s
+    → ((t : SessionState) → HasState old t → Done t request said new)
     → UnlessMemory said (λ kept. IsObeyed s request kept (Some new))
-obeyed_on None running old new request said is stands done = absurd (subst (λ r. StandsIn r None) is stands)
-obeyed_on (Some t) running old new request said is stands done =
+obeyed_on None session old new request said is stands done = absurd (subst (λ r. StandsIn r None) is stands)
+obeyed_on (Some t) session old new request said is stands done =
     unless_map said (λ kept. IsDone t request kept new) (λ kept. IsObeyed (Some t) request kept (Some new))
     (done t (subst (λ r. StandsIn r (Some t)) is stands))
     (λ kept d. record {
@@ -31,19 +31,19 @@ obeyed_on (Some t) running old new request said is stands done =
     })
 
 -- the first command
-pub obeyed_first : (s : Option Session) (running : Option Running) (new : Running) (request : Request) (line : List ℕ)
-    → running ≡ None → StandsIn running s → Begins request new → line ≡ codes "limits\n"
+pub obeyed_first : (s : Option SessionState) (session : Option Session) (new : Session) (request : Request) (line : List ℕ)
+    → session ≡ None → StandsIn session s → Begins request new → line ≡ codes "limits\n"
     → IsObeyed s request (Ok line) (Some new)
-obeyed_first None running new request line is stands b text = record {
+obeyed_first None session new request line is stands b text = record {
   session = Some b.session;
   obeys = ap (λ known. record { text = known; session = Some b.session }) text ∙ sym b.told;
   stands = b.stands;
 }
-obeyed_first (Some t) running new request line is stands b text = absurd (subst (λ r. StandsIn r (Some t)) is stands)
+obeyed_first (Some t) session new request line is stands b text = absurd (subst (λ r. StandsIn r (Some t)) is stands)
 
 -- the line of a command
-pub answered_by : (s : Option Session) (line : List ℕ) (request : Request) (said : Result (List ℕ) Fault)
-    (new : Option Running) → meaning_of line ≡ asks request → IsObeyed s request said new
+pub answered_by : (s : Option SessionState) (line : List ℕ) (request : Request) (said : Result (List ℕ) Fault)
+    (new : Option Session) → meaning_of line ≡ asks request → IsObeyed s request said new
     → IsAnswered s line (line_of said) new
 answered_by s line request said new means h = record {
   session = h.session;

@@ -10,7 +10,7 @@ use Rattle.gw_replay.specs.Faults.{line_of}
 use Rattle.gw_input.specs.Refused.{refused_line}
 use Rattle.gw_input.specs.Lines.{lines_of}
 use Rattle.gw_replay.specs.Requests.{Request, limits_of, program_of, table_of, publish_all, take_at, step_at, send_to, ledger_of}
-use Rattle.gw_replay.specs.Replies.{Session, Reply, Replies, after_event, after_taking, after_joining, joined_line}
+use Rattle.gw_replay.specs.Replies.{SessionState, Reply, Replies, after_event, after_taking, after_joining, joined_line}
 use Rattle.gw_replay.specs.Scripts.{Meaning, silent, wrong, asks, meaning_of, Told, Obeys, Answers, AreAnswers, IsAnswer}
 use Rattle.gw_replay.specs.Scripts.{BeginsAnswer}
 use Rattle.gw_replay.proofs.OneRead.{OneRefusal, told_policy, told_record, program_alone, table_alone, record_alone}
@@ -20,40 +20,41 @@ abbrev told_of : Reply → Told
 told_of reply = record { text = line_of reply.said; session = Some reply.session }
 
 -- what a script tells of a policy that was read: it joins the open batch, or the line of its refusal
-abbrev joined : Session → List ℕ → ℕ → Result Filter (List ℕ) → Told
+abbrev joined : SessionState → List ℕ → ℕ → Result Filter (List ℕ) → Told
 joined s line port (Ok filter) = told_of (after_joining s line port (Ok filter))
 joined s line port (Err text) = record { text = text; session = Some s }
 
 -- the reply to a policy depends on what was read only as far as a script tells that
-joins : (s : Session) (line : List ℕ) (port : ℕ) (read : Result Filter Fault)
+joins : (s : SessionState) (line : List ℕ) (port : ℕ) (read : Result Filter Fault)
     → told_of (after_joining s line port read) ≡ joined s line port (told_policy read)
 joins s line port (Ok filter) = refl
 joins s line port (Err why) = refl
 
 -- so readings that are told alike have one reply
-join_alone : (s : Session) (line : List ℕ) (port : ℕ) (read other : Result Filter Fault) → told_policy read ≡ told_policy other
+join_alone : (s : SessionState) (line : List ℕ) (port : ℕ) (read other : Result Filter Fault)
+    → told_policy read ≡ told_policy other
     → told_of (after_joining s line port read) ≡ told_of (after_joining s line port other)
 join_alone s line port read other same =
     joins s line port read ∙ ap (joined s line port) same ∙ sym (joins s line port other)
 
 -- what a script tells of a record that was read: the answer to its taking, or the number of its fault
-abbrev taken : Session → ℕ → Result (List ℕ) ℕ → Told
+abbrev taken : SessionState → ℕ → Result (List ℕ) ℕ → Told
 taken s port (Ok octets) = told_of (after_event s (event.Take port octets))
 taken s port (Err number) = record { text = refused_line number []; session = Some s }
 
 -- the reply to a record depends on what was read only as far as a script tells that
-takes : (s : Session) (port : ℕ) (read : Result (List ℕ) RecordFault)
+takes : (s : SessionState) (port : ℕ) (read : Result (List ℕ) RecordFault)
     → told_of (after_taking s port read) ≡ taken s port (told_record read)
 takes s port (Ok octets) = refl
 takes s port (Err why) = refl
 
 -- so readings that are told alike have one reply
-take_alone : (s : Session) (port : ℕ) (read other : Result (List ℕ) RecordFault) → told_record read ≡ told_record other
+take_alone : (s : SessionState) (port : ℕ) (read other : Result (List ℕ) RecordFault) → told_record read ≡ told_record other
     → told_of (after_taking s port read) ≡ told_of (after_taking s port other)
 take_alone s port read other same = takes s port read ∙ ap (taken s port) same ∙ sym (takes s port other)
 
 -- a command has one reply
-replies_alone : OneRefusal → (s : Session) (request : Request) (p q : Reply) → Replies s request p → Replies s request q
+replies_alone : OneRefusal → (s : SessionState) (request : Request) (p q : Reply) → Replies s request p → Replies s request q
     → told_of p ≡ told_of q
 replies_alone law s (limits_of ports lane versions frames) p q h k = ap told_of (h ∙ sym k)
 replies_alone law s (program_of port listing) p q h k =
@@ -72,13 +73,14 @@ replies_alone law s (send_to to from) p q h k = ap told_of (h ∙ sym k)
 replies_alone law s (ledger_of port) p q h k = ap told_of (h ∙ sym k)
 
 -- a line has one answer
-answers_alone : OneRefusal → (s : Option Session) (meaning : Meaning) (a b : Told) → Answers s meaning a → Answers s meaning b
+answers_alone : OneRefusal → (s : Option SessionState) (meaning : Meaning) (a b : Told) → Answers s meaning a
+    → Answers s meaning b
     → a ≡ b
 answers_alone law s silent a b h k = h ∙ sym k
 answers_alone law s (wrong fault) a b h k = h ∙ sym k
 answers_alone law s (asks request) a b h k = obeyed s h k
   where
-    obeyed : (s : Option Session) → Obeys s request a → Obeys s request b → a ≡ b
+    obeyed : (s : Option SessionState) → Obeys s request a → Obeys s request b → a ≡ b
     obeyed None h k = h ∙ sym k
     obeyed (Some s) h k = h.2 ∙ replies_alone law s request h.0 k.0 h.1 k.1 ∙ sym k.2
 

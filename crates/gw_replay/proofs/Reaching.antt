@@ -6,7 +6,7 @@ use Rattle.std.proofs.lemmas.Bool.{false≢true}
 use Rattle.std.specs.Prelude.{option_copied, OnErr, OnOk, is_ok, is_err, if◌then◌else◌}
 use Rattle.std.proofs.lemmas.List.Elements.{All-append, All-nil}
 use Rattle.gw_input.specs.Lines.{is_line_feed, without_return, ended_line, lines_of}
-use Rattle.gw_replay.specs.Replies.{Session}
+use Rattle.gw_replay.specs.Replies.{SessionState}
 use Rattle.gw_replay.specs.Scripts.{meaning_of, Told, Answers, AreAnswers, BeginsAnswer, IsAnswer}
 use Rattle.gw_replay.specs.Standing.{StandsIn, IsAnswered}
 use Rattle.gw_replay.specs.Reached.{joined, HasNoEnd, HasReached, AnswersKept, most_kept, Passes}
@@ -14,13 +14,13 @@ use Rattle.gw_replay.specs.Reached.{FeedsLine, FedSo}
 use Rattle.std.specs.Borrow.{Bor}
 use Rattle.std.specs.List.{position_or_len}
 use Rattle.std.proofs.lemmas.List.{take_all}
-use Rattle.gw_replay.specs.declared.progress.Progress.{Progress}
+use Rattle.gw_replay.specs.declared.script_reader.ScriptReader.{ScriptReader}
 use Rattle.gw_replay.proofs.CutLines.{before_end, cut_at}
 use Rattle.gw_replay.proofs.CutLines.{lines_behind, one_line, joined_more, whole_more, newest_first, last_first}
 use Rattle.gw_replay.proofs.KeptLines.{kept_means, kept_more}
 
 -- nothing was read
-pub reached_nothing : (p : Progress) → p.kept.items ≡ [] → p.script.running ≡ None → HasReached [] p []
+pub reached_nothing : (p : ScriptReader) → p.kept.items ≡ [] → p.script.session ≡ None → HasReached [] p []
 reached_nothing p empty first = record {
   lines = [];
   rest = [];
@@ -30,11 +30,11 @@ reached_nothing p empty first = record {
   kept = empty;
   session = None;
   answers = refl;
-  stands = subst (λ running. StandsIn running None) (sym first) tt;
+  stands = subst (λ state. StandsIn state None) (sym first) tt;
 }
 
 -- the answers stand in front of whatever follows
-pub begins : (octets more text : List ℕ) (p : Progress) → HasReached octets p text → BeginsAnswer (octets ++ more) text
+pub begins : (octets more text : List ℕ) (p : ScriptReader) → HasReached octets p text → BeginsAnswer (octets ++ more) text
 begins octets more text p h = record {
   first = map without_return h.lines;
   later = lines_of (h.rest ++ more);
@@ -45,7 +45,7 @@ begins octets more text p h = record {
 }
 
 -- the same state under other answers
-pub reached_same : (octets text : List ℕ) (p q : Progress) → HasReached octets p text → q.script ≡ p.script
+pub reached_same : (octets text : List ℕ) (p q : ScriptReader) → HasReached octets p text → q.script ≡ p.script
     → q.kept.items ≡ p.kept.items → HasReached octets q text
 reached_same octets text p q h script kept = record {
   lines = h.lines;
@@ -56,11 +56,11 @@ reached_same octets text p q h script kept = record {
   kept = kept ∙ h.kept;
   session = h.session;
   answers = h.answers;
-  stands = subst (λ s. StandsIn s.running h.session) (sym script) h.stands;
+  stands = subst (λ s. StandsIn s.session h.session) (sym script) h.stands;
 }
 
 -- more octets without a line feed
-pub reached_part : (octets part text : List ℕ) (p q : Progress) → HasReached octets p text → HasNoEnd part
+pub reached_part : (octets part text : List ℕ) (p q : ScriptReader) → HasReached octets p text → HasNoEnd part
     → q.kept.items ≡ p.kept.items ++ take (most_kept - length p.kept.items) part
     → q.script ≡ p.script → HasReached (octets ++ part) q text
 reached_part octets part text p q h ended kept script = record {
@@ -72,17 +72,17 @@ reached_part octets part text p q h ended kept script = record {
   kept = kept ∙ ap (λ before. before ++ take (most_kept - length before) part) h.kept ∙ kept_more most_kept h.rest part;
   session = h.session;
   answers = h.answers;
-  stands = subst (λ s. StandsIn s.running h.session) (sym script) h.stands;
+  stands = subst (λ s. StandsIn s.session h.session) (sym script) h.stands;
 }
 
 -- the answer of what is kept is that of the line
-pub kept_answers : (s : Option Session) (ended : Bool) (kept rest : List ℕ) (told : Told) → kept ≡ take most_kept rest
+pub kept_answers : (s : Option SessionState) (ended : Bool) (kept rest : List ℕ) (told : Told) → kept ≡ take most_kept rest
     → Answers s (meaning_of (ended_line ended kept)) told → Answers s (meaning_of (ended_line ended rest)) told
 kept_answers s ended kept rest told is =
     subst (λ meaning. Answers s meaning told) (ap (λ line. meaning_of (ended_line ended line)) is ∙ kept_means ended rest)
 
 -- one answer more
-pub answers_more : (before : List (List ℕ)) (line text one : List ℕ) (s t : Option Session)
+pub answers_more : (before : List (List ℕ)) (line text one : List ℕ) (s t : Option SessionState)
     → AreAnswers before (record { text = text; session = s })
     → Answers s (meaning_of line) (record { text = one; session = t })
     → AreAnswers (line ∷ before) (record { text = text ++ one; session = t })
@@ -90,7 +90,7 @@ answers_more before line text one s t earlier answer =
     (record { text = text; session = s }, record { text = one; session = t }, earlier, answer, refl)
 
 -- a line feed ends the line that is kept
-pub reached_line : (octets before : List ℕ) (p mid q : Progress) → (h : HasReached octets p (before ++ p.answers.items))
+pub reached_line : (octets before : List ℕ) (p mid q : ScriptReader) → (h : HasReached octets p (before ++ p.answers.items))
     → AnswersKept h.session (ended_line true p.kept.items) p mid → q.script ≡ mid.script → q.answers.items ≡ mid.answers.items
     → q.kept.items ≡ []
     → HasReached (octets ++ 10 ∷ []) q (before ++ q.answers.items)
@@ -113,11 +113,11 @@ reached_line octets before p mid q h a script answers empty = record {
       (sym (newest_first h.lines h.rest))
       (subst (λ said. AreAnswers (without_return h.rest ∷ reverse (map without_return h.lines))
       (record { text = said; session = a.session })) all told);
-  stands = subst (λ s. StandsIn s.running a.session) (sym script) a.stands;
+  stands = subst (λ s. StandsIn s.session a.session) (sym script) a.stands;
 }
 
 -- the script's end ends it
-pub whole_answer : (octets before : List ℕ) (p mid : Progress) → (h : HasReached octets p (before ++ p.answers.items))
+pub whole_answer : (octets before : List ℕ) (p mid : ScriptReader) → (h : HasReached octets p (before ++ p.answers.items))
     → AnswersKept h.session (ended_line false p.kept.items) p mid
     → IsAnswer octets (before ++ mid.answers.items)
 whole_answer octets before p mid h a =
@@ -149,8 +149,8 @@ all_begin octets text h = record {
 }
 
 -- a line was answered with a text, which stands behind the answers so far
-pub kept_said : (s : Option Session) (line known text : List ℕ) (old new : Progress) → line ≡ known
-    → IsAnswered s line text new.script.running → new.answers.items ≡ old.answers.items ++ text → AnswersKept s known old new
+pub kept_said : (s : Option SessionState) (line known text : List ℕ) (old new : ScriptReader) → line ≡ known
+    → IsAnswered s line text new.script.session → new.answers.items ≡ old.answers.items ++ text → AnswersKept s known old new
 kept_said s line known text old new is h appended = record {
   text = text;
   session = h.session;
@@ -166,7 +166,7 @@ on_extended (Ok done) old more new items follows = follows items
 on_extended (Err e) old more new items follows = tt
 
 -- an unfinished text was kept
-pub part_kept : (octets text before : List ℕ) (end : ℕ) (p mid : Progress) → HasReached octets p (before ++ p.answers.items)
+pub part_kept : (octets text before : List ℕ) (end : ℕ) (p mid : ScriptReader) → HasReached octets p (before ++ p.answers.items)
     → end ≡ position_or_len is_line_feed text
     → mid.kept.items ≡ p.kept.items ++ take (most_kept - length p.kept.items) (take end text) → mid.script ≡ p.script
     → mid.answers ≡ p.answers
@@ -176,7 +176,7 @@ part_kept octets text before end p mid h at kept script answers =
     (reached_part octets (take end text) (before ++ p.answers.items) p mid h (before_end text end at) kept script)
 
 -- a text without a line feed was kept
-pub text_kept : (octets text before : List ℕ) (end : ℕ) (p mid : Progress) → HasReached octets p (before ++ p.answers.items)
+pub text_kept : (octets text before : List ℕ) (end : ℕ) (p mid : ScriptReader) → HasReached octets p (before ++ p.answers.items)
     → end ≡ position_or_len is_line_feed text → end ≡ length text
     → mid.kept.items ≡ p.kept.items ++ take (most_kept - length p.kept.items) (take end text) → mid.script ≡ p.script
     → mid.answers ≡ p.answers
@@ -186,12 +186,12 @@ text_kept octets text before end p mid h at all kept script answers =
     (part_kept octets text before end p mid h at kept script answers)
 
 -- a text with a line feed was answered up to it
-pub line_passed : (octets text before behind : List ℕ) (end : ℕ) (p mid last next : Progress)
+pub line_passed : (octets text before behind : List ℕ) (end : ℕ) (p mid last next : ScriptReader)
     → HasReached octets p (before ++ p.answers.items)
     → end ≡ position_or_len is_line_feed text → end < length text → behind ≡ drop (end + 1) text
     → mid.kept.items ≡ p.kept.items ++ take (most_kept - length p.kept.items) (take end text) → mid.script ≡ p.script
     → mid.answers ≡ p.answers
-    → ((s : Option Session) → StandsIn mid.script.running s → AnswersKept s (ended_line true mid.kept.items) mid last)
+    → ((s : Option SessionState) → StandsIn mid.script.session s → AnswersKept s (ended_line true mid.kept.items) mid last)
     → next.script ≡ last.script → next.answers.items ≡ last.answers.items → next.kept.items ≡ []
     → Passes octets text before behind next
 line_passed octets text before behind end p mid last next h at within follows kept script answers answered same said empty =
@@ -207,14 +207,14 @@ line_passed octets text before behind end p mid last next h at within follows ke
     }
 
 -- memory was refused for it
-pub line_refused : (octets text before : List ℕ) (p new : Progress) → HasReached octets p (before ++ p.answers.items)
+pub line_refused : (octets text before : List ℕ) (p new : ScriptReader) → HasReached octets p (before ++ p.answers.items)
     → new.answers.items ≡ p.answers.items → BeginsAnswer (octets ++ text) (before ++ new.answers.items)
 line_refused octets text before p new h same =
     subst (λ said. BeginsAnswer (octets ++ text) (before ++ said)) (sym same)
     (begins octets text (before ++ p.answers.items) p h)
 
 -- one line more of a piece
-pub fed_more : (E : Type 0) (octets piece text t : List ℕ) (r : Option (Bor (List ℕ))) (mid new : Progress)
+pub fed_more : (E : Type 0) (octets piece text t : List ℕ) (r : Option (Bor (List ℕ))) (mid new : ScriptReader)
     → FedSo octets piece text (Some t) mid
     → ((o b : List ℕ) → HasReached o mid (b ++ mid.answers.items) → FeedsLine {E = E} o t b (Ok r) new)
     → FedSo octets piece text (option_copied r) new
@@ -229,7 +229,7 @@ fed_more E octets piece text t (Some behind) mid new so line =
     )
 
 -- memory was refused for one
-pub fed_no_more : (octets piece text t : List ℕ) (mid new : Progress)
+pub fed_no_more : (octets piece text t : List ℕ) (mid new : ScriptReader)
     → FedSo octets piece text (Some t) mid
     → ((o b : List ℕ) → HasReached o mid (b ++ mid.answers.items)
     → BeginsAnswer (o ++ t) (b ++ new.answers.items))
@@ -239,15 +239,15 @@ fed_no_more octets piece text t mid new so line =
     (append_assoc octets so.0 t ∙ ap (λ known. octets ++ known) (sym so.1)) (line (octets ++ so.0) text so.2)
 
 -- nothing of a piece was read yet
-pub fed_nothing : (octets piece text : List ℕ) (p : Progress) → HasReached octets p (text ++ p.answers.items)
+pub fed_nothing : (octets piece text : List ℕ) (p : ScriptReader) → HasReached octets p (text ++ p.answers.items)
     → FedSo octets piece text (Some piece) p
 fed_nothing octets piece text p h =
     ([], refl, subst (λ known. HasReached known p (text ++ p.answers.items)) (sym (append-nil octets)) h)
 
 -- the last line was answered, or memory was refused for it
-pub last_begins : {A E : Type 0} (r : Result A E) (octets text : List ℕ) (p mid : Progress)
+pub last_begins : {A E : Type 0} (r : Result A E) (octets text : List ℕ) (p mid : ScriptReader)
     → HasReached octets p (text ++ p.answers.items)
-    → ((s : Option Session) → StandsIn p.script.running s → OnOk r (AnswersKept s (ended_line false p.kept.items) p mid))
+    → ((s : Option SessionState) → StandsIn p.script.session s → OnOk r (AnswersKept s (ended_line false p.kept.items) p mid))
     → OnErr r (mid.answers.items ≡ p.answers.items)
     → BeginsAnswer octets (text ++ mid.answers.items)
 last_begins (Ok done) octets text p mid h answered same =

@@ -7,7 +7,7 @@ use Rattle.gw_replay.specs.Faults.{line_of}
 use Rattle.gw_input.specs.Lines.{lines_of}
 use Rattle.gw_replay.specs.Requests.{request_of, limits_of, program_of, table_of, publish_all, take_at, step_at, send_to}
 use Rattle.gw_replay.specs.Requests.{ledger_of}
-use Rattle.gw_replay.specs.Replies.{Session, after_event, ledger_said}
+use Rattle.gw_replay.specs.Replies.{SessionState, after_event, ledger_said}
 use Rattle.gw_replay.specs.Scripts.{meaning_of, silent, wrong, first_told, new_session}
 
 -- lines, and what a carriage return belongs to
@@ -94,7 +94,7 @@ unfolding digits
 accepted = refl
 
 -- a gateway of two ports before any event
-abbrev fresh : Session
+abbrev fresh : SessionState
 fresh = new_session (record { ports = 2; lane = 1; versions = 1; frames = 1 })
 
 first_taken : line_of (after_event fresh (event.Take 0 (140 ∷ 240 ∷ 4 ∷ 0 ∷ 0 ∷ 0 ∷ 0 ∷ 0 ∷ []))).said ≡ codes "taken 0 0\n"

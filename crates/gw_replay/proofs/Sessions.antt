@@ -12,14 +12,14 @@ use Rattle.gw_replay.specs.declared.fault.Fault.TheVariants.{Record}
 use Rattle.gw_replay.specs.declared.fault.Fault.TheVariants.{Listing, Program, NoHex, NoUtf8, Table, SamePort, FullBatch}
 use Rattle.gw_replay.specs.declared.fault.Fault.TheVariants.{OutOfMemory}
 use Rattle.gw_replay.specs.declared.fault.Fault.TheVariants.{Event as EventFault}
-use Rattle.gw_replay.specs.declared.running.Running.{Running}
+use Rattle.gw_replay.specs.declared.session.Session.{Session}
 use Rattle.gw_replay.specs.Faults.{UnlessMemory}
 use Rattle.gw_replay.specs.Policies.{IsProgramText, IsTableHex}
 use Rattle.gw_input.specs.Records.{IsRecordText}
 use Rattle.gw_replay.specs.Requests.{Request, program_of, table_of, publish_all, take_at}
-use Rattle.gw_replay.specs.Replies.{Session, Reply, Replies, after_event, after_joining}
+use Rattle.gw_replay.specs.Replies.{SessionState, Reply, Replies, after_event, after_joining}
 use Rattle.gw_replay.specs.Replies.{join_fault, joined_line, pair_for}
-use Rattle.gw_replay.specs.Standing.{IsRunning, Happened, IsDone, Done}
+use Rattle.gw_replay.specs.Standing.{HasState, Happened, IsDone, Done}
 
 -- what holds anyhow holds unless memory was wanting
 pub unless_memory : {A : Type 0} (said : Result A Fault) (P : Result A Fault → Type 0) → P said → UnlessMemory said P
@@ -68,7 +68,8 @@ unless_map (Ok line) P Q known then = then (Ok line) known
 unless_map (Err why) P Q known then = unless_then why P Q known (then (Err why))
 
 -- a command that is one event
-done_by : (s t : Session) (e : Event) (request : Request) (said : Result (List ℕ) Fault) (new : Running) → Happened t e said new
+done_by : (s t : SessionState) (e : Event) (request : Request) (said : Result (List ℕ) Fault) (new : Session)
+    → Happened t e said new
     → ((r : Reply) → r ≡ after_event t e → Replies s request r) → Done s request said new
 done_by s t e request said new h replies =
     unless_memory said (λ kept. IsDone s request kept new)
@@ -80,13 +81,13 @@ done_by s t e request said new h replies =
     })
 
 -- a frame that was taken
-pub take_done : (s : Session) (port : ℕ) (hex octets : List ℕ) (said : Result (List ℕ) Fault) (new : Running)
+pub take_done : (s : SessionState) (port : ℕ) (hex octets : List ℕ) (said : Result (List ℕ) Fault) (new : Session)
     → IsRecordText hex (Ok octets) → Happened s (event.Take port octets) said new → Done s (take_at port hex) said new
 take_done s port hex octets said new text h =
     done_by s s (event.Take port octets) (take_at port hex) said new h (λ r same. (Ok octets, text, same))
 
 -- a batch that was published
-pub publish_done : (s : Session) (batch : List Pair) (said : Result (List ℕ) Fault) (new : Running) → batch ≡ s.batch
+pub publish_done : (s : SessionState) (batch : List Pair) (said : Result (List ℕ) Fault) (new : Session) → batch ≡ s.batch
     → Happened (record s { batch = [] }) (event.Publish batch) said new
     → Done s publish_all said new
 publish_done s batch said new is h =
@@ -94,50 +95,50 @@ publish_done s batch said new is h =
     (subst (λ pairs. Happened (record s { batch = [] }) (event.Publish pairs) said new) is h) (λ r same. same)
 
 -- a policy that was read joins the batch
-joined_text : (s : Session) (line : List ℕ) (port : ℕ) (filter : Filter) → join_fault port s.batch ≡ None
+joined_text : (s : SessionState) (line : List ℕ) (port : ℕ) (filter : Filter) → join_fault port s.batch ≡ None
     → record { said = Ok line; session = record s { batch = s.batch ++ pair_for port filter ∷ [] } }
     ≡ after_joining s line port (Ok filter)
 joined_text s line port filter free = rw free refl
 
-running_with : (s : Session) (port : ℕ) (filter : Filter) (old new : Running) → IsRunning old s → new.limits ≡ old.limits
+state_with : (s : SessionState) (port : ℕ) (filter : Filter) (old new : Session) → HasState old s → new.limits ≡ old.limits
     → new.core ≡ old.core → new.batch ≡ old.batch ++ pair_for port filter ∷ []
-    → IsRunning new (record s { batch = s.batch ++ pair_for port filter ∷ [] })
-running_with s port filter old new running limits core batch = record {
-  limits = limits ∙ running.limits;
-  core = ap (λ core. core.limits) core ∙ running.core;
-  batch = batch ∙ ap (λ before. before ++ pair_for port filter ∷ []) running.batch;
-  stands = subst (λ core. Stands core s.history) (sym core) running.stands;
+    → HasState new (record s { batch = s.batch ++ pair_for port filter ∷ [] })
+state_with s port filter old new state limits core batch = record {
+  limits = limits ∙ state.limits;
+  core = ap (λ core. core.limits) core ∙ state.core;
+  batch = batch ∙ ap (λ before. before ++ pair_for port filter ∷ []) state.batch;
+  stands = subst (λ core. Stands core s.history) (sym core) state.stands;
 }
 
 -- a program that joined, and a table
-pub program_joined : (s : Session) (port : ℕ) (listing : List ℕ) (filter : Filter) (line : List ℕ) (old new : Running)
-    → IsRunning old s
+pub program_joined : (s : SessionState) (port : ℕ) (listing : List ℕ) (filter : Filter) (line : List ℕ) (old new : Session)
+    → HasState old s
     → IsProgramText listing (Ok filter) → join_fault port old.batch ≡ None → new.limits ≡ old.limits → new.core ≡ old.core
     → new.batch ≡ old.batch ++ pair_for port filter ∷ [] → line ≡ joined_line (codes "program ") port
     → Done s (program_of port listing) (Ok line) new
-program_joined s port listing filter line old new running means free limits core batch same = record {
+program_joined s port listing filter line old new state means free limits core batch same = record {
   session = record s { batch = s.batch ++ pair_for port filter ∷ [] };
   replies = (
     Ok filter,
     means,
     ap (λ said. record { said = Ok said; session = record s { batch = s.batch ++ pair_for port filter ∷ [] } }) same
-        ∙ joined_text s (joined_line (codes "program ") port) port filter (ap (join_fault port) (sym running.batch) ∙ free),
+        ∙ joined_text s (joined_line (codes "program ") port) port filter (ap (join_fault port) (sym state.batch) ∙ free),
   );
-  stands = running_with s port filter old new running limits core batch;
+  stands = state_with s port filter old new state limits core batch;
 }
 
-pub table_joined : (s : Session) (port : ℕ) (hex : List ℕ) (filter : Filter) (line : List ℕ) (old new : Running)
-    → IsRunning old s
+pub table_joined : (s : SessionState) (port : ℕ) (hex : List ℕ) (filter : Filter) (line : List ℕ) (old new : Session)
+    → HasState old s
     → IsTableHex hex (Ok filter) → join_fault port old.batch ≡ None → new.limits ≡ old.limits → new.core ≡ old.core
     → new.batch ≡ old.batch ++ pair_for port filter ∷ [] → line ≡ joined_line (codes "table ") port
     → Done s (table_of port hex) (Ok line) new
-table_joined s port hex filter line old new running means free limits core batch same = record {
+table_joined s port hex filter line old new state means free limits core batch same = record {
   session = record s { batch = s.batch ++ pair_for port filter ∷ [] };
   replies = (
     Ok filter,
     means,
     ap (λ said. record { said = Ok said; session = record s { batch = s.batch ++ pair_for port filter ∷ [] } }) same
-        ∙ joined_text s (joined_line (codes "table ") port) port filter (ap (join_fault port) (sym running.batch) ∙ free),
+        ∙ joined_text s (joined_line (codes "table ") port) port filter (ap (join_fault port) (sym state.batch) ∙ free),
   );
-  stands = running_with s port filter old new running limits core batch;
+  stands = state_with s port filter old new state limits core batch;
 }

@@ -4,7 +4,7 @@ use Rattle.std.proofs.Common.{Result, Ok, Err, sym, ap, ◌∙◌, subst, append
 use Rattle.std.specs.Prelude.{is_err, OnOk, OnErr}
 use Rattle.std.specs.Io.KnownBytes.{Appends, Consumes, Keeps, IsAtEnd}
 use Rattle.std.proofs.Math.Seq.{take-append-add}
-use Rattle.gw_replay.specs.declared.progress.Progress.{Progress}
+use Rattle.gw_replay.specs.declared.script_reader.ScriptReader.{ScriptReader}
 use Rattle.gw_replay.specs.declared.whole.ReplayFault.{ReplayFault}
 use Rattle.gw_replay.specs.Scripts.{BeginsAnswer}
 use Rattle.gw_io.specs.Written.{WritesPart}
@@ -22,26 +22,26 @@ part_behind a b c text more h part = (
 )
 
 -- what a feed wants
-reached_on : {a b w x : Option (List ℕ)} {p : Progress} → (h : IsUnderWay a b w x p)
+reached_on : {a b w x : Option (List ℕ)} {p : ScriptReader} → (h : IsUnderWay a b w x p)
     → HasReached h.octets p (h.text ++ p.answers.items)
 reached_on {a} {b} {w} {x} {p} h =
     subst (HasReached h.octets p) (sym (ap (λ said. h.text ++ said) h.empty ∙ append-nil h.text)) h.reached
 
-fed_whole : {A E : Type 0} (r : Result A E) (octets piece text : List ℕ) (q : Progress) → is_err r ≡ false
+fed_whole : {A E : Type 0} (r : Result A E) (octets piece text : List ℕ) (q : ScriptReader) → is_err r ≡ false
     → HasFed octets piece text r q → HasReached (octets ++ piece) q (text ++ q.answers.items)
 fed_whole (Ok done) octets piece text q fine h = h
 fed_whole (Err e) octets piece text q fine h = absurd (true≢false fine)
 
-all_of : (octets text : List ℕ) (q : Progress) → HasReached octets q text → BeginsAnswer octets text
+all_of : (octets text : List ℕ) (q : ScriptReader) → HasReached octets q text → BeginsAnswer octets text
 all_of octets text q h = subst (λ known. BeginsAnswer known text) (append-nil octets) (begins octets [] text q h)
 
-fed_begins : {A E : Type 0} (r : Result A E) (octets piece text : List ℕ) (q : Progress)
+fed_begins : {A E : Type 0} (r : Result A E) (octets piece text : List ℕ) (q : ScriptReader)
     → HasFed octets piece text r q → BeginsAnswer (octets ++ piece) (text ++ q.answers.items)
 fed_begins (Ok done) octets piece text q h = all_of (octets ++ piece) (text ++ q.answers.items) q h
 fed_begins (Err e) octets piece text q h = h
 
 -- a piece was read and its answers were written
-pub goes_on : {A E : Type 0} (a b c w x y : Option (List ℕ)) (p q next : Progress) (r : Result A E) (piece : List ℕ)
+pub goes_on : {A E : Type 0} (a b c w x y : Option (List ℕ)) (p q next : ScriptReader) (r : Result A E) (piece : List ℕ)
     → IsUnderWay a b w x p → Consumes b c piece
     → ((octets text : List ℕ) → HasReached octets p (text ++ p.answers.items) → HasFed octets piece text r q)
     → is_err r ≡ false → Appends x y q.answers.items → next.script ≡ q.script → next.kept ≡ q.kept → next.answers.items ≡ []
@@ -58,7 +58,7 @@ goes_on a b c w x y p q next r piece h consumed fed fine written script kept emp
 }
 
 -- a piece was read, and a beginning of its answers was written
-pub stops : {A E : Type 0} (a b c w x y : Option (List ℕ)) (p q : Progress) (r : Result A E) (piece : List ℕ)
+pub stops : {A E : Type 0} (a b c w x y : Option (List ℕ)) (p q : ScriptReader) (r : Result A E) (piece : List ℕ)
     → IsUnderWay a b w x p → Consumes b c piece
     → ((octets text : List ℕ) → HasReached octets p (text ++ p.answers.items) → HasFed octets piece text r q)
     → WritesPart x y q.answers.items → IsPartlyReplayed a c w y
@@ -71,7 +71,7 @@ stops a b c w x y p q r piece h consumed fed written = record {
 }
 
 -- a read failed, or there were too many
-pub stays : (a b c w x : Option (List ℕ)) (p : Progress) → IsUnderWay a b w x p → Keeps b c → IsPartlyReplayed a c w x
+pub stays : (a b c w x : Option (List ℕ)) (p : ScriptReader) → IsUnderWay a b w x p → Keeps b c → IsPartlyReplayed a c w x
 stays a b c w x p h kept = record {
   script = h.octets;
   consumed = consumed_kept a b c h.octets h.consumed kept;
@@ -105,7 +105,7 @@ ends_partly a c w x y (Err e) octets text consumed written h = record {
 }
 
 -- both at once
-pub replayed_at_end : {A : Type 0} (a b c w x y : Option (List ℕ)) (p : Progress) (r : Result A ReplayFault)
+pub replayed_at_end : {A : Type 0} (a b c w x y : Option (List ℕ)) (p : ScriptReader) (r : Result A ReplayFault)
     → IsUnderWay a b w x p → Keeps b c → IsAtEnd c
     → ((octets text : List ℕ) → HasReached octets p (text ++ p.answers.items) → EndsWith octets text x y r)
     → OnOk r (IsReplayed a c w y) × OnErr r (IsPartlyReplayed a c w y)

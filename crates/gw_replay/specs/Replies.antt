@@ -25,7 +25,7 @@ use Rattle.gw_replay.specs.Policies.{IsProgramText, IsTableHex}
 use Rattle.gw_replay.specs.Requests.{Request, limits_of, program_of, table_of, publish_all, take_at, step_at, send_to, ledger_of}
 
 -- a gateway of a script: its limits, the pairs that joined the open batch, and the events so far, the newest first
-pub record Session : Type 0 where
+pub record SessionState : Type 0 where
   pub limits : Bounds
   pub batch : List Pair
   pub history : List Event
@@ -33,7 +33,7 @@ pub record Session : Type 0 where
 -- what a command says, and what stands afterwards
 pub record Reply : Type 0 where
   pub said : Result (List ℕ) Fault
-  pub session : Session
+  pub session : SessionState
 
 -- the lines of a finished frame, and of a copy that was sent
 abbrev pub outcome_line : Outcome → List ℕ
@@ -69,11 +69,11 @@ event_said (Ok answer) = Ok (answer_line answer)
 event_said (Err why) = Err (fault.Event why)
 
 -- the reply to an event
-abbrev pub after_event : Session → Event → Reply
+abbrev pub after_event : SessionState → Event → Reply
 after_event s e = record { said = event_said (reply s.limits s.history e); session = record s { history = e ∷ s.history } }
 
 -- what was read of a text, or why nothing was
-abbrev pub after_taking : Session → ℕ → Result (List ℕ) RecordFault → Reply
+abbrev pub after_taking : SessionState → ℕ → Result (List ℕ) RecordFault → Reply
 after_taking s port (Ok octets) = after_event s (event.Take port octets)
 after_taking s port (Err why) = record { said = Err (fault.Record why); session = s }
 
@@ -87,7 +87,7 @@ abbrev pub pair_for : ℕ → Filter → Pair
 pair_for port filter = record { port = port; policy = filter }
 
 -- a policy that was read joins the open batch, and the line says so
-abbrev pub after_joining : Session → List ℕ → ℕ → Result Filter Fault → Reply
+abbrev pub after_joining : SessionState → List ℕ → ℕ → Result Filter Fault → Reply
 after_joining s line port (Ok filter) =
     option_map_or (λ why. record { said = Err why; session = s }) (join_fault port s.batch)
     (record { said = Ok line; session = record s { batch = s.batch ++ pair_for port filter ∷ [] } })
@@ -98,17 +98,17 @@ abbrev pub joined_line : List ℕ → ℕ → List ℕ
 joined_line name port = name ++ decimal port ++ 10 ∷ []
 
 -- all that stands in the open batch is published, and the batch is empty afterwards, also where that is refused
-abbrev pub after_publishing : Session → Reply
+abbrev pub after_publishing : SessionState → Reply
 after_publishing s = after_event (record s { batch = [] }) (event.Publish s.batch)
 
 -- what a port counts: 72 for one that is not there
-abbrev pub ledger_said : Session → ℕ → Result (List ℕ) Fault
+abbrev pub ledger_said : SessionState → ℕ → Result (List ℕ) Fault
 ledger_said s port =
     if nat_le s.limits.ports port then Err (fault.Event NoSuchPort)
     else Ok (ledger_line (ledger_after s.limits port (accepted s.limits s.history)))
 
 -- the reply to a command once limits were accepted
-abbrev pub Replies : Session → Request → Reply → Type 0
+abbrev pub Replies : SessionState → Request → Reply → Type 0
 Replies s (limits_of ports lane versions frames) r = r ≡ record { said = Err fault.SecondLimits; session = s }
 Replies s (program_of port listing) r =
     (read : Result Filter Fault) × IsProgramText listing read

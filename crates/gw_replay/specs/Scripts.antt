@@ -9,7 +9,7 @@ use Rattle.gw_replay.specs.declared.fault.Fault.TheVariants as fault
 use Rattle.gw_replay.specs.Faults.{line_of}
 use Rattle.gw_input.specs.Lines.{lines_of}
 use Rattle.gw_replay.specs.Requests.{Request, limits_of, request_of}
-use Rattle.gw_replay.specs.Replies.{Session, Reply, Replies}
+use Rattle.gw_replay.specs.Replies.{SessionState, Reply, Replies}
 
 -- what a line says by itself: nothing, no command, or a command
 pub data Meaning : Type 0 where
@@ -41,7 +41,7 @@ meaning_of line =
 -- the answer of a line, and the gateway that stands afterwards, if limits were accepted
 pub record Told : Type 0 where
   pub text : List ℕ
-  pub session : Option Session
+  pub session : Option SessionState
 
 -- from one number to another
 abbrev pub is_within : ℕ → ℕ → ℕ → Bool
@@ -54,7 +54,7 @@ limits_fit limits =
     && (is_within 1 65535 limits.versions && is_within 1 4294967295 limits.frames)
 
 -- a new gateway
-abbrev pub new_session : Bounds → Session
+abbrev pub new_session : Bounds → SessionState
 new_session limits = record { limits = limits; batch = []; history = [] }
 
 -- a line while there is no gateway
@@ -74,13 +74,13 @@ first_told (limits_of ports lane versions frames) =
 first_told _ = told_without (Err fault.NoLimits)
 
 -- the answer of a command, and what stands afterwards
-abbrev pub Obeys : Option Session → Request → Told → Type 0
+abbrev pub Obeys : Option SessionState → Request → Told → Type 0
 Obeys None request told = told ≡ first_told request
 Obeys (Some s) request told =
     (reply : Reply) × Replies s request reply × (told ≡ record { text = line_of reply.said; session = Some reply.session })
 
 -- the answer of a line by its meaning
-abbrev pub Answers : Option Session → Meaning → Told → Type 0
+abbrev pub Answers : Option SessionState → Meaning → Told → Type 0
 Answers s silent told = told ≡ record { text = []; session = s }
 Answers s (wrong fault) told = told ≡ record { text = line_of (Err fault); session = s }
 Answers s (asks request) told = Obeys s request told
@@ -94,7 +94,7 @@ AreAnswers (line ∷ before) told =
 
 -- the answers of a script
 pub record IsAnswer (script text : List ℕ) : Type 0 where
-  pub session : Option Session
+  pub session : Option SessionState
   pub answers : AreAnswers (reverse (lines_of script)) (record { text = text; session = session })
 
 -- the answers of a script's first lines
@@ -102,5 +102,5 @@ pub record BeginsAnswer (script text : List ℕ) : Type 0 where
   pub first : List (List ℕ)
   pub later : List (List ℕ)
   pub lines : lines_of script ≡ first ++ later
-  pub session : Option Session
+  pub session : Option SessionState
   pub answers : AreAnswers (reverse first) (record { text = text; session = session })

@@ -5,10 +5,10 @@ mod command;
 mod fault;
 mod laws;
 mod policies;
-mod progress;
-mod running;
 mod said;
 mod script;
+mod script_reader;
+mod session;
 mod whole;
 
 pub use laws::scripts_have_one_answer;

@@ -7,12 +7,12 @@ ghost use Rattle.gw_replay.specs.Standing.{Begins, IsFirstFault};
 
 use crate::command::{Command, command_of};
 use crate::fault::Fault;
-use crate::running::Running;
+use crate::session::Session;
 use gw_input::Line;
 use std::alloc::{AllocError, Global};
 
 /// The most octets of a line.
-pub const MOST: usize = 1_048_576;
+pub const MAX_LINE: usize = 1_048_576;
 
 /// What a line says by itself.
 #[derive(Drop)]
@@ -31,7 +31,7 @@ pub fn meaning_of(line: &[u8]) -> Meaning<'_>
     if line.is_empty() || line[0] == b'#' {
         return Meaning::Silent;
     }
-    if line.len() > MOST {
+    if line.len() > MAX_LINE {
         return Meaning::Wrong(Fault::LongLine);
     }
     if !is_ascii(line) {
@@ -61,27 +61,27 @@ pub enum Said {
 /// What the lines of a script have made so far: a gateway, once limits were accepted.
 #[derive(Drop)]
 pub struct Script {
-    pub running: Option<Running>,
+    pub session: Option<Session>,
 }
 
 impl Script {
     ghost use Rattle.std.specs.Prelude.{Option, None};
     ghost use Rattle.gw_replay.specs.Faults.{UnlessMemory};
-    ghost use Rattle.gw_replay.specs.Replies.{Session};
+    ghost use Rattle.gw_replay.specs.Replies.{SessionState};
     ghost use Rattle.gw_replay.specs.Said.{said_text};
     ghost use Rattle.gw_replay.specs.Standing.{StandsIn, IsObeyed, IsAnswered};
 
     /// Before the first line.
     pub fn new() -> Script
-        ensures { result.running ≡ None }
+        ensures { result.session ≡ None }
     {
-        Script { running: None }
+        Script { session: None }
     }
 
     /// What a line is answered, unless the memory that it needs was refused.
     pub fn answer(&mut self, alloc: Global, line: &[u8]) -> Result<Said, AllocError>
-        ensures { (s : Option Session) → StandsIn self.old.running s
-            → IfOk result (λ said. IsAnswered s line.now (said_text said) self.new.running) }
+        ensures { (s : Option SessionState) → StandsIn self.old.session s
+            → IfOk result (λ said. IsAnswered s line.now (said_text said) self.new.session) }
     {
         let asked = match meaning_of(line) {
             Meaning::Silent => return Ok(Said::Nothing),
@@ -96,13 +96,13 @@ impl Script {
     }
 
     fn obey(&mut self, alloc: Global, asked: Command<'_>) -> Result<Line, Fault>
-        ensures { (s : Option Session) → StandsIn self.old.running s
-            → UnlessMemory result (λ said. IsObeyed s (command_view asked.entry) said self.new.running) }
+        ensures { (s : Option SessionState) → StandsIn self.old.session s
+            → UnlessMemory result (λ said. IsObeyed s (command_view asked.entry) said self.new.session) }
     {
-        match &mut self.running {
-            Some(running) => running.obey(alloc, asked),
+        match &mut self.session {
+            Some(session) => session.obey(alloc, asked),
             None => {
-                self.running = Some(begin(alloc, asked)?);
+                self.session = Some(begin(alloc, asked)?);
                 Ok(Line::new().text("limits\n"))
             }
         }
@@ -110,7 +110,7 @@ impl Script {
 }
 
 /// Makes the gateway: before that no other command is accepted.
-fn begin(alloc: Global, asked: Command<'_>) -> Result<Running, Fault>
+fn begin(alloc: Global, asked: Command<'_>) -> Result<Session, Fault>
     ensures made { IfOk result (Begins (command_view asked.entry)) }
     ensures refused { IfErr result (IsFirstFault (command_view asked.entry)) }
 {
@@ -120,7 +120,7 @@ fn begin(alloc: Global, asked: Command<'_>) -> Result<Running, Fault>
             lane,
             versions,
             frames,
-        } => Running::new(alloc, ports, lane, versions, frames),
+        } => Session::new(alloc, ports, lane, versions, frames),
         _ => Err(Fault::NoLimits),
     }
 }

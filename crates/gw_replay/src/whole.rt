@@ -6,7 +6,7 @@ ghost use Rattle.gw_replay.specs.Written.{IsReplayed, IsPartlyReplayed, IsReplay
 ghost use Rattle.gw_io.specs.Pieces.{most_reads};
 ghost use Rattle.gw_replay.specs.declared.whole.ReplayFault.TheVariants as replay;
 
-use crate::progress::Progress;
+use crate::script_reader::ScriptReader;
 use gw_io::{Pieces, ReadFault, Tried, WriteFault};
 use std::alloc::{AllocError, Global};
 use std::io;
@@ -107,12 +107,12 @@ pub fn replay_told<R: Read, W: Write, F: Write>(
     ensures written { OnOk result (has_failed writer.new ≡ false) }
     ensures reads { reads_of reader.new ≤ most_reads }
 {
-    let mut progress = Progress::new(alloc);
+    let mut script_reader = ScriptReader::new(alloc);
     let mut pieces = Pieces::new();
     'pieces: while pieces.read(reader)? {
-        let fed = progress.feed(alloc, pieces.piece(), faults);
-        progress.write(writer)?;
+        let fed = script_reader.feed(alloc, pieces.piece(), faults);
+        script_reader.write(writer)?;
         fed?;
     }
-    progress.end(alloc, writer, faults)
+    script_reader.end(alloc, writer, faults)
 }

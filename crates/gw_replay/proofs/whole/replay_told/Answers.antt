@@ -18,7 +18,7 @@ returns-in_err-read-clause-part g c =
     let old = g.W.Write.contents (inner_of c.args.writer.now) in
     let taken = g.W.Write.contents (inner_of c.pieces.writer) in
     let fault = err_from_is_err_and c.from_residual.result c.from_residual.ensures.1 in
-    rw fault.1 (stays given before after old taken c.pieces.progress c.pieces.invariant.way c.in_err-read.ensures.piece)
+    rw fault.1 (stays given before after old taken c.pieces.script_reader c.pieces.invariant.way c.in_err-read.ensures.piece)
 
 pub returns-in_err-write-clause-part : goal.returns-in_err-write-clause-part
 returns-in_err-write-clause-part g c =
@@ -32,7 +32,7 @@ returns-in_err-write-clause-part g c =
     let read = met_piece before after c.read.new.self.piece c.in_ok-read.field-0 c.if-branch.true c.in_ok-read.ensures.piece in
     let consumed = subst (Consumes before after) (sym c.piece.ensures) read.0 in
     let fault = err_from_is_err_and c.from_residual-in_err-write.result c.from_residual-in_err-write.ensures.1 in
-    rw fault.1 (stops given before after old taken new c.pieces.progress c.feed-fed.new.self c.feed-fed.result piece
+    rw fault.1 (stops given before after old taken new c.pieces.script_reader c.feed-fed.new.self c.feed-fed.result piece
     c.pieces.invariant.way consumed c.feed-fed.ensures.fed c.in_err-write.ensures.part)
 
 pub returns-in_err-fed-clause-part : goal.returns-in_err-fed-clause-part
@@ -47,7 +47,7 @@ returns-in_err-fed-clause-part g c =
     let read = met_piece before after c.read.new.self.piece c.in_ok-read.field-0 c.if-branch.true c.in_ok-read.ensures.piece in
     let consumed = subst (Consumes before after) (sym c.piece.ensures) read.0 in
     let fault = err_from_is_err_and c.from_residual-in_err-fed.result c.from_residual-in_err-fed.ensures.1 in
-    rw fault.1 (stops given before after old taken new c.pieces.progress c.feed-fed.new.self c.feed-fed.result piece
+    rw fault.1 (stops given before after old taken new c.pieces.script_reader c.feed-fed.new.self c.feed-fed.result piece
     c.pieces.invariant.way consumed c.feed-fed.ensures.fed
     (whole_part taken new c.feed-fed.new.self.answers.items c.in_ok-write.ensures.written))
 
@@ -67,7 +67,7 @@ pieces-preserved g c =
       counted = let reads = c.in_ok-read.ensures.reads (omega (c.pieces.invariant.counted, arith)) in
           omega (c.pieces.invariant.counted, arith);
       writes = c.in_ok-write.ensures.whole;
-      way = goes_on given before after old taken new c.pieces.progress c.feed-fed.new.self c.write.new.self c.feed-fed.result
+      way = goes_on given before after old taken new c.pieces.script_reader c.feed-fed.new.self c.write.new.self c.feed-fed.result
           piece c.pieces.invariant.way consumed c.feed-fed.ensures.fed (ap is_err c.in_ok-fed.was) c.in_ok-write.ensures.written
           c.write.ensures.script c.write.ensures.kept c.in_ok-write.ensures.empty;
     }
@@ -81,7 +81,7 @@ returns-clause-replayed g c =
     let taken = g.W.Write.contents (inner_of c.pieces.writer) in
     let new = g.W.Write.contents (inner_of c.end.new.writer) in
     let end = met_end before after c.read.new.self.piece c.in_ok-read.field-0 c.if-branch.false c.in_ok-read.ensures.piece in
-    let both = replayed_at_end given before after old taken new c.pieces.progress c.end.result c.pieces.invariant.way end.0 end.1
+    let both = replayed_at_end given before after old taken new c.pieces.script_reader c.end.result c.pieces.invariant.way end.0 end.1
     c.end.ensures.ended in
     both.0
 
@@ -94,6 +94,6 @@ returns-clause-part g c =
     let taken = g.W.Write.contents (inner_of c.pieces.writer) in
     let new = g.W.Write.contents (inner_of c.end.new.writer) in
     let end = met_end before after c.read.new.self.piece c.in_ok-read.field-0 c.if-branch.false c.in_ok-read.ensures.piece in
-    let both = replayed_at_end given before after old taken new c.pieces.progress c.end.result c.pieces.invariant.way end.0 end.1
+    let both = replayed_at_end given before after old taken new c.pieces.script_reader c.end.result c.pieces.invariant.way end.0 end.1
     c.end.ensures.ended in
     both.1

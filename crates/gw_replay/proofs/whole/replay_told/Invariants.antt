@@ -9,7 +9,7 @@ invariant-pieces g l = record {
   counted : reads_of l.reader + l.pieces.left ≡ 16777216;
   writes : has_failed l.writer ≡ false;
   way : IsUnderWay (g.R.Read.remaining (inner_of l.fn.reader)) (g.R.Read.remaining (inner_of l.reader))
-      (g.W.Write.contents (inner_of l.fn.writer)) (g.W.Write.contents (inner_of l.writer)) l.progress;
+      (g.W.Write.contents (inner_of l.fn.writer)) (g.W.Write.contents (inner_of l.writer)) l.script_reader;
 }
 
 abbrev pub decreases-pieces : goal.decreases-pieces

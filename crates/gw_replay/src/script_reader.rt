@@ -1,4 +1,4 @@
-//! How far a script was read and answered.
+//! A script that comes in pieces, and the answers to its lines.
 
 ghost use Rattle.std.specs.Prelude.{◌≡◌, ◌<◌, ◌+◌, ◌++◌, [], ℕ, List, Option, None, length, true, false};
 ghost use Rattle.std.specs.Prelude.{OnOk, OnErr, IfOk, IfErr, option_copied};
@@ -6,7 +6,7 @@ ghost use Rattle.std.specs.Io.KnownBytes.{Appends};
 ghost use Rattle.gw_io.specs.Tries.{inner_of, has_failed};
 ghost use Rattle.gw_io.specs.Written.{WritesPart};
 
-use crate::script::{MOST, Said, Script};
+use crate::script::{MAX_LINE, Said, Script};
 use crate::whole::ReplayFault;
 use gw_input::{line_in, position_of};
 use gw_io::{Tried, write_all};
@@ -14,11 +14,11 @@ use std::alloc::{AllocError, Global};
 use std::io::Write;
 
 /// How many octets of an unfinished line are kept: one with more is too long, whatever follows.
-const KEPT: usize = MOST + 2;
+const MAX_KEPT: usize = MAX_LINE + 2;
 
-/// How far a script was read and answered.
+/// Reads a script in pieces, and answers each line as soon as it is whole.
 #[derive(Drop)]
-pub struct Progress {
+pub struct ScriptReader {
     pub script: Script,
     // the line that is unfinished, or its beginning where it is too long
     pub kept: Vec<u8>,
@@ -28,20 +28,20 @@ pub struct Progress {
     pub lines: u64,
 }
 
-impl Progress {
+impl ScriptReader {
     ghost use Rattle.std.specs.Prelude.{take, ◌-◌};
-    ghost use Rattle.gw_replay.specs.Replies.{Session};
+    ghost use Rattle.gw_replay.specs.Replies.{SessionState};
     ghost use Rattle.gw_input.specs.Lines.{ended_line};
     ghost use Rattle.gw_replay.specs.Standing.{StandsIn};
     ghost use Rattle.gw_replay.specs.Reached.{HasReached, HasFed, FeedsLine, AnswersKept, EndsWith, IsEndFault};
     ghost use Rattle.gw_replay.specs.Reached.{most_kept, left_behind};
 
     /// Before the first octet.
-    pub fn new(alloc: Global) -> Progress
+    pub fn new(alloc: Global) -> ScriptReader
         ensures reached { HasReached [] result [] }
         ensures empty { result.answers.items ≡ [] }
     {
-        Progress {
+        ScriptReader {
             script: Script::new(),
             kept: Vec::new(alloc),
             answers: Vec::new(alloc),
@@ -101,7 +101,7 @@ impl Progress {
         ensures script { self.new.script ≡ self.old.script }
         ensures answers { self.new.answers ≡ self.old.answers }
     {
-        let room = KEPT.saturating_sub(self.kept.len()).min(part.len());
+        let room = MAX_KEPT.saturating_sub(self.kept.len()).min(part.len());
         self.kept.extend_from_slice(&part[..room])
     }
 
@@ -112,7 +112,7 @@ impl Progress {
         ended: bool,
         faults: &mut Tried<F>,
     ) -> Result<(), AllocError>
-        ensures answered { (s : Option Session) → StandsIn self.old.script.running s
+        ensures answered { (s : Option SessionState) → StandsIn self.old.script.session s
             → OnOk result (AnswersKept s (ended_line ended self.old.kept.items) self.old self.new) }
         ensures kept { self.new.kept ≡ self.old.kept }
         ensures refused { OnErr result (self.new.answers.items ≡ self.old.answers.items) }

@@ -5,13 +5,13 @@ use Rattle.gw_replay.specs.Said.{said_text}
 use Rattle.gw_replay.specs.Standing.{IsAnswered}
 use Rattle.gw_replay.specs.declared.script.Said.TheVariants.{Refused}
 use Rattle.gw_replay.proofs.Reaching.{kept_said, on_extended}
-use Rattle.gw_replay.proofs.progress.Progress.answer_kept.Goals as goal
+use Rattle.gw_replay.proofs.script_reader.ScriptReader.answer_kept.Goals as goal
 
 pub returns-in-Nothing-clause-answered : goal.returns-in-Nothing-clause-answered
 returns-in-Nothing-clause-answered g c = λ s stands.
     kept_said s c.line_in-line.result.now (ended_line c.args.ended c.args.self.now.kept.items) [] c.args.self.now _
     (c.line_in-line.ensures ∙ ap (ended_line c.args.ended) c.as_slice.ensures.value)
-    (subst (λ said. IsAnswered s c.line_in-line.result.now (said_text said) c.answer.new.self.running) c.in-Nothing.is
+    (subst (λ said. IsAnswered s c.line_in-line.result.now (said_text said) c.answer.new.self.session) c.in-Nothing.is
     (c.in_ok-answer.ensures s stands))
     (sym (append-nil c.args.self.now.answers.items))
 
@@ -26,6 +26,6 @@ returns-in-Refused-clause-answered g c = λ s stands.
     kept_said s c.line_in-line.result.now (ended_line c.args.ended c.args.self.now.kept.items)
     (said_text (Refused c.in-Refused.fault)) c.args.self.now _
     (c.line_in-line.ensures ∙ ap (ended_line c.args.ended) c.as_slice.ensures.value)
-    (subst (λ said. IsAnswered s c.line_in-line.result.now (said_text said) c.answer.new.self.running) c.in-Refused.is
+    (subst (λ said. IsAnswered s c.line_in-line.result.now (said_text said) c.answer.new.self.session) c.in-Refused.is
     (c.in_ok-answer.ensures s stands))
     appended)

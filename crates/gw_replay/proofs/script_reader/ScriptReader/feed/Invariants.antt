@@ -1,7 +1,7 @@
 use Rattle.std.proofs.Common.{ℕ, List, ◌++◌}
 use Rattle.std.specs.Prelude.{option_copied}
 use Rattle.gw_replay.specs.Reached.{HasReached, FedSo, left_behind}
-use Rattle.gw_replay.proofs.progress.Progress.feed.Given as goal
+use Rattle.gw_replay.proofs.script_reader.ScriptReader.feed.Given as goal
 
 abbrev pub invariant-loop-rest : goal.invariant-loop-rest
 invariant-loop-rest g l = (octets text : List ℕ) → HasReached octets l.fn.self (text ++ l.fn.self.answers.items)

@@ -3,7 +3,7 @@ use Rattle.gw_replay.proofs.Reaching.{fed_nothing, fed_more, fed_no_more}
 use Rattle.std.proofs.Common.{subst, ap}
 use Rattle.std.specs.declared.alloc.AllocError.{AllocError}
 use Rattle.gw_replay.specs.Reached.{FedSo}
-use Rattle.gw_replay.proofs.progress.Progress.feed.Goals as goal
+use Rattle.gw_replay.proofs.script_reader.ScriptReader.feed.Goals as goal
 
 pub loop-rest-init : goal.loop-rest-init
 loop-rest-init g c = λ octets text h. fed_nothing octets c.args.piece.now text c.args.self.now h

@@ -2,7 +2,7 @@ use Rattle.std.proofs.Common.{sym, ◌∙◌}
 use Rattle.gw_io.specs.Tries.{inner_of}
 use Rattle.gw_replay.proofs.Reaching.{last_begins, whole_answer, on_err, on_ok}
 use Rattle.gw_io.proofs.Callers.{whole_part}
-use Rattle.gw_replay.proofs.progress.Progress.end.Goals as goal
+use Rattle.gw_replay.proofs.script_reader.ScriptReader.end.Goals as goal
 
 pub returns-then-is_err-clause-ended : goal.returns-then-is_err-clause-ended
 returns-then-is_err-clause-ended g c = λ octets text h. (

@@ -1,7 +1,7 @@
 use Rattle.std.proofs.Common.{◌<◌, ◌+◌, length, refl, sym, ap, ◌∙◌, arith}
 use Rattle.gw_io.proofs.Callers.{rest_from}
 use Rattle.gw_replay.proofs.Reaching.{line_refused, text_kept, line_passed, on_ok}
-use Rattle.gw_replay.proofs.progress.Progress.feed_line.Goals as goal
+use Rattle.gw_replay.proofs.script_reader.ScriptReader.feed_line.Goals as goal
 
 pub returns-then-is_err-clause-fed : goal.returns-then-is_err-clause-fed
 returns-then-is_err-clause-fed g c = λ octets before h.
@@ -10,7 +10,8 @@ returns-then-is_err-clause-fed g c = λ octets before h.
 pub returns-then-end-text-clause-fed : goal.returns-then-end-text-clause-fed
 returns-then-end-text-clause-fed g c = λ octets before h.
     text_kept octets c.args.text.now before c.position_of-end.result c.args.self.now c.keep.new.self h
-    c.position_of-end.ensures.place c.if-end-text.true (on_ok c.keep.result (sym c.is_err.ensures.value ∙ c.if-is_err.false) c.keep.ensures.kept)
+    c.position_of-end.ensures.place c.if-end-text.true
+    (on_ok c.keep.result (sym c.is_err.ensures.value ∙ c.if-is_err.false) c.keep.ensures.kept)
     c.keep.ensures.script c.keep.ensures.answers
 
 pub returns-in-Err-clause-fed : goal.returns-in-Err-clause-fed

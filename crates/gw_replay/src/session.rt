@@ -19,18 +19,18 @@ use std::sync::Arc;
 
 /// A gateway that a script made, and the batch that is open.
 #[derive(Drop)]
-pub struct Running {
+pub struct Session {
     pub limits: Limits,
     pub core: Core,
     pub batch: Batch,
     ghost of_the_core: { ∥ core.limits ≡ limits ∥₁ },
 }
 
-impl Running {
+impl Session {
     ghost use Rattle.gw_replay.specs.Requests.{step_at, send_to, take_at, publish_all, program_of, table_of};
-    ghost use Rattle.gw_replay.specs.Replies.{Session, ledger_said};
+    ghost use Rattle.gw_replay.specs.Replies.{SessionState, ledger_said};
     ghost use Rattle.gw_replay.specs.Scripts.{limits_fit, new_session};
-    ghost use Rattle.gw_replay.specs.Standing.{IsRunning, Happened, Done, IsLimitsFault};
+    ghost use Rattle.gw_replay.specs.Standing.{HasState, Happened, Done, IsLimitsFault};
 
     /// Makes a gateway within limits: 70 where they are outside their ranges.
     pub fn new(
@@ -39,8 +39,8 @@ impl Running {
         lane: u32,
         versions: u32,
         frames: u32,
-    ) -> Result<Running, Fault>
-        ensures made { IfOk result (λ r. IsRunning r
+    ) -> Result<Session, Fault>
+        ensures made { IfOk result (λ r. HasState r
             (new_session (record { ports = ports; lane = lane; versions = versions; frames = frames }))) }
         ensures within { OnOk result
             (limits_fit (record { ports = ports; lane = lane; versions = versions; frames = frames }) ≡ true) }
@@ -52,7 +52,7 @@ impl Running {
             Err(_) => return Err(Fault::BadLimits),
         };
         match Core::new(alloc, limits) {
-            Ok(core) => Ok(Running {
+            Ok(core) => Ok(Session {
                 limits,
                 core,
                 batch: Batch::new(),
@@ -64,7 +64,7 @@ impl Running {
     /// Does a command, and gives the line of its answer. A refused one changes nothing, but that `publish` empties the
     /// open batch.
     pub fn obey(&mut self, alloc: Global, asked: Command<'_>) -> Result<Line, Fault>
-        ensures { (s : Session) → IsRunning self.old s → Done s (command_view asked.entry) result self.new }
+        ensures { (s : SessionState) → HasState self.old s → Done s (command_view asked.entry) result self.new }
     {
         match asked {
             Command::Step { port } => self.step(port),
@@ -80,7 +80,7 @@ impl Running {
 
     /// The line of what the gateway answers to an event.
     fn happen(&mut self, event: Event) -> Result<Line, Fault>
-        ensures { (s : Session) → IsRunning self.old s → Happened s event result self.new }
+        ensures { (s : SessionState) → HasState self.old s → Happened s event result self.new }
     {
         match self.core.event(event) {
             Ok(answer) => Ok(answer_line(&answer)),
@@ -89,20 +89,20 @@ impl Running {
     }
 
     fn step(&mut self, port: u8) -> Result<Line, Fault>
-        ensures { (s : Session) → IsRunning self.old s → Done s (step_at port) result self.new }
+        ensures { (s : SessionState) → HasState self.old s → Done s (step_at port) result self.new }
     {
         self.happen(Event::Step(port))
     }
 
     fn send(&mut self, to: u8, from: u8) -> Result<Line, Fault>
-        ensures { (s : Session) → IsRunning self.old s → Done s (send_to to from) result self.new }
+        ensures { (s : SessionState) → HasState self.old s → Done s (send_to to from) result self.new }
     {
         self.happen(Event::Send { to, from })
     }
 
     /// A frame is taken at a port: 97 and 1 to 4 for a text that is no record.
     fn take(&mut self, port: u8, hex: &[u8]) -> Result<Line, Fault>
-        ensures { (s : Session) → IsRunning self.old s → Done s (take_at port hex.now) result self.new }
+        ensures { (s : SessionState) → HasState self.old s → Done s (take_at port hex.now) result self.new }
     {
         match record(hex) {
             Ok(frame) => self.happen(Event::Take(port, frame)),
@@ -112,7 +112,7 @@ impl Running {
 
     /// The open batch is published, and is empty afterwards.
     fn publish(&mut self) -> Result<Line, Fault>
-        ensures { (s : Session) → IsRunning self.old s → Done s publish_all result self.new }
+        ensures { (s : SessionState) → HasState self.old s → Done s publish_all result self.new }
     {
         let batch = mem::replace(&mut self.batch, Batch::new());
         self.happen(Event::Publish(batch))
@@ -120,7 +120,7 @@ impl Running {
 
     /// What a port counts: 72 for one that is not there.
     fn ledger(&self, port: u8) -> Result<Line, Fault>
-        ensures { (s : Session) → IsRunning self.now s → result ≡ ledger_said s port }
+        ensures { (s : SessionState) → HasState self.now s → result ≡ ledger_said s port }
     {
         if u32::from(port) >= self.limits.ports() {
             return Err(Fault::Event(EventRefusal::NoSuchPort));
@@ -130,7 +130,7 @@ impl Running {
 
     /// A program joins the open batch.
     fn program(&mut self, alloc: Global, port: u8, listing: &[u8]) -> Result<Line, Fault>
-        ensures { (s : Session) → IsRunning self.old s → Done s (program_of port listing.now) result self.new }
+        ensures { (s : SessionState) → HasState self.old s → Done s (program_of port listing.now) result self.new }
     {
         let policy = program_policy(alloc, listing)?;
         join(alloc, &mut self.batch, port, policy)?;
@@ -139,7 +139,7 @@ impl Running {
 
     /// A table joins the open batch.
     fn table(&mut self, alloc: Global, port: u8, hex: &[u8]) -> Result<Line, Fault>
-        ensures { (s : Session) → IsRunning self.old s → Done s (table_of port hex.now) result self.new }
+        ensures { (s : SessionState) → HasState self.old s → Done s (table_of port hex.now) result self.new }
     {
         let policy = table_policy(alloc, hex)?;
         join(alloc, &mut self.batch, port, policy)?;
