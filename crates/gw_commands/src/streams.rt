@@ -5,12 +5,10 @@ ghost use Rattle.gw_io.specs.Tries.{inner_of, has_failed};
 ghost use Rattle.gw_commands.specs.Commands.{IsInput, IsInputRefusal};
 
 use crate::refusal::Refusal;
+use gw_input::MAX_INPUT;
 use gw_io::{Pieces, Tried};
 use std::alloc::Global;
 use std::io::Read;
-
-/// The most octets of an input.
-pub const MOST_INPUT: usize = 1_048_576;
 
 /// Reads to the end: 96 where a read failed, 98 for more than 1048576 octets, 100 for want of memory.
 pub fn read_input<R: Read>(alloc: Global, reader: &mut Tried<R>) -> Result<Vec<u8>, Refusal>
@@ -22,7 +20,7 @@ pub fn read_input<R: Read>(alloc: Global, reader: &mut Tried<R>) -> Result<Vec<u
 {
     let mut input = Vec::new(alloc);
     let mut pieces = Pieces::new();
-    'pieces: while input.len() <= MOST_INPUT {
+    'pieces: while input.len() <= MAX_INPUT {
         if !pieces.read(reader)? {
             return Ok(input);
         }

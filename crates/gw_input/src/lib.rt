@@ -2,6 +2,7 @@
 //! digits, and the line of a refusal.
 #![tactic(auto)]
 
+mod bounds;
 mod line;
 mod lines;
 mod numbers;
@@ -10,6 +11,7 @@ mod records;
 mod refusing;
 mod tables;
 
+pub use bounds::MAX_INPUT;
 pub use line::Line;
 pub use lines::{first_line, first_word, line_in, position_of};
 pub use numbers::{number, number_before, port, port_before};

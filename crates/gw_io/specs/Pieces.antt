@@ -2,10 +2,11 @@
 use Rattle.std.specs.Prelude.{◌<◌, ℕ, Bool, true, false, List, length, Option, Result, Ok, Err}
 use Rattle.std.specs.Io.KnownBytes.{Consumes, IsAtEnd, Keeps}
 use Rattle.gw_io.specs.declared.pieces.ReadFault.{ReadFault}
+use Rattle.gw_io.specs.declared.pieces.TheConstants.{MAX_READS}
 
 -- the most reads of one input
 abbrev pub most_reads : ℕ
-most_reads = 16777216
+most_reads = MAX_READS
 
 -- the piece that was read last, and how many reads are left
 pub record Known : Type 0 where

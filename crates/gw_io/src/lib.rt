@@ -8,5 +8,5 @@ mod tried;
 mod writing;
 
 pub use full_write::{WriteFault, write_all};
-pub use pieces::{Pieces, ReadFault};
+pub use pieces::{MAX_READS, Pieces, ReadFault};
 pub use tried::Tried;

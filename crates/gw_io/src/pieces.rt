@@ -9,7 +9,7 @@ use std::io::Read;
 use std::marker::Model;
 
 /// The most reads of one input.
-const MAX_READS: u32 = 16_777_216;
+pub const MAX_READS: u32 = 16_777_216;
 
 /// How many octets are asked of the reader at once.
 const PIECE: usize = 65536;

@@ -7,6 +7,7 @@ use Rattle.gw_ledger.specs.Bounds.{Bounds}
 use Rattle.gw_replay.specs.declared.fault.Fault.{Fault}
 use Rattle.gw_replay.specs.declared.fault.Fault.TheVariants as fault
 use Rattle.gw_replay.specs.Faults.{line_of}
+use Rattle.gw_input.specs.declared.bounds.TheConstants.{MAX_INPUT}
 use Rattle.gw_input.specs.Lines.{lines_of}
 use Rattle.gw_replay.specs.Requests.{Request, limits_of, request_of}
 use Rattle.gw_replay.specs.Replies.{SessionState, Reply, Replies}
@@ -22,10 +23,6 @@ abbrev pub is_silent : List ℕ → Bool
 is_silent [] = true
 is_silent (c ∷ cs) = c == 35
 
--- the most octets of a line
-abbrev pub most_octets : ℕ
-most_octets = 1048576
-
 -- no octet is above 127
 abbrev pub is_ascii : List ℕ → Bool
 is_ascii line = list_all (λ c. nat_lt c 128) line
@@ -34,7 +31,7 @@ is_ascii line = list_all (λ c. nat_lt c 128) line
 abbrev pub meaning_of : List ℕ → Meaning
 meaning_of line =
     if is_silent line then silent
-    else if nat_lt most_octets (length line) then wrong fault.LongLine
+    else if nat_lt MAX_INPUT (length line) then wrong fault.LongLine
     else if not (is_ascii line) then wrong fault.NoAscii
     else option_map_or asks (request_of line) (wrong fault.NoCommand)
 

@@ -1,7 +1,7 @@
 //! Why a line of a script is refused.
 
 use gw_core::EventRefusal;
-use gw_input::{Line, RecordFault, refused, refused_code};
+use gw_input::{Line, MAX_INPUT, RecordFault, refused, refused_code};
 use gw_insn::ListRefusal;
 use gw_ledger::BadLimit;
 use gw_table::TableRefusal;
@@ -97,7 +97,7 @@ impl Fault {
 impl Display for Fault {
     fn fmt<W: fmt::Write>(&self, f: &mut Formatter<W>) -> fmt::Result {
         match self {
-            Fault::LongLine => f.write_str("the line has more than 1048576 octets"),
+            Fault::LongLine => write!(f, "the line has more than {MAX_INPUT} octets"),
             Fault::NoAscii => f.write_str(
                 "the line has an octet above 127: scripts are written in ASCII, and a table's text in hexadecimal digits",
             ),

@@ -8,11 +8,8 @@ ghost use Rattle.gw_replay.specs.Standing.{Begins, IsFirstFault};
 use crate::command::{Command, command_of};
 use crate::fault::Fault;
 use crate::session::Session;
-use gw_input::Line;
+use gw_input::{Line, MAX_INPUT};
 use std::alloc::{AllocError, Global};
-
-/// The most octets of a line.
-pub const MAX_LINE: usize = 1_048_576;
 
 /// What a line says by itself.
 #[derive(Drop)]
@@ -31,7 +28,7 @@ pub fn meaning_of(line: &[u8]) -> Meaning<'_>
     if line.is_empty() || line[0] == b'#' {
         return Meaning::Silent;
     }
-    if line.len() > MAX_LINE {
+    if line.len() > MAX_INPUT {
         return Meaning::Wrong(Fault::LongLine);
     }
     if !is_ascii(line) {

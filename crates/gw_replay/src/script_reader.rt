@@ -6,15 +6,15 @@ ghost use Rattle.std.specs.Io.KnownBytes.{Appends};
 ghost use Rattle.gw_io.specs.Tries.{inner_of, has_failed};
 ghost use Rattle.gw_io.specs.Written.{WritesPart};
 
-use crate::script::{MAX_LINE, Said, Script};
+use crate::script::{Said, Script};
 use crate::whole::ReplayFault;
-use gw_input::{line_in, position_of};
+use gw_input::{MAX_INPUT, line_in, position_of};
 use gw_io::{Tried, write_all};
 use std::alloc::{AllocError, Global};
 use std::io::Write;
 
 /// How many octets of an unfinished line are kept: one with more is too long, whatever follows.
-const MAX_KEPT: usize = MAX_LINE + 2;
+const MAX_KEPT: usize = MAX_INPUT + 2;
 
 /// Reads a script in pieces, and answers each line as soon as it is whole.
 #[derive(Drop)]

@@ -1,4 +1,5 @@
 use Rattle.std.proofs.Common.{◌≡◌, ◌+◌, false}
+use Rattle.gw_io.specs.Pieces.{most_reads}
 use Rattle.gw_io.specs.Tries.{inner_of, has_failed, reads_of}
 use Rattle.gw_replay.specs.Reached.{IsUnderWay}
 use Rattle.gw_replay.proofs.whole.replay_told.Given as goal
@@ -6,7 +7,7 @@ use Rattle.gw_replay.proofs.whole.replay_told.Given as goal
 abbrev pub invariant-pieces : goal.invariant-pieces
 invariant-pieces g l = record {
   whole : has_failed l.reader ≡ false;
-  counted : reads_of l.reader + l.pieces.left ≡ 16777216;
+  counted : reads_of l.reader + l.pieces.left ≡ most_reads;
   writes : has_failed l.writer ≡ false;
   way : IsUnderWay (g.R.Read.remaining (inner_of l.fn.reader)) (g.R.Read.remaining (inner_of l.reader))
       (g.W.Write.contents (inner_of l.fn.writer)) (g.W.Write.contents (inner_of l.writer)) l.script_reader;
