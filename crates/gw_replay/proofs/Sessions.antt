@@ -1,6 +1,5 @@
 -- What is said of a command, unless memory was wanting.
-use Rattle.std.proofs.Common.{◌≡◌, ℕ, List, [], ◌∷◌, ◌++◌, None, Result, Ok, Err, refl, ap, sym, ◌∙◌}
-use Rattle.std.proofs.Common.{subst, codes}
+use Rattle.std.proofs.Common.{◌≡◌, ℕ, List, [], ◌∷◌, ◌++◌, None, Result, Ok, Err, refl, ap, sym, ◌∙◌, subst}
 use Rattle.gw_core.specs.Gateway.{Stands}
 use Rattle.gw_core.specs.declared.event.Event.{Event}
 use Rattle.gw_core.specs.declared.event.Event.TheVariants as event
@@ -14,9 +13,8 @@ use Rattle.gw_replay.specs.declared.fault.Fault.TheVariants.{OutOfMemory}
 use Rattle.gw_replay.specs.declared.fault.Fault.TheVariants.{Event as EventFault}
 use Rattle.gw_replay.specs.declared.session.Session.{Session}
 use Rattle.gw_replay.specs.Faults.{UnlessMemory}
-use Rattle.gw_replay.specs.Policies.{IsProgramText, IsTableHex}
 use Rattle.gw_input.specs.Records.{IsRecordText}
-use Rattle.gw_replay.specs.Requests.{Request, program_of, table_of, publish_all, take_at}
+use Rattle.gw_replay.specs.Requests.{Request, publish_all, take_at}
 use Rattle.gw_replay.specs.Replies.{SessionState, Reply, Replies, after_event, after_joining}
 use Rattle.gw_replay.specs.Replies.{join_fault, joined_line, pair_for}
 use Rattle.gw_replay.specs.Standing.{HasState, Happened, IsDone, Done}
@@ -110,35 +108,16 @@ state_with s port filter old new state limits core batch = record {
   stands = subst (λ core. Stands core s.history) (sym core) state.stands;
 }
 
--- a program that joined, and a table
-pub program_joined : (s : SessionState) (port : ℕ) (listing : List ℕ) (filter : Filter) (line : List ℕ) (old new : Session)
-    → HasState old s
-    → IsProgramText listing (Ok filter) → join_fault port old.batch ≡ None → new.limits ≡ old.limits → new.core ≡ old.core
-    → new.batch ≡ old.batch ++ pair_for port filter ∷ [] → line ≡ joined_line (codes "program ") port
-    → Done s (program_of port listing) (Ok line) new
-program_joined s port listing filter line old new state means free limits core batch same = record {
+-- a command whose policy was read and joined
+pub policy_joined : (s : SessionState) (name : List ℕ) (port : ℕ) (filter : Filter) (request : Request) (line : List ℕ)
+    (old new : Session) → HasState old s
+    → ((r : Reply) → r ≡ after_joining s (joined_line name port) port (Ok filter) → Replies s request r)
+    → join_fault port old.batch ≡ None → new.limits ≡ old.limits → new.core ≡ old.core
+    → new.batch ≡ old.batch ++ pair_for port filter ∷ [] → line ≡ joined_line name port → Done s request (Ok line) new
+policy_joined s name port filter request line old new state replies free limits core batch same = record {
   session = record s { batch = s.batch ++ pair_for port filter ∷ [] };
-  replies = (
-    Ok filter,
-    means,
-    ap (λ said. record { said = Ok said; session = record s { batch = s.batch ++ pair_for port filter ∷ [] } }) same
-        ∙ joined_text s (joined_line (codes "program ") port) port filter (ap (join_fault port) (sym state.batch) ∙ free),
-  );
-  stands = state_with s port filter old new state limits core batch;
-}
-
-pub table_joined : (s : SessionState) (port : ℕ) (hex : List ℕ) (filter : Filter) (line : List ℕ) (old new : Session)
-    → HasState old s
-    → IsTableHex hex (Ok filter) → join_fault port old.batch ≡ None → new.limits ≡ old.limits → new.core ≡ old.core
-    → new.batch ≡ old.batch ++ pair_for port filter ∷ [] → line ≡ joined_line (codes "table ") port
-    → Done s (table_of port hex) (Ok line) new
-table_joined s port hex filter line old new state means free limits core batch same = record {
-  session = record s { batch = s.batch ++ pair_for port filter ∷ [] };
-  replies = (
-    Ok filter,
-    means,
-    ap (λ said. record { said = Ok said; session = record s { batch = s.batch ++ pair_for port filter ∷ [] } }) same
-        ∙ joined_text s (joined_line (codes "table ") port) port filter (ap (join_fault port) (sym state.batch) ∙ free),
-  );
+  replies = replies (record { said = Ok line; session = record s { batch = s.batch ++ pair_for port filter ∷ [] } })
+      (ap (λ said. record { said = Ok said; session = record s { batch = s.batch ++ pair_for port filter ∷ [] } }) same
+      ∙ joined_text s (joined_line name port) port filter (ap (join_fault port) (sym state.batch) ∙ free));
   stands = state_with s port filter old new state limits core batch;
 }

@@ -1,5 +1,5 @@
 -- What was read and written, piece after piece.
-use Rattle.std.proofs.Common.{◌≡◌, ℕ, ◌+◌, false, List, [], ◌++◌, length, take, Option}
+use Rattle.std.proofs.Common.{◌≡◌, ℕ, ◌+◌, Bool, true, false, List, [], ◌++◌, length, take, Option}
 use Rattle.std.proofs.Common.{Result, Ok, Err, sym, ap, ◌∙◌, subst, append-nil, true≢false}
 use Rattle.std.specs.Prelude.{is_err, OnOk, OnErr}
 use Rattle.std.specs.Io.KnownBytes.{Appends, Consumes, Keeps, IsAtEnd}
@@ -7,10 +7,11 @@ use Rattle.std.proofs.Math.Seq.{take-append-add}
 use Rattle.gw_replay.specs.declared.script_reader.ScriptReader.{ScriptReader}
 use Rattle.gw_replay.specs.declared.whole.ReplayFault.{ReplayFault}
 use Rattle.gw_replay.specs.Scripts.{BeginsAnswer}
+use Rattle.gw_io.specs.Pieces.{IsNextPiece}
 use Rattle.gw_io.specs.Written.{WritesPart}
 use Rattle.gw_replay.specs.Written.{IsReplayed, IsPartlyReplayed}
 use Rattle.gw_replay.specs.Reached.{HasReached, HasFed, EndsWith, IsUnderWay}
-use Rattle.gw_io.proofs.Callers.{consumed_more, consumed_kept, appended_on, whole_part}
+use Rattle.gw_io.proofs.Callers.{consumed_more, consumed_kept, met_piece, met_end, appended_on, whole_part}
 use Rattle.gw_replay.proofs.Reaching.{begins, reached_same}
 
 -- a part of what follows a text
@@ -41,38 +42,40 @@ fed_begins (Ok done) octets piece text q h = all_of (octets ++ piece) (text ++ q
 fed_begins (Err e) octets piece text q h = h
 
 -- a piece was read and its answers were written
-pub goes_on : {A E : Type 0} (a b c w x y : Option (List ℕ)) (p q next : ScriptReader) (r : Result A E) (piece : List ℕ)
-    → IsUnderWay a b w x p → Consumes b c piece
+pub goes_on : {A E : Type 0} {a b c w x y : Option (List ℕ)} {p next : ScriptReader} (r : Result A E) (piece kept : List ℕ)
+    (more : Bool) (q : ScriptReader) → IsUnderWay a b w x p → IsNextPiece b c kept (Ok more) → more ≡ true → piece ≡ kept
     → ((octets text : List ℕ) → HasReached octets p (text ++ p.answers.items) → HasFed octets piece text r q)
     → is_err r ≡ false → Appends x y q.answers.items → next.script ≡ q.script → next.kept ≡ q.kept → next.answers.items ≡ []
     → IsUnderWay a c w y next
-goes_on a b c w x y p q next r piece h consumed fed fine written script kept empty = record {
+goes_on {a} {b} {c} {w} {x} {y} {next} r piece kept more q h read some same fed fine written script rest empty = record {
   octets = h.octets ++ piece;
   text = h.text ++ q.answers.items;
-  consumed = consumed_more a b c h.octets piece h.consumed consumed;
+  consumed = consumed_more a b c h.octets piece h.consumed
+      (subst (Consumes b c) (sym same) (met_piece b c kept more some read).0);
   written = appended_on w x y h.text q.answers.items h.written written;
   empty = empty;
   reached = reached_same (h.octets ++ piece) (h.text ++ q.answers.items) q next
       (fed_whole r h.octets piece h.text q fine (fed h.octets h.text (reached_on h)))
-      script (ap (λ vec. vec.items) kept);
+      script (ap (λ vec. vec.items) rest);
 }
 
 -- a piece was read, and a beginning of its answers was written
-pub stops : {A E : Type 0} (a b c w x y : Option (List ℕ)) (p q : ScriptReader) (r : Result A E) (piece : List ℕ)
-    → IsUnderWay a b w x p → Consumes b c piece
+pub stops : {A E : Type 0} {a b c w x y : Option (List ℕ)} {p : ScriptReader} (r : Result A E) (piece kept : List ℕ)
+    (more : Bool) (q : ScriptReader) → IsUnderWay a b w x p → IsNextPiece b c kept (Ok more) → more ≡ true → piece ≡ kept
     → ((octets text : List ℕ) → HasReached octets p (text ++ p.answers.items) → HasFed octets piece text r q)
     → WritesPart x y q.answers.items → IsPartlyReplayed a c w y
-stops a b c w x y p q r piece h consumed fed written = record {
+stops {a} {b} {c} {w} {x} {y} r piece kept more q h read some same fed written = record {
   script = h.octets ++ piece;
-  consumed = consumed_more a b c h.octets piece h.consumed consumed;
+  consumed = consumed_more a b c h.octets piece h.consumed
+      (subst (Consumes b c) (sym same) (met_piece b c kept more some read).0);
   text = h.text ++ q.answers.items;
   answers = fed_begins r h.octets piece h.text q (fed h.octets h.text (reached_on h));
   written = part_behind w x y h.text q.answers.items h.written written;
 }
 
 -- a read failed, or there were too many
-pub stays : (a b c w x : Option (List ℕ)) (p : ScriptReader) → IsUnderWay a b w x p → Keeps b c → IsPartlyReplayed a c w x
-stays a b c w x p h kept = record {
+pub stays : {a b c w x : Option (List ℕ)} {p : ScriptReader} → IsUnderWay a b w x p → Keeps b c → IsPartlyReplayed a c w x
+stays {a} {b} {c} {w} {x} {p} h kept = record {
   script = h.octets;
   consumed = consumed_kept a b c h.octets h.consumed kept;
   text = h.text;
@@ -81,35 +84,34 @@ stays a b c w x p h kept = record {
 }
 
 -- the reader came to its end
-ends_whole : {A : Type 0} (a c w x y : Option (List ℕ)) (r : Result A ReplayFault) (octets text : List ℕ)
-    → Consumes a c octets → IsAtEnd c → Appends w x text → EndsWith octets text x y r → OnOk r (IsReplayed a c w y)
-ends_whole a c w x y (Ok done) octets text consumed end written h = record {
-  script = octets;
-  consumed = consumed;
-  end = end;
-  text = text ++ h.0;
-  answers = h.1;
-  written = appended_on w x y text h.0 written h.2;
-}
-ends_whole a c w x y (Err e) octets text consumed end written h = tt
-
-ends_partly : {A : Type 0} (a c w x y : Option (List ℕ)) (r : Result A ReplayFault) (octets text : List ℕ)
-    → Consumes a c octets → Appends w x text → EndsWith octets text x y r → OnErr r (IsPartlyReplayed a c w y)
-ends_partly a c w x y (Ok done) octets text consumed written h = tt
-ends_partly a c w x y (Err e) octets text consumed written h = record {
-  script = octets;
-  consumed = consumed;
-  text = text ++ h.0;
-  answers = h.1;
-  written = part_behind w x y text h.0 written h.2;
-}
-
--- both at once
-pub replayed_at_end : {A : Type 0} (a b c w x y : Option (List ℕ)) (p : ScriptReader) (r : Result A ReplayFault)
-    → IsUnderWay a b w x p → Keeps b c → IsAtEnd c
+pub ends_whole : {A : Type 0} {a b w x : Option (List ℕ)} {p : ScriptReader} (c y : Option (List ℕ)) (kept : List ℕ)
+    (more : Bool) (r : Result A ReplayFault) → IsUnderWay a b w x p → IsNextPiece b c kept (Ok more) → more ≡ false
     → ((octets text : List ℕ) → HasReached octets p (text ++ p.answers.items) → EndsWith octets text x y r)
-    → OnOk r (IsReplayed a c w y) × OnErr r (IsPartlyReplayed a c w y)
-replayed_at_end a b c w x y p r h kept end ended =
-    let all = consumed_kept a b c h.octets h.consumed kept in
+    → OnOk r (IsReplayed a c w y)
+ends_whole {a} {b} {w} {x} c y kept more (Ok done) h read none ended =
+    let end = met_end b c kept more none read in
     let said = ended h.octets h.text (reached_on h) in
-    (ends_whole a c w x y r h.octets h.text all end h.written said, ends_partly a c w x y r h.octets h.text all h.written said)
+    record {
+      script = h.octets;
+      consumed = consumed_kept a b c h.octets h.consumed end.0;
+      end = end.1;
+      text = h.text ++ said.0;
+      answers = said.1;
+      written = appended_on w x y h.text said.0 h.written said.2;
+    }
+ends_whole c y kept more (Err e) h read none ended = tt
+
+pub ends_partly : {A : Type 0} {a b w x : Option (List ℕ)} {p : ScriptReader} (c y : Option (List ℕ)) (kept : List ℕ)
+    (more : Bool) (r : Result A ReplayFault) → IsUnderWay a b w x p → IsNextPiece b c kept (Ok more) → more ≡ false
+    → ((octets text : List ℕ) → HasReached octets p (text ++ p.answers.items) → EndsWith octets text x y r)
+    → OnErr r (IsPartlyReplayed a c w y)
+ends_partly c y kept more (Ok done) h read none ended = tt
+ends_partly {a} {b} {w} {x} c y kept more (Err e) h read none ended =
+    let said = ended h.octets h.text (reached_on h) in
+    record {
+      script = h.octets;
+      consumed = consumed_kept a b c h.octets h.consumed (met_end b c kept more none read).0;
+      text = h.text ++ said.0;
+      answers = said.1;
+      written = part_behind w x y h.text said.0 h.written said.2;
+    }
