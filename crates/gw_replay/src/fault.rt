@@ -10,7 +10,7 @@ use std::fmt;
 use std::fmt::{Display, Formatter};
 
 /// Why a line of a script is refused.
-#[derive(Drop, Debug)]
+#[derive(Drop)]
 pub enum Fault {
     /// 98: more than 1048576 octets.
     LongLine,

@@ -16,7 +16,7 @@ pub const RECORD_HEADER: usize = 16;
 pub const RECORD_OCTETS: usize = 16;
 
 /// What octets behind a header or a record begin with.
-#[derive(Clone, Copy, PartialEq, Eq, Debug)]
+#[derive(Clone, Copy)]
 pub enum Beginning {
     /// Less than a record, and nothing wrong with it so far.
     Unfinished,

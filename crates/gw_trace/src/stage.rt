@@ -4,7 +4,7 @@ use crate::byte_order::Endian;
 use crate::refusal::TraceRefusal;
 
 /// Where the octets read so far end.
-#[derive(Clone, Copy, PartialEq, Eq, Debug)]
+#[derive(Clone, Copy)]
 pub enum Stage {
     /// Within the header.
     Header,
