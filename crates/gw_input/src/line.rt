@@ -10,7 +10,7 @@ use gw_ledger::PortSet;
 use itoa::Buffer;
 use std::marker::Model;
 
-/// The room of a line.
+/// The most octets of a line.
 const ROOM: usize = 192;
 
 /// A line of output of at most 192 octets.
@@ -28,7 +28,7 @@ impl Model for Line {
 }
 
 impl Line {
-    /// No octets.
+    /// Makes an empty line.
     pub fn new() -> Line
         ensures { result ≡ [] }
     {
@@ -37,7 +37,7 @@ impl Line {
         }
     }
 
-    /// The line with a text behind it.
+    /// Appends a text.
     pub fn text(mut self, text: &str) -> Line
         requires { length self + length text.now ≤ 192 }
         ensures octets { result ≡ self ++ text.now }
@@ -47,7 +47,7 @@ impl Line {
         self
     }
 
-    /// The line with a space and the decimal digits of a number behind it.
+    /// Appends a space and the decimal digits of a number.
     pub fn number(mut self, n: u64) -> Line
         requires { length self + 21 ≤ 192 }
         ensures octets { result ≡ self ++ 32 ∷ decimal n }
@@ -61,7 +61,7 @@ impl Line {
         self
     }
 
-    /// The line with the decimal digits of a number behind it.
+    /// Appends the decimal digits of a number.
     pub fn digits(mut self, n: u64) -> Line
         requires { length self + 20 ≤ 192 }
         ensures octets { result ≡ self ++ decimal n }
@@ -74,7 +74,7 @@ impl Line {
         self
     }
 
-    /// The line with the decimal digits of a port behind it.
+    /// Appends the decimal digits of a port.
     pub fn port(mut self, port: u8) -> Line
         requires { length self + 3 ≤ 192 }
         ensures octets { result ≡ self ++ decimal port }
@@ -87,7 +87,7 @@ impl Line {
         self
     }
 
-    /// The line with a set of ports behind it: their numbers with commas between, or `-` for none.
+    /// Appends the numbers of a set of ports, with commas between, or `-` for none.
     pub fn ports(self, ports: PortSet) -> Line
         requires { length self + 64 ≤ 192 }
         ensures octets { result ≡ self ++ ports_text ports }
@@ -107,7 +107,7 @@ impl Line {
         line
     }
 
-    /// The line with a port behind it, and a comma before that where others stand there.
+    /// Appends a port, behind a comma where other ports stand before it.
     fn member(self, behind: bool, port: u8) -> Line
         requires { length self + 4 ≤ 192 }
         ensures octets { result ≡ self ++ (if behind then 44 ∷ decimal port else decimal port) }
@@ -120,7 +120,7 @@ impl Line {
         }
     }
 
-    /// The line with the octets of a frame behind it, in lower-case hexadecimal digits.
+    /// Appends the octets of a frame in lower-case hexadecimal digits.
     pub fn hex(mut self, frame: &Frame) -> Line
         requires { length self + 32 ≤ 192 }
         ensures octets { result ≡ self ++ encode_lower frame.now }

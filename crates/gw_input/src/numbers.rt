@@ -8,7 +8,7 @@ ghost use Rattle.gw_input.specs.Words.{number_in, number_before};
 
 use crate::lines::first_word;
 
-/// The number of 1 to 10 decimal digits that a word spells, if that is at most `most`.
+/// Reads a word of 1 to 10 decimal digits as a number, if that is at most `most`.
 #[tactic(auto, using(crate::proofs::DecimalValues::number_there))]
 pub fn number(word: &[u8], most: u32) -> Option<u32>
     ensures number { result ≡ number_in most word.now }
@@ -46,7 +46,7 @@ fn decimal_value(digits: &[u8]) -> u64
     n
 }
 
-/// The number of a port, at most 255.
+/// Reads a word as the number of a port, at most 255.
 pub fn port(word: &[u8]) -> Option<u8>
     ensures { result ≡ number_in 255 word.now }
 {
@@ -54,7 +54,7 @@ pub fn port(word: &[u8]) -> Option<u8>
     Some(n as u8)
 }
 
-/// The number that a text's first word spells, and what stands behind the space that ends it.
+/// Reads a text's first word as a number. Returns it with what stands behind the space that ends the word.
 pub fn number_before(text: &[u8], most: u32) -> Option<(u32, &[u8])>
     ensures number { option_map (λ f. (f.0, f.1.now)) result ≡ number_before most text.now }
     ensures most { IfSome result (λ f. f.0 ≤ most) }
@@ -65,7 +65,7 @@ pub fn number_before(text: &[u8], most: u32) -> Option<(u32, &[u8])>
     Some((n, behind))
 }
 
-/// The same of a port's number, at most 255.
+/// Reads a text's first word as the number of a port, at most 255. Returns it with what stands behind the space.
 pub fn port_before(text: &[u8]) -> Option<(u8, &[u8])>
     ensures { option_map (λ f. (f.0, f.1.now)) result ≡ number_before 255 text.now }
 {

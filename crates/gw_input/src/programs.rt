@@ -16,7 +16,7 @@ use std::fmt::{Display, Formatter};
 pub enum ProgramFault {
     /// 10 to 13: a text that is no listing.
     Listing(ListRefusal),
-    /// 20 to 30: code that is not accepted, which comes back.
+    /// 20 to 30: code that is not accepted. The fault has it.
     Code(Refused),
 }
 
@@ -46,7 +46,7 @@ impl Display for ProgramFault {
 
 impl Error for ProgramFault {}
 
-/// The accepted program of a listing.
+/// Reads the program of a listing, if its code is accepted.
 pub fn program(alloc: Global, listing: &[u8]) -> Result<Program, ProgramFault>
     ensures named { IfOk result (NamesProgram listing.now) }
     ensures refused { IfErr result (IsProgramFault listing.now) }
@@ -55,7 +55,7 @@ pub fn program(alloc: Global, listing: &[u8]) -> Result<Program, ProgramFault>
     Program::check(alloc, code).map_err(ProgramFault::Code)
 }
 
-/// The policy of a listing: that of its accepted program.
+/// Reads the program of a listing as a policy.
 pub fn program_policy(alloc: Global, listing: &[u8]) -> Result<Policy, ProgramFault>
     ensures policy { IfOk result (IsProgramPolicy listing.now) }
     ensures refused { IfErr result (IsProgramFault listing.now) }

@@ -65,7 +65,7 @@ fn no_digit<W: fmt::Write>(f: &mut Formatter<W>, at: usize, octet: u8) -> fmt::R
     )
 }
 
-/// The record that hexadecimal digits spell. It takes no memory.
+/// Reads the record that hexadecimal digits spell. It takes no memory.
 pub fn record(text: &[u8]) -> Result<Frame, RecordFault>
     ensures named { IfOk result (λ frame. NamesRecord text.now frame) }
     ensures refused { IfErr result (IsRecordFault text.now) }

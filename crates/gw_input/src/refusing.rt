@@ -7,7 +7,7 @@ ghost use Rattle.gw_input.specs.Refused.{refused_line, cause_details};
 use crate::line::Line;
 use gw_verify::Cause;
 
-/// The line `refused`, a number, and the numbers that it names.
+/// Returns the line of a refusal: `refused`, its number and its details.
 pub fn refused(number: u32, details: &[u64]) -> Line
     requires { length details.now ≤ 4 }
     ensures { result ≡ refused_line number details.now }
@@ -19,7 +19,7 @@ pub fn refused(number: u32, details: &[u64]) -> Line
     line.text("\n")
 }
 
-/// The line that refuses code: its place, and the scratch word that may be unset.
+/// Returns the line of refused code. Its details are the place, and the scratch word that may be unset.
 pub fn refused_code(why: Cause, place: usize) -> Line
     ensures { result ≡ refused_line (cause_number why) (cause_details why place) }
 {

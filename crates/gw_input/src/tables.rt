@@ -18,7 +18,7 @@ pub enum TableFault {
     OutOfMemory,
 }
 
-/// The table that octets write.
+/// Reads a table from the octets of its text.
 pub fn table(alloc: Global, octets: &[u8]) -> Result<Table, TableFault>
     ensures table { IfOk result (IsTable octets.now) }
     ensures refused { IfErr result (IsTableFault octets.now) }
@@ -29,7 +29,7 @@ pub fn table(alloc: Global, octets: &[u8]) -> Result<Table, TableFault>
     Table::read(alloc, text).map_err(TableFault::Text)
 }
 
-/// The policy of the table that octets write: the table with the program that it is compiled to.
+/// Reads a table from the octets of its text, and compiles it to a policy.
 pub fn table_policy(alloc: Global, octets: &[u8]) -> Result<Policy, TableFault>
     ensures policy { IfOk result (IsTablePolicy octets.now) }
     ensures refused { IfErr result (IsTableFault octets.now) }

@@ -12,7 +12,7 @@ use std::io::Write;
 #[derive(Clone, Copy, PartialEq, Eq, Debug)]
 pub struct WriteFault;
 
-/// Writes the octets, one piece after another. Where a write failed, a beginning of them was written.
+/// Writes all octets, in as many calls as the writer needs. After a failed write, a beginning of them was written.
 pub fn write_all<W: Write>(writer: &mut Tried<W>, octets: &[u8]) -> Result<(), WriteFault>
     requires { has_failed writer.old ≡ false }
     ensures written { OnOk result (Appends (W.contents (inner_of writer.old)) (W.contents (inner_of writer.new)) octets.now) }

@@ -18,7 +18,7 @@ const PIECE: usize = 65536;
 #[derive(Clone, Copy, PartialEq, Eq, Debug)]
 pub struct ReadFault;
 
-/// A piece of an input, and how many reads of it are left.
+/// Reads an input piece by piece, and counts its reads down.
 #[derive(Drop)]
 pub struct Pieces {
     octets: [u8; PIECE],
@@ -38,7 +38,7 @@ impl Model for Pieces {
 }
 
 impl Pieces {
-    /// No piece yet, and 16777216 reads left.
+    /// Holds no piece yet, and has 16777216 reads left.
     pub fn new() -> Pieces
         ensures { result.left ≡ most_reads }
     {
@@ -49,7 +49,8 @@ impl Pieces {
         }
     }
 
-    /// Reads the next piece, of at most 65536 octets; false at the end. It is one read call, and none where no read is left.
+    /// Reads the next piece, of at most 65536 octets, by one call of the reader. At the end of the input it returns false.
+    /// Where no read is left, it refuses and calls nothing.
     pub fn read<R: Read>(&mut self, reader: &mut Tried<R>) -> Result<bool, ReadFault>
         ensures piece { IsNextPiece (R.remaining (inner_of reader.old)) (R.remaining (inner_of reader.new))
             self.new.piece result }

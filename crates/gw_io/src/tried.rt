@@ -2,7 +2,7 @@
 
 ghost use Rattle.std.specs.Prelude.{◌≡◌, false};
 
-/// A reader or a writer that remembers whether a call failed and how often it was read. Each call is handed on.
+/// Wraps a reader or a writer, and hands each call on to it. It remembers whether a call failed, and counts the reads.
 #[derive(Drop)]
 pub struct Tried<T> {
     pub(crate) inner: T,

@@ -47,7 +47,7 @@ pub enum Command<'a> {
     },
 }
 
-/// The command that the words of a line are, if they are one.
+/// Reads the command of a line, if its words are one.
 pub fn command_of(line: &[u8]) -> Option<Command<'_>>
     ensures { option_map command_view result ≡ request_of line.now }
 {
@@ -61,7 +61,7 @@ pub fn command_of(line: &[u8]) -> Option<Command<'_>>
     with_words(name, behind?)
 }
 
-/// The command of a name that words follow.
+/// Reads the command of a name that words follow.
 fn with_words<'a>(name: &'a [u8], words: &'a [u8]) -> Option<Command<'a>>
     ensures { option_map command_view result ≡ named_request name.now words.now }
 {
@@ -89,7 +89,7 @@ fn with_words<'a>(name: &'a [u8], words: &'a [u8]) -> Option<Command<'a>>
     }
 }
 
-/// A port and the text behind it, which is not empty.
+/// Reads a port and the text behind it, which is not empty.
 fn text_behind(words: &[u8]) -> Option<(u8, &[u8])>
     ensures { option_map (λ f. (f.0, f.1.now)) result ≡ text_behind words.now }
 {
@@ -100,7 +100,7 @@ fn text_behind(words: &[u8]) -> Option<(u8, &[u8])>
     Some((port, text))
 }
 
-/// A port and the word behind it.
+/// Reads a port and the word behind it.
 fn word_behind(words: &[u8]) -> Option<(u8, &[u8])>
     ensures { option_map (λ f. (f.0, f.1.now)) result ≡ word_behind words.now }
 {
@@ -111,7 +111,7 @@ fn word_behind(words: &[u8]) -> Option<(u8, &[u8])>
     Some((port, word))
 }
 
-/// Two ports.
+/// Reads the two ports of `send`.
 fn send_words(words: &[u8]) -> Option<Command<'_>>
     ensures { option_map command_view result ≡ send_in words.now }
 {
@@ -120,7 +120,7 @@ fn send_words(words: &[u8]) -> Option<Command<'_>>
     Some(Command::Send { to, from })
 }
 
-/// Four numbers.
+/// Reads the four numbers of `limits`.
 fn limits_words(words: &[u8]) -> Option<Command<'_>>
     ensures { option_map command_view result ≡ limits_in words.now }
 {

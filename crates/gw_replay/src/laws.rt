@@ -5,7 +5,7 @@ ghost use Rattle.gw_replay.specs.Scripts.{IsAnswer, BeginsAnswer};
 
 use gw_verify::one_refusal;
 
-/// A script has one text of answers at most, and what is answered to its first lines is the beginning of that text.
+/// A script has one text of answers at most. The answers to its first lines are the beginning of that text.
 pub fn scripts_have_one_answer()
     ensures only { (script text other : List ℕ) → IsAnswer script text → IsAnswer script other → text ≡ other }
     ensures begins { (script text whole : List ℕ) → BeginsAnswer script text → IsAnswer script whole

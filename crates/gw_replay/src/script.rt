@@ -68,14 +68,14 @@ impl Script {
     ghost use Rattle.gw_replay.specs.Said.{said_text};
     ghost use Rattle.gw_replay.specs.Standing.{StandsIn, IsObeyed, IsAnswered};
 
-    /// Before the first line.
+    /// Starts before the first line.
     pub fn new() -> Script
         ensures { result.session ≡ None }
     {
         Script { session: None }
     }
 
-    /// What a line is answered, unless the memory that it needs was refused.
+    /// Answers a line. It fails only where the memory that the line needs was refused.
     pub fn answer(&mut self, alloc: Global, line: &[u8]) -> Result<Said, AllocError>
         ensures { (s : Option SessionState) → StandsIn self.old.session s
             → IfOk result (λ said. IsAnswered s line.now (said_text said) self.new.session) }
@@ -106,7 +106,7 @@ impl Script {
     }
 }
 
-/// Makes the gateway: before that no other command is accepted.
+/// Makes the gateway by the command `limits`. No other command is accepted before.
 fn begin(alloc: Global, asked: Command<'_>) -> Result<Session, Fault>
     ensures made { IfOk result (Begins (command_view asked.entry)) }
     ensures refused { IfErr result (IsFirstFault (command_view asked.entry)) }

@@ -13,7 +13,7 @@ use gw_io::{Tried, write_all};
 use std::alloc::{AllocError, Global};
 use std::io::Write;
 
-/// How many octets of an unfinished line are kept: one with more is too long, whatever follows.
+/// How many octets of an unfinished line are kept. A line that has more is too long, whatever follows.
 const MAX_KEPT: usize = MAX_INPUT + 2;
 
 /// Reads a script in pieces, and answers each line as soon as it is whole.
@@ -36,7 +36,7 @@ impl ScriptReader {
     ghost use Rattle.gw_replay.specs.Reached.{HasReached, HasFed, FeedsLine, AnswersKept, EndsWith, IsEndFault};
     ghost use Rattle.gw_replay.specs.Reached.{most_kept, left_behind};
 
-    /// Before the first octet.
+    /// Starts before the first octet.
     pub fn new(alloc: Global) -> ScriptReader
         ensures reached { HasReached [] result [] }
         ensures empty { result.answers.items ≡ [] }
@@ -69,7 +69,7 @@ impl ScriptReader {
         Ok(())
     }
 
-    /// Answers the line that ends in a text, and gives what stands behind it; keeps the text where none does.
+    /// Answers the line that ends in a text, and returns what stands behind it. A text where no line ends is kept.
     fn feed_line<'a, F: Write>(
         &mut self,
         alloc: Global,
@@ -105,7 +105,7 @@ impl ScriptReader {
         self.kept.extend_from_slice(&part[..room])
     }
 
-    /// Answers the line that is kept, which a line feed ended or the script's end.
+    /// Answers the line that is kept. A line feed ended it, or else the script's end.
     fn answer_kept<F: Write>(
         &mut self,
         alloc: Global,
@@ -130,7 +130,7 @@ impl ScriptReader {
         }
     }
 
-    /// Writes the answers that are to be written.
+    /// Writes the answers that were not written yet.
     pub fn write<W: Write>(&mut self, writer: &mut Tried<W>) -> Result<(), ReplayFault>
         requires { has_failed writer.old ≡ false }
         ensures written { OnOk result (Appends (W.contents (inner_of writer.old)) (W.contents (inner_of writer.new))

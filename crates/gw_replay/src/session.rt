@@ -32,7 +32,7 @@ impl Session {
     ghost use Rattle.gw_replay.specs.Scripts.{limits_fit, new_session};
     ghost use Rattle.gw_replay.specs.Standing.{HasState, Happened, Done, IsLimitsFault};
 
-    /// Makes a gateway within limits: 70 where they are outside their ranges.
+    /// Makes a gateway within limits. 70 is a limit outside its range.
     pub fn new(
         alloc: Global,
         ports: u32,
@@ -61,8 +61,8 @@ impl Session {
         }
     }
 
-    /// Does a command, and gives the line of its answer. A refused one changes nothing, but that `publish` empties the
-    /// open batch.
+    /// Does a command, and returns the line of its answer. A refused command changes nothing, except that `publish` empties
+    /// the open batch.
     pub fn obey(&mut self, alloc: Global, asked: Command<'_>) -> Result<Line, Fault>
         ensures { (s : SessionState) → HasState self.old s → Done s (command_view asked.entry) result self.new }
     {
@@ -78,7 +78,7 @@ impl Session {
         }
     }
 
-    /// The line of what the gateway answers to an event.
+    /// Hands an event to the gateway, and returns the line of its answer.
     fn happen(&mut self, event: Event) -> Result<Line, Fault>
         ensures { (s : SessionState) → HasState self.old s → Happened s event result self.new }
     {
@@ -100,7 +100,7 @@ impl Session {
         self.happen(Event::Send { to, from })
     }
 
-    /// A frame is taken at a port: 97 and 1 to 4 for a text that is no record.
+    /// Takes a frame at a port. 97 and 1 to 4 refuse a text that is no record.
     fn take(&mut self, port: u8, hex: &[u8]) -> Result<Line, Fault>
         ensures { (s : SessionState) → HasState self.old s → Done s (take_at port hex.now) result self.new }
     {
@@ -110,7 +110,7 @@ impl Session {
         }
     }
 
-    /// The open batch is published, and is empty afterwards.
+    /// Publishes the open batch, which is empty afterwards.
     fn publish(&mut self) -> Result<Line, Fault>
         ensures { (s : SessionState) → HasState self.old s → Done s publish_all result self.new }
     {
@@ -118,7 +118,7 @@ impl Session {
         self.happen(Event::Publish(batch))
     }
 
-    /// What a port counts: 72 for one that is not there.
+    /// Returns the line of a port's ledger. 72 refuses a port that is not there.
     fn ledger(&self, port: u8) -> Result<Line, Fault>
         ensures { (s : SessionState) → HasState self.now s → result ≡ ledger_said s port }
     {
@@ -128,7 +128,7 @@ impl Session {
         Ok(ledger_line(self.core.ledger(port)))
     }
 
-    /// A program joins the open batch.
+    /// Adds a program to the open batch.
     fn program(&mut self, alloc: Global, port: u8, listing: &[u8]) -> Result<Line, Fault>
         ensures { (s : SessionState) → HasState self.old s → Done s (program_of port listing.now) result self.new }
     {
@@ -137,7 +137,7 @@ impl Session {
         Ok(Line::new().text("program ").port(port).text("\n"))
     }
 
-    /// A table joins the open batch.
+    /// Adds a table to the open batch.
     fn table(&mut self, alloc: Global, port: u8, hex: &[u8]) -> Result<Line, Fault>
         ensures { (s : SessionState) → HasState self.old s → Done s (table_of port hex.now) result self.new }
     {
@@ -147,7 +147,7 @@ impl Session {
     }
 }
 
-/// A policy joins the open batch for a port: 60 where the batch has one for the port, else 61 where it has sixteen.
+/// Adds a policy for a port to the open batch. 60 refuses a port that has one there; else 61 refuses a seventeenth policy.
 fn join(alloc: Global, batch: &mut Batch, port: u8, policy: Policy) -> Result<(), Fault>
     ensures free { OnOk result (join_fault port batch.old ≡ None) }
     ensures joined { OnOk result (batch.new ≡ batch.old ++ pair_for port policy ∷ []) }

@@ -66,8 +66,8 @@ impl From<AllocError> for ReplayFault {
     }
 }
 
-/// Runs a script, and writes a line for each of its commands, as soon as the piece that ends it was read. Answers that
-/// stand before a fault are written.
+/// Runs a script. The line that answers a command is written as soon as the piece that ends the command was read. Answers
+/// that stand before a fault are written.
 pub fn replay<R: Read, W: Write>(
     alloc: Global,
     reader: &mut Tried<R>,
@@ -88,7 +88,7 @@ pub fn replay<R: Read, W: Write>(
     replay_told(alloc, reader, writer, &mut Tried::new(io::sink()))
 }
 
-/// The same, and tells a person on stderr why lines are refused.
+/// Runs a script as `replay` does, and tells a person on a third stream why lines are refused.
 pub fn replay_told<R: Read, W: Write, F: Write>(
     alloc: Global,
     reader: &mut Tried<R>,

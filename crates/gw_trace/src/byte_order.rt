@@ -46,7 +46,7 @@ fn is_magic(number: u32) -> bool
     number == 0xA1B2_C3D4 || number == 0xA1B2_3C4D
 }
 
-// The byte order in which the octets begin with a magic number.
+// Finds the byte order in which the octets begin with a magic number.
 fn shown_order(octets: &[u8]) -> Option<Endian>
     requires { 4 ≤ length octets.now }
     ensures { result ≡ order_of octets.now }
@@ -61,7 +61,7 @@ fn shown_order(octets: &[u8]) -> Option<Endian>
     }
 }
 
-/// The byte order of a trace with this header, or what is wrong with the header.
+/// Reads the header of a trace. Returns its byte order, or what is wrong with it.
 #[tactic(auto, unfolding(crate::specs::Traces::header_of))]
 pub fn header(octets: &[u8]) -> Result<Endian, TraceRefusal>
     requires { HEADER ≤ length octets.now }

@@ -70,8 +70,8 @@ impl<'a> Checked<'a> {
         self.len
     }
 
-    /// The port's share among so many ports: the frames whose number, counted from 0, leaves `port` over when it is divided
-    /// by `ports`, in order.
+    /// Returns the port's share among so many ports, in order: each frame whose number modulo `ports` is `port`. Numbers count
+    /// from 0.
     pub fn share(&self, port: usize, ports: usize) -> Share<'a>
         requires { port < ports }
         ensures { result ≡ share_of port ports self.now }
@@ -84,7 +84,7 @@ impl<'a> Checked<'a> {
         }
     }
 
-    // Appends the frames, for which there is room.
+    // Appends the frames to a vector that has room for them.
     pub(crate) fn append_to(&self, frames: &mut Vec<Frame>)
         requires { vec_len frames.old + length self.now ≤ vec_capacity frames.old }
         ensures { frames.new.items ≡ frames.old.items ++ self.now }

@@ -17,8 +17,8 @@ use crate::trace::Trace;
 use crate::{byte_order, scan};
 use gw_frame::Frame;
 
-/// What a piece adds to a trace: the record that was begun before it, the records that stand whole in it, and the trace
-/// afterwards.
+/// What a piece of a trace says: the frame of the record that it completes, the records that stand whole in it, and the
+/// trace afterwards.
 #[derive(Drop)]
 pub struct DecodedPiece<'a> {
     pub first: Option<Frame>,
@@ -27,7 +27,7 @@ pub struct DecodedPiece<'a> {
 }
 
 impl<'a> DecodedPiece<'a> {
-    // No frame.
+    // A piece that gives no frame.
     pub fn nothing(next: Trace) -> DecodedPiece<'a>
         ensures first { result.first ≡ None }
         ensures others { result.others ≡ [] }
@@ -55,7 +55,7 @@ impl<'a> DecodedPiece<'a> {
         }
     }
 
-    /// Appends the frames, for which there is room, and gives the trace afterwards.
+    /// Appends the frames to a vector that has room for them. Returns the trace afterwards.
     pub fn give(self, frames: &mut Vec<Frame>) -> Trace
         requires { vec_len frames.old + length (frames_in self) ≤ vec_capacity frames.old }
         ensures frames { frames.new.items ≡ frames.old.items ++ frames_in self.entry }
@@ -68,7 +68,7 @@ impl<'a> DecodedPiece<'a> {
         self.next
     }
 
-    /// The fault, where no frame stands before it.
+    /// Returns the fault, if no frame stands before it.
     pub fn refusal(&self) -> Option<TraceRefusal>
         ensures { result ≡ refusal_in (frames_in self.now) self.now.next.stage }
     {
@@ -80,7 +80,7 @@ impl<'a> DecodedPiece<'a> {
     }
 }
 
-// What a piece adds in the header.
+// Decodes a piece of a trace whose header was not whole before.
 pub fn decode_header<'a>(partial: &Partial, piece: &'a [u8]) -> DecodedPiece<'a>
     requires { length partial.now < 24 }
     ensures { IsDecoded result 0 (reading (partial.now ++ piece.now)) }
@@ -98,7 +98,7 @@ pub fn decode_header<'a>(partial: &Partial, piece: &'a [u8]) -> DecodedPiece<'a>
     }
 }
 
-// What a piece adds behind the header, where so many frames were given.
+// Decodes a piece of records. So many frames were given before.
 pub fn decode_records<'a>(
     order: Endian,
     given: usize,
@@ -128,7 +128,7 @@ pub fn decode_records<'a>(
     }
 }
 
-// A frame, and the records that octets hold, where so many frames stand before these.
+// Decodes octets that begin with a record, and puts a frame before their frames. So many frames stand before the octets.
 fn records<'a>(
     order: Endian,
     before: usize,
@@ -148,7 +148,7 @@ fn records<'a>(
     }
 }
 
-// The trace behind a scan, where so many frames stand before those of the scan.
+// Returns the trace behind a scan. So many frames stand before those of the scan.
 fn behind(order: Endian, before: usize, scan: &Scan) -> Trace
     requires { scan.now.fault ≡ None → beginning order scan.now.rest.now ≡ Unfinished }
     ensures { result ≡ kept_after before (reading_from order before (found scan.now)) }

@@ -7,7 +7,7 @@ use std::marker::Model;
 /// The most octets of a header or a record that is not whole yet: a record of 16 octets behind its header.
 pub const MAX_PARTIAL: usize = 32;
 
-/// Up to 32 octets.
+/// The octets of a header or a record that is not whole yet, 32 at most.
 #[derive(Drop)]
 pub struct Partial {
     octets: [u8; MAX_PARTIAL],
@@ -25,7 +25,7 @@ impl Model for Partial {
 }
 
 impl Partial {
-    /// No octets.
+    /// Holds no octets.
     pub fn new() -> Self
         ensures { result ≡ [] }
     {
@@ -35,7 +35,7 @@ impl Partial {
         }
     }
 
-    /// These octets, of which there are few enough.
+    /// Holds these octets.
     pub fn of(octets: &[u8]) -> Self
         requires { length octets.now ≤ MAX_PARTIAL }
         ensures { result ≡ octets.now }
@@ -51,7 +51,7 @@ impl Partial {
         &self.octets[..self.len]
     }
 
-    /// The octets, and a piece behind them: so many at most.
+    /// Returns the octets with a piece behind them, cut to `most` octets.
     pub fn joined(&self, piece: &[u8], most: usize) -> Partial
         requires within { length self.now ≤ most }
         requires room { most ≤ MAX_PARTIAL }

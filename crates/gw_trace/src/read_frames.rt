@@ -13,8 +13,8 @@ use gw_io::{Pieces, Tried};
 use std::alloc::Global;
 use std::io::Read;
 
-/// Reads a trace to its end: the frames of all its records, in order. Where a read fails, or 16777216 reads did not reach the
-/// end, it is 96, which comes before 90 to 93 and 95; 94 is want of memory.
+/// Reads a trace to its end, and returns the frames of all its records in order. 96 is a failed read, or an end that 16777216
+/// reads did not reach. It comes before 90 to 93 and 95. 94 is no memory.
 pub fn frames<R: Read>(alloc: Global, reader: &mut Tried<R>) -> Result<Vec<Frame>, TraceRefusal>
     requires whole { has_failed reader.old ≡ false }
     requires unread { reads_of reader.old ≡ 0 }

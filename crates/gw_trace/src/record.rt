@@ -9,24 +9,24 @@ ghost use Rattle.gw_trace.specs.Wholes.{IsWithin};
 use crate::byte_order::Endian;
 use gw_frame::{Frame, FrameRefusal};
 
-/// How many octets stand before a record's own.
+/// How many octets the header of a record has.
 pub const RECORD_HEADER: usize = 16;
 
-/// The most octets of a record, behind its header. Most writers give each record so many.
+/// The most octets of a record behind its header. Most writers give every record this length.
 pub const RECORD_OCTETS: usize = 16;
 
-/// What octets behind a header or a record begin with.
+/// What stands at the front of octets among records.
 #[derive(Clone, Copy)]
 pub enum Beginning {
     /// Less than a record, and nothing wrong with it so far.
     Unfinished,
     /// A record that is no frame.
     Bad(FrameRefusal),
-    /// A record of so many octets, behind its header.
+    /// A whole record, with so many octets behind its header.
     Whole(usize),
 }
 
-/// The captured length, as a record's header has it.
+/// Reads the captured length in a record's header.
 pub fn captured_len(order: Endian, octets: &[u8]) -> usize
     requires { RECORD_HEADER ≤ length octets.now }
     ensures { result ≡ captured_length order octets.now }
@@ -34,7 +34,7 @@ pub fn captured_len(order: Endian, octets: &[u8]) -> usize
     order.read_u32(&octets[8..12]) as usize
 }
 
-/// What the octets begin with.
+/// Tells what stands at the front of octets.
 #[tactic(auto, unfolding(crate::specs::Traces::beginning))]
 pub fn begins(order: Endian, octets: &[u8]) -> Beginning
     ensures begins { result ≡ beginning order octets.now }
@@ -59,7 +59,7 @@ pub fn begins(order: Endian, octets: &[u8]) -> Beginning
     }
 }
 
-/// Whether the octets begin with a whole record of the longest form.
+/// Whether a whole record of the longest form stands at the front of octets.
 #[tactic(auto, unfolding(crate::specs::Traces::beginning))]
 pub fn begins_longest(order: Endian, octets: &[u8]) -> bool
     ensures begins { OnTrue result (beginning order octets.now ≡ Whole RECORD_OCTETS) }
@@ -71,7 +71,7 @@ pub fn begins_longest(order: Endian, octets: &[u8]) -> bool
         && Frame::read(&octets[RECORD_HEADER..RECORD_HEADER + RECORD_OCTETS]).is_ok()
 }
 
-/// The frame of the whole record that the octets begin with.
+/// Returns the frame of the whole record at the front of octets.
 pub fn frame_in(order: Endian, octets: &[u8], count: usize) -> Frame
     requires whole { beginning order octets.now ≡ Whole count }
     requires within { RECORD_HEADER + count ≤ length octets.now }

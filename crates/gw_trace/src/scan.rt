@@ -65,8 +65,8 @@ pub fn over<'a>(order: Endian, octets: &'a [u8]) -> Scan<'a>
     }
 }
 
-// Goes past records of the longest form. They have a loop of their own, so that the processor need not wait for a record's
-// length before it looks for the next one.
+// Goes past records of the longest form. They have a loop of their own: the processor need not wait for a record's length
+// before it looks for the next one.
 fn past_longest(order: Endian, octets: &[u8], front: Front) -> Front
     requires { IsFront order octets.now front }
     ensures front { IsFront order octets.now result }

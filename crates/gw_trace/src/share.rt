@@ -18,7 +18,7 @@ pub struct Share<'a> {
     pub(crate) records: &'a [u8],
     /// How many of these stand before the next frame.
     pub(crate) skip: usize,
-    /// How many records of others stand between two frames.
+    /// How many records of other ports stand between two frames.
     pub(crate) others: usize,
 }
 
@@ -92,8 +92,8 @@ fn parted<'a>(order: Endian, records: &'a [u8], len: usize) -> (Frame, &'a [u8])
     (frame, rest)
 }
 
-// The records behind so many, or none where there are no more. Records of the longest form have a loop of their own, so that
-// the processor need not wait for a record's length before it looks for the next one.
+// Skips so many records, or all of them where there are no more. Records of the longest form have a loop of their own: the
+// processor need not wait for a record's length before it looks for the next one.
 fn passed<'a>(order: Endian, records: &'a [u8], count: usize) -> &'a [u8]
     requires { AreRecords order records.now }
     ensures frames { (contents order result.now).frames ≡ drop count (contents order records.now).frames }
@@ -110,7 +110,7 @@ fn passed<'a>(order: Endian, records: &'a [u8], count: usize) -> &'a [u8]
     rest
 }
 
-// The same, whatever the records' lengths.
+// Skips so many records of any length, or all of them where there are no more.
 fn passed_any<'a>(order: Endian, records: &'a [u8], count: usize) -> &'a [u8]
     requires { AreRecords order records.now }
     ensures frames { (contents order result.now).frames ≡ drop count (contents order records.now).frames }

@@ -45,9 +45,9 @@ impl Trace {
         Trace::beginning(Partial::new())
     }
 
-    /// Reads the next piece, and gives the frames that become whole with it. A fault, 90 to 93, is the answer at once where
-    /// no frame stands before it in the piece, else of the next call, and then for good. After 94, want of memory, nothing
-    /// has changed.
+    /// Reads the next piece, and returns the frames that become whole with it. A fault, 90 to 93, is returned at once where no
+    /// frame stands before it in the piece. Else the next call returns it. Each call after that returns it again. 94, no
+    /// memory, leaves the trace as it was.
     pub fn feed(&mut self, alloc: Global, piece: &[u8]) -> Result<Vec<Frame>, TraceRefusal>
         ensures frames { (octets : List ℕ) → HasRead self.old octets →
             IfOk result (λ frames. Gives octets piece.now frames.items) }
@@ -74,7 +74,7 @@ impl Trace {
         }
     }
 
-    /// What is wrong with a trace that ends here: the fault met, or 95 where it ends inside its header or inside a record.
+    /// Tells what is wrong with a trace that ends here: the fault that was met, or 95 inside its header or a record.
     pub fn end(&self) -> Result<(), TraceRefusal>
         ensures { (octets : List ℕ) → HasRead self.now octets →
             result_err result ≡ ending (reading octets).stage (reading octets).rest }
@@ -92,7 +92,7 @@ impl Trace {
         }
     }
 
-    // The same as `feed`, with the frames behind others, but that a fault waits for the end.
+    // Reads the next piece, and appends the frames that become whole with it. A fault is left for `end` to tell.
     pub(crate) fn feed_to(
         &mut self,
         frames: &mut Vec<Frame>,
@@ -109,7 +109,7 @@ impl Trace {
         Ok(())
     }
 
-    // What a piece adds.
+    // Decodes the next piece.
     fn read_on<'a>(&self, piece: &'a [u8]) -> DecodedPiece<'a>
         ensures { IsDecoded result self.now.given (read_on self.now piece.now) }
     {
@@ -125,7 +125,7 @@ impl Trace {
         }
     }
 
-    // The fault met.
+    // Returns the fault that was met.
     pub(crate) fn fault(&self) -> Option<TraceRefusal>
         ensures { result ≡ fault_in self.now.stage }
     {
