@@ -1,5 +1,5 @@
--- What is done for the words of a command line: `before` and `after` are what the reader has left, `old` and `new` what the
--- output took, `told_old` and `told_new` what stderr took. Which words ask for what is not said here.
+-- What is done for the arguments of a command line: `before` and `after` are what the reader has left, `old` and `new` what
+-- the output took, `told_old` and `told_new` what stderr took. Which arguments ask for what is not said here.
 use Rattle.std.specs.Prelude.{◌≡◌, ℕ, ◌⊎◌, Bool, false, List, length, Option, Err}
 use Rattle.std.specs.Prelude.{option_copied}
 use Rattle.clap.specs.declared.error.kind.ErrorKind.{ErrorKind}
@@ -13,11 +13,11 @@ use Rattle.gw_commands.specs.Forwarding.{ForwardsNamed}
 use Rattle.gw_commands.specs.Replays.{Replays}
 use Rattle.gw_commands.specs.Tables.{AnswersTable, RefusesTable}
 use Rattle.gw_commands.specs.Verdicts.{AnswersVerdict, RefusesVerdict}
-use Rattle.gw_commands.specs.declared.forwarding.files.Named.{Named}
+use Rattle.gw_commands.specs.declared.run_command.files.Named.{Named}
 use Rattle.gw_commands.specs.declared.refusal.Refusal.TheVariants.{OutOfMemory}
-use Rattle.gw_cli.specs.declared.words.Request.{Request}
-use Rattle.gw_cli.specs.declared.words.Request.TheVariants as asked
-use Rattle.gw_cli.specs.declared.words.Request.TheVariants.{Verdict, Check, Asm, Claims, Replay, Table, Run}
+use Rattle.gw_cli.specs.declared.arguments.Request.{Request}
+use Rattle.gw_cli.specs.declared.arguments.Request.TheVariants as asked
+use Rattle.gw_cli.specs.declared.arguments.Request.TheVariants.{Verdict, Check, Asm, Claims, Replay, Table, Run}
 
 -- what `clap` answers is help or the version
 abbrev pub IsHelp : ErrorKind → Type 0
@@ -35,13 +35,13 @@ AnswersWords kind old new write_failed told_old told_new tell_failed status =
     × ((text : List ℕ) × WritesText text 2 status told_old told_new tell_failed))
     ⊎ Writes (Err OutOfMemory) status old new write_failed
 
--- the words were answered, and nothing was read
+-- the arguments were answered, and nothing was read
 abbrev pub OnlyAnswersWords : Option (List ℕ) → Option (List ℕ) → Option (List ℕ) → Option (List ℕ) → Bool → Option (List ℕ)
     → Option (List ℕ) → Bool → ℕ → Type 0
 OnlyAnswersWords before after old new write_failed told_old told_new tell_failed status =
     (after ≡ before) × ((kind : ErrorKind) × AnswersWords kind old new write_failed told_old told_new tell_failed status)
 
--- what was asked for was done; words that name `run`, but not first, are answered
+-- what was asked for was done; arguments that name `run`, but not first, are answered
 abbrev pub DoesAsked : Request → Option (List ℕ) → Option (List ℕ) → Bool → ℕ → Option (List ℕ) → Option (List ℕ) → Bool
     → Option (List ℕ) → Option (List ℕ) → Bool → ℕ → Type 0
 DoesAsked (Verdict port word) before after failed reads old new write_failed told_old told_new tell_failed status =
@@ -63,7 +63,7 @@ DoesAsked (Table port frame why) before after failed reads old new write_failed 
 DoesAsked Run before after failed reads old new write_failed told_old told_new tell_failed status =
     OnlyAnswersWords before after old new write_failed told_old told_new tell_failed status
 
--- a command was done, or the words were answered and nothing was read
+-- a command was done, or the arguments were answered and nothing was read
 abbrev pub DoesWords : Option (List ℕ) → Option (List ℕ) → Bool → ℕ → Option (List ℕ) → Option (List ℕ) → Bool
     → Option (List ℕ) → Option (List ℕ) → Bool → ℕ → Type 0
 DoesWords before after failed reads old new write_failed told_old told_new tell_failed status =
@@ -72,7 +72,7 @@ DoesWords before after failed reads old new write_failed told_old told_new tell_
     ⊎ OnlyAnswersWords before after old new write_failed told_old told_new tell_failed status
 
 -- a trace was forwarded by a gateway of these limits, under the policies of what is named for each of its ports, or the names or
--- the trace were refused; or the words were answered and nothing was read
+-- the trace were refused; or the arguments were answered and nothing was read
 abbrev pub RunsWords : Option (List ℕ) → Option (List ℕ) → Bool → ℕ → Option (List ℕ) → Option (List ℕ) → Bool
     → Option (List ℕ) → Option (List ℕ) → Bool → ℕ → Type 0
 RunsWords before after failed reads old new write_failed told_old told_new tell_failed status =

@@ -1,2 +1,2 @@
--- What the program's functions promise of the words of the command line.
+-- What the program's functions promise of the arguments of the command line.
 pub mod Asked

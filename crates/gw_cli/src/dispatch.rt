@@ -7,8 +7,8 @@ ghost use Rattle.gw_commands.specs.Commands.{Does, WritesText};
 ghost use Rattle.gw_commands.specs.Verdicts.{AnswersVerdict, RefusesVerdict};
 ghost use Rattle.gw_cli.specs.Asked.{AnswersWords, DoesAsked, DoesWords};
 
-use crate::run_words::wrong;
-use crate::words::{Request, read_words};
+use crate::arguments::{Request, read_arguments};
+use crate::run_arguments::wrong;
 use clap::Error;
 use clap::error::ErrorKind;
 use gw_commands::{Refusal, asm, check, claims, list, replay, respond, table, verdict};
@@ -17,8 +17,8 @@ use std::alloc::Global;
 use std::convert::AsStr;
 use std::io::{Read, Write};
 
-/// Does what the words of a command line, without the program's name, ask for, and answers the exit status: 0 done,
-/// 1 refused or a write failed, 2 wrong words. Which words ask for what no clause says but for no words.
+/// Does what the arguments of a command line, without the program's name, ask for, and answers the exit status: 0 done,
+/// 1 refused or a write failed, 2 wrong arguments. Which arguments ask for what, no clause says but for none.
 pub fn command<S: AsStr, R: Read, W: Write, F: Write>(
     alloc: Global,
     words: &[S],
@@ -31,7 +31,7 @@ pub fn command<S: AsStr, R: Read, W: Write, F: Write>(
     requires output { has_failed output.old ≡ false }
     requires faults { has_failed faults.old ≡ false }
 
-    // Without words: the record's line and the listing, judged for port 0.
+    // Without arguments: the record's line and the listing, judged for port 0.
     ensures first { length words.now ≡ 0 → Does (AnswersVerdict None 0) (RefusesVerdict None)
         (R.remaining (inner_of input.old)) (R.remaining (inner_of input.new)) (has_failed input.new)
         (W.contents (inner_of output.old)) (W.contents (inner_of output.new)) (has_failed output.new) result }
@@ -43,13 +43,13 @@ pub fn command<S: AsStr, R: Read, W: Write, F: Write>(
     if words.is_empty() {
         return verdict(alloc, 0, None, input, output, faults);
     }
-    match read_words(alloc, words) {
+    match read_arguments(alloc, words) {
         Ok(request) => do_asked(alloc, request, input, output, faults),
         Err(error) => answer_words(alloc, &error, output, faults),
     }
 }
 
-/// Does what is asked for. Words that name `run`, but not first, are wrong.
+/// Does what is asked for. Arguments that name `run`, but not first, are wrong.
 fn do_asked<R: Read, W: Write, F: Write>(
     alloc: Global,
     request: Request,

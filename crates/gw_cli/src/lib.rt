@@ -1,10 +1,10 @@
 #![tactic(auto)]
-//! The command line of the program `gw`: its words, which name a command of gw_commands.
+//! The command line of the program `gw`: its arguments, which name a command of gw_commands.
 
+mod arguments;
 mod dispatch;
-mod run_words;
+mod run_arguments;
 mod running;
-mod words;
 
 pub use dispatch::command;
 pub use running::{Console, run_command};

@@ -6,7 +6,7 @@ ghost use Rattle.gw_commands.specs.Forwarding.{ForwardsNamed};
 ghost use Rattle.gw_cli.specs.Asked.{RunsWords};
 
 use crate::dispatch::answer_words;
-use crate::run_words::{RunRequest, read_run};
+use crate::run_arguments::{RunRequest, read_run};
 use gw_commands::{Progress, Unwatched, forward_named};
 use gw_io::Tried;
 use std::alloc::Global;
@@ -29,8 +29,9 @@ impl Console for HostRuntime {
     }
 }
 
-/// Does what the words of a command line, without the program's name, ask for, where they name the command `run`; other commands
-/// are wrong words. The exit status is as for `command`. Which words give which limits and names no clause says. It may wait.
+/// Does what the arguments of a command line, without the program's name, ask for, where they name the command `run`; other
+/// commands are wrong arguments. The exit status is as for `command`. Which arguments give which limits and names, no clause
+/// says. It may wait.
 pub fn run_command<R, S, I, W, F>(
     rt: &R,
     alloc: Global,
@@ -60,7 +61,7 @@ where
     }
 }
 
-/// Forwards a trace as the words ask for it.
+/// Forwards a trace as the arguments ask for it.
 fn forward_asked<R, I, W, F>(
     rt: &R,
     alloc: Global,

@@ -12,7 +12,7 @@ use Rattle.std.proofs.lemmas.List.Elements.{All-append}
 use Rattle.std.proofs.lemmas.List.Folds.{list_any_none}
 use Rattle.gw_policy.specs.Filter.{Filter}
 use Rattle.gw_policy.specs.Batches.{Pair, names, names_port, policy_after}
-use Rattle.gw_commands.specs.declared.forwarding.Source.{Source}
+use Rattle.gw_commands.specs.declared.run_command.Source.{Source}
 use Rattle.gw_commands.specs.declared.refusal.Refusal.{Refusal}
 use Rattle.gw_policy.specs.BatchRefusals.{IsBatchRefusal}
 use Rattle.gw_policy.specs.declared.batch.BatchRefusal.{BatchRefusal}

@@ -6,7 +6,7 @@ use Rattle.gw_ports.specs.declared.running.RunReport.{RunReport}
 use Rattle.gw_trace.specs.Traces.{whole_trace}
 use Rattle.gw_trace.specs.declared.refusal.TraceRefusal.{TraceRefusal}
 use Rattle.gw_commands.specs.declared.answer.Answer.TheVariants.{Text}
-use Rattle.gw_commands.specs.declared.forwarding.Source.{Source}
+use Rattle.gw_commands.specs.declared.run_command.Source.{Source}
 use Rattle.gw_commands.specs.declared.refusal.Refusal.{Refusal}
 use Rattle.gw_commands.specs.declared.refusal.Refusal.TheVariants.{Trace}
 use Rattle.gw_commands.specs.Forwarding.{IsFirst, IsForwardFound, IsRunOn, IsTraceInput, NoneStopped, RefusesShares}

@@ -28,11 +28,11 @@ use Rattle.gw_trace.specs.declared.refusal.TraceRefusal.{TraceRefusal}
 use Rattle.gw_trace.specs.declared.refusal.TraceRefusal.TheVariants.{ReadFault}
 use Rattle.gw_commands.specs.declared.answer.Answer.{Answer}
 use Rattle.gw_commands.specs.declared.answer.Answer.TheVariants.{Text}
-use Rattle.gw_commands.specs.declared.forwarding.files.Named.{Named}
-use Rattle.gw_commands.specs.declared.forwarding.files.Named.TheVariants as word
-use Rattle.gw_commands.specs.declared.forwarding.Source.{Source}
-use Rattle.gw_commands.specs.declared.forwarding.Source.TheVariants as made_of
-use Rattle.gw_commands.specs.declared.forwarding.Source.TheVariants.{Opening, Program, Listing}
+use Rattle.gw_commands.specs.declared.run_command.files.Named.{Named}
+use Rattle.gw_commands.specs.declared.run_command.files.Named.TheVariants as word
+use Rattle.gw_commands.specs.declared.run_command.Source.{Source}
+use Rattle.gw_commands.specs.declared.run_command.Source.TheVariants as made_of
+use Rattle.gw_commands.specs.declared.run_command.Source.TheVariants.{Opening, Program, Listing}
 use Rattle.gw_commands.specs.declared.refusal.Refusal.{Refusal}
 use Rattle.gw_commands.specs.declared.refusal.Refusal.TheVariants as refused
 use Rattle.gw_commands.specs.declared.refusal.Refusal.TheVariants.{Trace, Run, Stopped, TooMuchInput, OutOfMemory}

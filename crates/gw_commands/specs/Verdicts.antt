@@ -17,7 +17,7 @@ use Rattle.gw_commands.specs.declared.refusal.Refusal.TheVariants.{Record, Listi
 use Rattle.gw_input.specs.Lines.{first_line, behind_first}
 use Rattle.gw_input.specs.Records.{NamesRecord, IsRecordFault}
 
--- the record's text: a word of the command line, else the input's first line
+-- the record's text: an argument of the command line, else the input's first line
 abbrev pub record_text : Option (List ℕ) → List ℕ → List ℕ
 record_text (Some word) input = word
 record_text None input = first_line input
@@ -64,7 +64,7 @@ abbrev pub IsVerdictAnswer : List ℕ → List ℕ → ℕ → Answer → Type 0
 IsVerdictAnswer text listing port (Verdict answer) = IsVerdict text listing port answer
 IsVerdictAnswer text listing port _ = ⊥
 
--- What the command `verdict` answers and refuses, with a word of the command line for the record's text or without, and for
+-- What the command `verdict` answers and refuses, with an argument of the command line for the record's text or without, and for
 -- a taking port.
 abbrev pub AnswersVerdict : Option (List ℕ) → ℕ → List ℕ → Answer → Type 0
 AnswersVerdict word port input answer = IsVerdictAnswer (record_text word input) (listing_text word input) port answer

@@ -1,27 +1,30 @@
 #![tactic(auto)]
-//! The commands of the program `gw`, each over a reader and two writers, without the words of the command line.
+//! The commands of the program `gw`, each over a reader and two writers, without the arguments of the command line.
 
 mod answer;
-mod assembling;
-mod checking;
-mod claiming;
+mod asm_command;
+mod check_command;
+mod claims_command;
 mod explanation;
-mod forwarding;
-mod judging;
+mod list_command;
 mod notes;
 mod refusal;
-mod replaying;
+mod replay_command;
 mod responding;
+mod run_command;
 mod streams;
-mod tables;
+mod table_command;
+mod texts;
+mod verdict_command;
 
 pub use answer::Answer;
-pub use assembling::{asm, list};
-pub use checking::check;
-pub use claiming::claims;
-pub use forwarding::{Named, Progress, Source, Unwatched, Watch, forward, forward_named};
-pub use judging::verdict;
+pub use asm_command::asm;
+pub use check_command::check;
+pub use claims_command::claims;
+pub use list_command::list;
 pub use refusal::Refusal;
-pub use replaying::replay;
+pub use replay_command::replay;
 pub use responding::respond;
-pub use tables::table;
+pub use run_command::{Named, Progress, Source, Unwatched, Watch, forward, forward_named};
+pub use table_command::table;
+pub use verdict_command::verdict;

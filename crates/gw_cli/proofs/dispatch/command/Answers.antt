@@ -1,5 +1,5 @@
 use Rattle.std.proofs.Common.{None, inl}
-use Rattle.gw_cli.specs.declared.words.Request.TheVariants.{Verdict}
+use Rattle.gw_cli.specs.declared.arguments.Request.TheVariants.{Verdict}
 use Rattle.gw_cli.proofs.dispatch.command.Goals as goal
 
 pub returns-then-is_empty-clause-does : goal.returns-then-is_empty-clause-does

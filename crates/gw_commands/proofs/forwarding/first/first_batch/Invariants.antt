@@ -1,5 +1,0 @@
-use Rattle.gw_commands.proofs.FirstBatch.{IsBegun}
-use Rattle.gw_commands.proofs.forwarding.first.first_batch.Given as goal
-
-abbrev pub invariant-loop-port : goal.invariant-loop-port
-invariant-loop-port g l = IsBegun l.sources l.port l.first

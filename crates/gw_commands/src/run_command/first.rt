@@ -1,0 +1,115 @@
+//! The policies with which a run begins.
+
+ghost use Rattle.std.specs.Prelude.{◌≡◌, ◌<◌, ◌≤◌, false, length, option_map, IfOk, IfErr};
+ghost use Rattle.gw_policy.specs.Batches.{names_port};
+ghost use Rattle.gw_commands.specs.Forwarding.{IsFirst, MeansPolicy, IsProgramPolicy, IsTablePolicy, joined};
+ghost use Rattle.gw_commands.specs.Forwarding.{RefusesListing, RefusesSource, RefusesSources};
+ghost use Rattle.gw_commands.specs.Tables.{RefusesText};
+
+use super::Source;
+use crate::refusal::Refusal;
+use crate::texts::{program, read_table};
+use gw_io::Tried;
+use gw_policy::{Batch, Policy};
+use std::alloc::Global;
+use std::io::Write;
+use std::sync::Arc;
+
+/// The policies of the ports' sources. A person is told which port's file is refused.
+pub(super) fn first_batch<F: Write>(
+    alloc: Global,
+    sources: &[Source],
+    faults: &mut Tried<F>,
+) -> Result<Batch, Refusal>
+    requires { length sources.now ≤ 16 }
+    ensures first { IfOk result (IsFirst sources.now) }
+    ensures refused { IfErr result (RefusesSources sources.now) }
+{
+    let mut first = Batch::new();
+    for port in 0..sources.len() {
+        let made = match policy(alloc, sources[port]) {
+            Ok(made) => made,
+            Err(refusal) => {
+                note_file(port, sources[port], faults);
+                return Err(refusal);
+            }
+        };
+        join(&mut first, port as u8, made);
+    }
+    Ok(first)
+}
+
+/// The policy joins the batch, if there is one.
+fn join(first: &mut Batch, port: u8, made: Option<Arc<Policy>>)
+    requires free { names_port port first.old ≡ false }
+    requires room { length first.old < 16 }
+    ensures { first.new ≡ joined port (option_map (λ shared. shared.value) made) first.old }
+{
+    if let Some(policy) = made {
+        let Ok(()) = first.add(port, policy) else {
+            unreachable!();
+        };
+    }
+}
+
+/// The policy that a source means, if it means one.
+fn policy(alloc: Global, source: Source) -> Result<Option<Arc<Policy>>, Refusal>
+    ensures means { IfOk result (λ policy. MeansPolicy source.entry (option_map (λ shared. shared.value) policy)) }
+    ensures refused { IfErr result (RefusesSource source.entry) }
+{
+    match source {
+        Source::Opening => Ok(None),
+        Source::Program(listing) => program_policy(alloc, listing),
+        Source::Listing { text, .. } => program_policy(alloc, text),
+        Source::Table { text, .. } => table_policy(alloc, text),
+    }
+}
+
+/// The policy of a listing's program.
+fn program_policy(alloc: Global, listing: &[u8]) -> Result<Option<Arc<Policy>>, Refusal>
+    ensures means { IfOk result (λ policy. IsProgramPolicy listing.now (option_map (λ shared. shared.value) policy)) }
+    ensures refused { IfErr result (RefusesListing listing.now) }
+{
+    let program = match program(alloc, listing) {
+        Ok(program) => program,
+        Err(refusal) => return Err(refusal),
+    };
+    match Arc::new(alloc, Policy::from_program(program)) {
+        Ok(policy) => Ok(Some(policy)),
+        Err(_) => Err(Refusal::OutOfMemory),
+    }
+}
+
+/// The policy of a table's text.
+fn table_policy(alloc: Global, text: &[u8]) -> Result<Option<Arc<Policy>>, Refusal>
+    ensures means { IfOk result (λ policy. IsTablePolicy text.now (option_map (λ shared. shared.value) policy)) }
+    ensures refused { IfErr result (RefusesText text.now) }
+{
+    let table = match read_table(alloc, text) {
+        Ok(table) => table,
+        Err(refusal) => return Err(refusal),
+    };
+    let Ok(policy) = Policy::from_table(alloc, table) else {
+        return Err(Refusal::OutOfMemory);
+    };
+    match Arc::new(alloc, policy) {
+        Ok(policy) => Ok(Some(policy)),
+        Err(_) => Err(Refusal::OutOfMemory),
+    }
+}
+
+/// Tells which file is refused, and for which port it is.
+fn note_file<F: Write>(port: usize, source: Source, faults: &mut Tried<F>) {
+    match source {
+        Source::Listing { file, .. } => {
+            let _ = writeln!(
+                faults,
+                "gw: the listing of port {port}, {file}, is refused:"
+            );
+        }
+        Source::Table { file, .. } => {
+            let _ = writeln!(faults, "gw: the table of port {port}, {file}, is refused:");
+        }
+        _ => {}
+    }
+}

@@ -1,0 +1,126 @@
+//! The command `table`: policy tables, their programs and their verdicts.
+
+ghost use Rattle.std.specs.Prelude.{◌≡◌, ◌≤◌, ℕ, Some, None, false, length, map, IfOk, IfErr, option_copied};
+ghost use Rattle.gw_insn.specs.Table.{raw_of};
+ghost use Rattle.gw_io.specs.Tries.{inner_of, has_failed};
+ghost use Rattle.gw_commands.specs.Commands.{Does, IsFound};
+ghost use Rattle.gw_commands.specs.Tables.{AnswersTable, RefusesTable, compiled_line};
+
+use crate::answer::Answer;
+use crate::notes::{note_dead_rules, note_decision, note_standard_identifier};
+use crate::refusal::Refusal;
+use crate::responding::respond;
+use crate::streams::read_input;
+use crate::texts::read_table;
+use gw_input::record;
+use gw_insn::{Raw, encode, write_listing};
+use gw_io::Tried;
+use gw_table::{Table, compile};
+use gw_verify::Program;
+use std::alloc::{AllocError, Global};
+use std::io::{Read, Write};
+
+/// Reads a table, and writes its program's listing, or its verdict on a frame.
+pub fn table<R: Read, W: Write, F: Write>(
+    alloc: Global,
+    port: u8,
+    frame: Option<&str>,
+    why: bool,
+    input: &mut Tried<R>,
+    output: &mut Tried<W>,
+    faults: &mut Tried<F>,
+) -> u8
+    requires input { has_failed input.old ≡ false }
+    requires output { has_failed output.old ≡ false }
+    ensures { Does (AnswersTable (option_copied frame.entry) port) (RefusesTable (option_copied frame.entry))
+        (R.remaining (inner_of input.old)) (R.remaining (inner_of input.new)) (has_failed input.new)
+        (W.contents (inner_of output.old)) (W.contents (inner_of output.new)) (has_failed output.new) result }
+{
+    let found = answered(alloc, port, frame, why, input, faults);
+    respond(&found, output, faults)
+}
+
+/// What `table` answers on its input: the frame is judged before the table.
+fn answered<R: Read, F: Write>(
+    alloc: Global,
+    port: u8,
+    frame: Option<&str>,
+    why: bool,
+    input: &mut Tried<R>,
+    faults: &mut Tried<F>,
+) -> Result<Answer, Refusal>
+    requires { has_failed input.old ≡ false }
+    ensures { IsFound (AnswersTable (option_copied frame.entry) port) (RefusesTable (option_copied frame.entry))
+        (R.remaining (inner_of input.old)) (R.remaining (inner_of input.new)) (has_failed input.new) result }
+{
+    let octets = read_input(alloc, input)?;
+    match frame {
+        Some(text) => judged(alloc, port, text, why, &octets, faults),
+        None => compiled(alloc, &octets, faults),
+    }
+}
+
+/// The verdict of a table on a frame, whose text is judged before the table.
+fn judged<F: Write>(
+    alloc: Global,
+    port: u8,
+    text: &str,
+    why: bool,
+    input: &[u8],
+    faults: &mut Tried<F>,
+) -> Result<Answer, Refusal>
+    ensures answered { IfOk result (AnswersTable (Some text.now) port input.now) }
+    ensures refused { IfErr result (RefusesTable (Some text.now) input.now) }
+{
+    let frame = match record(text.as_bytes()) {
+        Ok(frame) => frame,
+        Err(fault) => return Err(Refusal::Record(fault)),
+    };
+    note_standard_identifier(&frame, faults);
+    let table = match read_table(alloc, input) {
+        Ok(table) => table,
+        Err(refusal) => return Err(refusal),
+    };
+    if why {
+        note_decision(&table, &frame, port, faults);
+    }
+    Ok(Answer::Passes(table.verdict(&frame, port)))
+}
+
+/// The listing of a table's program.
+fn compiled<F: Write>(alloc: Global, input: &[u8], faults: &mut Tried<F>) -> Result<Answer, Refusal>
+    ensures answered { (port : ℕ) → IfOk result (AnswersTable None port input.now) }
+    ensures refused { IfErr result (RefusesTable None input.now) }
+{
+    let table = match read_table(alloc, input) {
+        Ok(table) => table,
+        Err(refusal) => return Err(refusal),
+    };
+    note_dead_rules(&table, faults);
+    match compiled_listing(alloc, &table) {
+        Ok(listing) => Ok(Answer::Text(listing)),
+        Err(AllocError) => Err(Refusal::OutOfMemory),
+    }
+}
+
+/// The listing of the program that a table is compiled to, and a line feed.
+fn compiled_listing(alloc: Global, table: &Table) -> Result<Vec<u8>, AllocError>
+    ensures { IfOk result (λ listing. listing.items ≡ compiled_line table.now) }
+{
+    let code = raws(alloc, &compile(alloc, table)?)?;
+    let mut listing = write_listing(alloc, &code)?;
+    listing.push(b'\n')?;
+    Ok(listing)
+}
+
+/// The fields of a program's instructions.
+fn raws(alloc: Global, program: &Program) -> Result<Vec<Raw>, AllocError>
+    ensures fields { IfOk result (λ raws. raws.items ≡ map raw_of program.now) }
+    ensures few { IfOk result (λ raws. length raws.items ≤ 65535) }
+{
+    let mut raws = Vec::with_capacity(alloc, program.len())?;
+    for insn in program.code() {
+        raws.push_reserved(encode(*insn));
+    }
+    Ok(raws)
+}
