@@ -7,7 +7,7 @@ ghost use Rattle.gw_cli.specs.Asked.{RunsWords};
 
 use crate::dispatch::answer_words;
 use crate::run_arguments::{RunRequest, read_run};
-use gw_commands::{Progress, Unwatched, forward_named};
+use gw_commands::{NoObserver, ProgressOnStderr, forward_named};
 use gw_io::Tried;
 use std::alloc::Global;
 use std::convert::AsStr;
@@ -84,13 +84,21 @@ where
         (W.contents (inner_of output.old)) (W.contents (inner_of output.new)) (has_failed output.new) result }
 {
     if run.progress || rt.is_watched() {
-        let watch = Progress::new(rt);
+        let progress = ProgressOnStderr::new(rt);
         forward_named(
-            rt, alloc, run.limits, &run.named, run.lanes, &watch, input, output, faults,
+            rt, alloc, run.limits, &run.named, run.lanes, &progress, input, output, faults,
         )
     } else {
         forward_named(
-            rt, alloc, run.limits, &run.named, run.lanes, &Unwatched, input, output, faults,
+            rt,
+            alloc,
+            run.limits,
+            &run.named,
+            run.lanes,
+            &NoObserver,
+            input,
+            output,
+            faults,
         )
     }
 }

@@ -25,6 +25,8 @@ pub use list_command::list;
 pub use refusal::Refusal;
 pub use replay_command::replay;
 pub use responding::respond;
-pub use run_command::{Named, Progress, Source, Unwatched, Watch, forward, forward_named};
+pub use run_command::{
+    Named, NoObserver, Observer, ProgressOnStderr, Source, forward, forward_named,
+};
 pub use table_command::table;
 pub use verdict_command::verdict;

@@ -23,12 +23,12 @@ use std::thread::Threads;
 mod files;
 mod first;
 mod lines;
+mod observing;
 mod octets;
 mod running;
-mod watching;
 
 pub use files::{Named, forward_named};
-pub use watching::{Progress, Unwatched, Watch};
+pub use observing::{NoObserver, Observer, ProgressOnStderr};
 
 /// What a port's policy is made of: arguments of the command line, and texts of files.
 #[derive(Clone, Copy, PartialEq, Eq, Debug)]
@@ -45,13 +45,13 @@ pub enum Source<'n, 't> {
 
 /// Reads a trace, forwards its frames, frame i at port i mod the number of ports, under the policies of the ports' sources, and
 /// writes what each port counted; with `lanes` also what was placed on each lane and lost there. It may wait.
-pub fn forward<R: Threads + Wait + Sync, G: Watch, I: Read, W: Write, F: Write>(
+pub fn forward<R: Threads + Wait + Sync, G: Observer, I: Read, W: Write, F: Write>(
     rt: &R,
     alloc: Global,
     limits: Limits,
     sources: &[Source],
     lanes: bool,
-    watch: &G,
+    observer: &G,
     input: &mut Tried<I>,
     output: &mut Tried<W>,
     faults: &mut Tried<F>,
@@ -64,18 +64,18 @@ pub fn forward<R: Threads + Wait + Sync, G: Watch, I: Read, W: Write, F: Write>(
         (has_failed input.new) (reads_of input.new)
         (W.contents (inner_of output.old)) (W.contents (inner_of output.new)) (has_failed output.new) result }
 {
-    let found = forwarded(rt, alloc, limits, sources, lanes, watch, input, faults);
+    let found = forwarded(rt, alloc, limits, sources, lanes, observer, input, faults);
     respond(&found, output, faults)
 }
 
 /// The lines of a trace's run, or its first refusal.
-fn forwarded<R: Threads + Wait + Sync, G: Watch, I: Read, F: Write>(
+fn forwarded<R: Threads + Wait + Sync, G: Observer, I: Read, F: Write>(
     rt: &R,
     alloc: Global,
     limits: Limits,
     sources: &[Source],
     lanes: bool,
-    watch: &G,
+    observer: &G,
     input: &mut Tried<I>,
     faults: &mut Tried<F>,
 ) -> Result<Answer, Refusal>
@@ -94,8 +94,8 @@ fn forwarded<R: Threads + Wait + Sync, G: Watch, I: Read, F: Write>(
         Ok(trace) => trace,
         Err(why) => return Err(Refusal::Trace(why)),
     };
-    watch.begins(trace.len());
-    let report = match run_shares(rt, alloc, limits, first, &trace, watch) {
+    observer.begins(trace.len());
+    let report = match run_shares(rt, alloc, limits, first, &trace, observer) {
         Ok(report) => report,
         Err(refusal) => return Err(refusal),
     };

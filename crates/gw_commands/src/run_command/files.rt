@@ -4,7 +4,7 @@ ghost use Rattle.std.specs.Prelude.{◌≡◌, length, vec_len, false, IfOk, IfE
 ghost use Rattle.gw_io.specs.Tries.{inner_of, has_failed, reads_of};
 ghost use Rattle.gw_commands.specs.Forwarding.{AreNamed, ForwardsNamed, RefusesFile, RefusesNamed};
 
-use super::watching::Watch;
+use super::observing::Observer;
 use super::{Source, forward};
 use crate::refusal::Refusal;
 use crate::responding::respond;
@@ -34,13 +34,13 @@ pub enum Named<'a> {
 
 /// Reads the files that are named for the ports, and forwards a trace under their policies: see `forward`. A file that cannot be
 /// read is 96, and one of more than 1048576 octets 98; a person is told which. It may wait.
-pub fn forward_named<R: Threads + Wait + Sync + Files, G: Watch, I: Read, W: Write, F: Write>(
+pub fn forward_named<R: Threads + Wait + Sync + Files, G: Observer, I: Read, W: Write, F: Write>(
     rt: &R,
     alloc: Global,
     limits: Limits,
     named: &[Named],
     lanes: bool,
-    watch: &G,
+    observer: &G,
     input: &mut Tried<I>,
     output: &mut Tried<W>,
     faults: &mut Tried<F>,
@@ -66,7 +66,7 @@ pub fn forward_named<R: Threads + Wait + Sync + Files, G: Watch, I: Read, W: Wri
         limits,
         sources.as_slice(),
         lanes,
-        watch,
+        observer,
         input,
         output,
         faults,

@@ -5,7 +5,7 @@ ghost use Rattle.std.specs.Prelude.{IfOk, IfErr, IfNone, IfSome, All};
 ghost use Rattle.gw_trace.specs.Shares.{share_of};
 ghost use Rattle.gw_commands.specs.Forwarding.{AreShares, IsFirstStop, IsRunOn, NoneStopped, RefusesShares};
 
-use super::watching::Watch;
+use super::observing::Observer;
 use crate::refusal::Refusal;
 use gw_ledger::Limits;
 use gw_policy::Batch;
@@ -18,13 +18,13 @@ use std::thread::Threads;
 
 /// Offers each port its share of the frames, and tells what became of them. A port that stopped is a refusal, the least port's
 /// first. It may wait.
-pub(super) fn run_shares<R: Threads + Wait + Sync, G: Watch>(
+pub(super) fn run_shares<R: Threads + Wait + Sync, G: Observer>(
     rt: &R,
     alloc: Global,
     limits: Limits,
     first: Batch,
     trace: &Checked,
-    watch: &G,
+    observer: &G,
 ) -> Result<RunReport, Refusal>
     requires { All (λ pair. pair.port < limits.ports) first }
     ensures ran { IfOk result (λ report. IsRunOn limits first trace.now report × NoneStopped report.stops.items) }
@@ -41,7 +41,7 @@ pub(super) fn run_shares<R: Threads + Wait + Sync, G: Watch>(
         inputs,
         sizes,
         Vec::new(alloc),
-        watch,
+        observer,
     );
     let report = match ran {
         Ok(report) => report,

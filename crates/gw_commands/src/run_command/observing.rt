@@ -1,4 +1,4 @@
-//! Who watches a run.
+//! Who observes a run.
 
 use gw_ports::Gate;
 use std::marker::Sync;
@@ -10,16 +10,16 @@ use std::time::Instant;
 const OFTEN: usize = 4096;
 
 /// A gate that is told how many frames there are.
-pub trait Watch: Gate {
+pub trait Observer: Gate {
     /// Before the run.
     fn begins(&self, frames: usize);
 }
 
-/// Nobody watches: the gate does nothing.
+/// Nobody observes: the gate does nothing.
 #[derive(Clone, Copy, Debug)]
-pub struct Unwatched;
+pub struct NoObserver;
 
-impl Gate for Unwatched {
+impl Gate for NoObserver {
     fn enter(&self, _port: u8, _index: usize) {}
 
     fn leave(&self, _port: u8, _index: usize) {}
@@ -29,13 +29,13 @@ impl Gate for Unwatched {
     fn replaced(&self, _index: usize) {}
 }
 
-impl Watch for Unwatched {
+impl Observer for NoObserver {
     fn begins(&self, _frames: usize) {}
 }
 
 /// Tells a person on stderr, once a second, how many frames were offered of those that there are.
 #[derive(Drop)]
-pub struct Progress<'a, R> {
+pub struct ProgressOnStderr<'a, R> {
     rt: &'a R,
     start: Option<Instant>,
     frames: AtomicUsize,
@@ -43,10 +43,10 @@ pub struct Progress<'a, R> {
     second: AtomicU64,
 }
 
-impl<'a, R: Clock> Progress<'a, R> {
-    /// A watch that begins now.
-    pub fn new(rt: &'a R) -> Progress<'a, R> {
-        Progress {
+impl<'a, R: Clock> ProgressOnStderr<'a, R> {
+    /// An observer that begins now.
+    pub fn new(rt: &'a R) -> ProgressOnStderr<'a, R> {
+        ProgressOnStderr {
             rt,
             start: Instant::now(rt).ok(),
             frames: AtomicUsize::new(0),
@@ -56,7 +56,7 @@ impl<'a, R: Clock> Progress<'a, R> {
     }
 }
 
-impl<R: Clock + Eprint> Progress<'_, R> {
+impl<R: Clock + Eprint> ProgressOnStderr<'_, R> {
     // Counts some frames more, and tells where they stand if a second began since that was told last.
     fn count(&self, more: usize) {
         let done = self
@@ -83,7 +83,7 @@ impl<R: Clock + Eprint> Progress<'_, R> {
     }
 }
 
-impl<R: Clock + Eprint + Sync> Gate for Progress<'_, R> {
+impl<R: Clock + Eprint + Sync> Gate for ProgressOnStderr<'_, R> {
     fn enter(&self, _port: u8, _index: usize) {}
 
     fn leave(&self, _port: u8, index: usize) {
@@ -97,7 +97,7 @@ impl<R: Clock + Eprint + Sync> Gate for Progress<'_, R> {
     fn replaced(&self, _index: usize) {}
 }
 
-impl<R: Clock + Eprint + Sync> Watch for Progress<'_, R> {
+impl<R: Clock + Eprint + Sync> Observer for ProgressOnStderr<'_, R> {
     fn begins(&self, frames: usize) {
         self.frames.store(frames, Ordering::SeqCst);
     }
