@@ -13,7 +13,7 @@ use Rattle.gw_commands.specs.Forwarding.{ForwardsNamed}
 use Rattle.gw_commands.specs.Replays.{Replays}
 use Rattle.gw_commands.specs.Tables.{AnswersTable, RefusesTable}
 use Rattle.gw_commands.specs.Verdicts.{AnswersVerdict, RefusesVerdict}
-use Rattle.gw_commands.specs.declared.run_command.files.Named.{Named}
+use Rattle.gw_commands.specs.declared.run_command.PolicySource.{PolicySource}
 use Rattle.gw_commands.specs.declared.refusal.Refusal.TheVariants.{OutOfMemory}
 use Rattle.gw_cli.specs.declared.arguments.Request.{Request}
 use Rattle.gw_cli.specs.declared.arguments.Request.TheVariants as asked
@@ -71,11 +71,11 @@ DoesWords before after failed reads old new write_failed told_old told_new tell_
     × DoesAsked request before after failed reads old new write_failed told_old told_new tell_failed status)
     ⊎ OnlyAnswersWords before after old new write_failed told_old told_new tell_failed status
 
--- a trace was forwarded by a gateway of these limits, under the policies of what is named for each of its ports, or the names or
--- the trace were refused; or the arguments were answered and nothing was read
+-- a trace was forwarded by a gateway of these limits, under the policies of each port's source, or a file of theirs or the trace
+-- was refused; or the arguments were answered and nothing was read
 abbrev pub RunsWords : Option (List ℕ) → Option (List ℕ) → Bool → ℕ → Option (List ℕ) → Option (List ℕ) → Bool
     → Option (List ℕ) → Option (List ℕ) → Bool → ℕ → Type 0
 RunsWords before after failed reads old new write_failed told_old told_new tell_failed status =
-    ((limits : Bounds) × (named : List Named) × (lanes : Bool) × (length named ≡ limits.ports)
-    × ForwardsNamed limits named lanes before after failed reads old new write_failed status)
+    ((limits : Bounds) × (sources : List PolicySource) × (lanes : Bool) × (length sources ≡ limits.ports)
+    × ForwardsNamed limits sources lanes before after failed reads old new write_failed status)
     ⊎ OnlyAnswersWords before after old new write_failed told_old told_new tell_failed status

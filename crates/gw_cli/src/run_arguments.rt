@@ -5,7 +5,7 @@ ghost use Rattle.std.specs.Prelude.{◌≡◌, length, vec_len, IfOk};
 use crate::arguments::matched;
 use clap::error::ErrorKind;
 use clap::{Arg, ArgAction, ArgMatches, Command, Error, value_parser};
-use gw_commands::Named;
+use gw_commands::PolicySource;
 use gw_ledger::Limits;
 use std::alloc::{AllocError, Global};
 use std::convert::AsStr;
@@ -20,8 +20,8 @@ const LANE: u32 = 64;
 #[derive(Drop, Debug, PartialEq, Eq)]
 pub struct RunRequest<'a> {
     pub limits: Limits,
-    /// What is named for each port.
-    pub named: Vec<Named<'a>>,
+    /// Where each port's policy comes from.
+    pub sources: Vec<PolicySource<'a>>,
     pub lanes: bool,
     pub progress: bool,
 }
@@ -117,7 +117,7 @@ fn progress_option<'a>(alloc: Global) -> Arg<'a> {
 
 /// What the arguments ask for where they name the command `run`, or `clap`'s answer to them: help, or what is wrong.
 pub fn read_run<'a, S: AsStr>(alloc: Global, words: &'a [S]) -> Result<RunRequest<'a>, Error>
-    ensures { IfOk result (λ run. vec_len run.named ≡ run.limits.ports) }
+    ensures { IfOk result (λ run. vec_len run.sources ≡ run.limits.ports) }
 {
     let matches = matched(alloc, words)?;
     match matches.subcommand() {
@@ -128,7 +128,7 @@ pub fn read_run<'a, S: AsStr>(alloc: Global, words: &'a [S]) -> Result<RunReques
 
 /// What the arguments behind `run` ask for.
 fn asked<'a>(alloc: Global, run: &ArgMatches<'a>) -> Result<RunRequest<'a>, Error>
-    ensures { IfOk result (λ run. vec_len run.named ≡ run.limits.ports) }
+    ensures { IfOk result (λ run. vec_len run.sources ≡ run.limits.ports) }
 {
     let ports = run.get_one::<u32>("ports").unwrap_or(2);
     let lane = run.get_one::<u32>("lane").unwrap_or(LANE);
@@ -147,19 +147,19 @@ fn asked<'a>(alloc: Global, run: &ArgMatches<'a>) -> Result<RunRequest<'a>, Erro
             "no policy is given: name one by --program LISTING, --table P=FILE or --listing P=FILE",
         ));
     }
-    let others = program.map_or(Named::Opening, Named::Program);
-    let mut named = vec![in alloc; others; limits.ports() as usize]?;
-    name_files(alloc, tables, FileKind::Table, &mut named)?;
-    name_files(alloc, listings, FileKind::Listing, &mut named)?;
+    let others = program.map_or(PolicySource::Opening, PolicySource::Program);
+    let mut sources = vec![in alloc; others; limits.ports() as usize]?;
+    name_files(alloc, tables, FileKind::Table, &mut sources)?;
+    name_files(alloc, listings, FileKind::Listing, &mut sources)?;
     Ok(RunRequest {
         limits,
-        named,
+        sources,
         lanes: run.get_flag("lanes"),
         progress: run.get_flag("progress"),
     })
 }
 
-/// What a file has that is named for a port.
+/// What a file of a source has.
 #[derive(Clone, Copy)]
 enum FileKind {
     Table,
@@ -171,16 +171,16 @@ fn name_files<'a>(
     alloc: Global,
     words: &[&'a str],
     kind: FileKind,
-    named: &mut [Named<'a>],
+    sources: &mut [PolicySource<'a>],
 ) -> Result<(), Error>
-    ensures { length named.new ≡ length named.old }
+    ensures { length sources.new ≡ length sources.old }
 {
     for word in words {
-        let (port, file) = named_port(alloc, word, named)?;
-        if let Some(place) = named.get_mut(port) {
+        let (port, file) = named_port(alloc, word, sources)?;
+        if let Some(place) = sources.get_mut(port) {
             *place = match kind {
-                FileKind::Table => Named::Table(file),
-                FileKind::Listing => Named::Listing(file),
+                FileKind::Table => PolicySource::Table(file),
+                FileKind::Listing => PolicySource::Listing(file),
             };
         }
     }
@@ -191,7 +191,7 @@ fn name_files<'a>(
 fn named_port<'a>(
     alloc: Global,
     word: &'a str,
-    named: &[Named],
+    sources: &[PolicySource],
 ) -> Result<(usize, &'a str), Error> {
     let Some((port, file)) = word.split_once('=') else {
         let text = format!(in alloc;
@@ -200,8 +200,8 @@ fn named_port<'a>(
         return Err(wrong(alloc, &text));
     };
     let found = port.parse::<usize>().ok();
-    match found.and_then(|port| named.get(port)) {
-        Some(Named::Table(_) | Named::Listing(_)) => {
+    match found.and_then(|port| sources.get(port)) {
+        Some(PolicySource::Table(_) | PolicySource::Listing(_)) => {
             let text = format!(in alloc;
                 "port {port} is named twice: give it one table or one listing"
             )?;
@@ -209,7 +209,7 @@ fn named_port<'a>(
         }
         Some(_) => Ok((found.unwrap_or(0), file)),
         None => {
-            let ports = named.len();
+            let ports = sources.len();
             let most = ports.saturating_sub(1);
             let text = format!(in alloc;
                 "`{word}` names no port of {ports}: write a number from 0 to {most} before the `=`"

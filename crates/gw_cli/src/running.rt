@@ -30,7 +30,7 @@ impl Console for HostRuntime {
 }
 
 /// Does what the arguments of a command line, without the program's name, ask for, where they name the command `run`; other
-/// commands are wrong arguments. The exit status is as for `command`. Which arguments give which limits and names, no clause
+/// commands are wrong arguments. The exit status is as for `command`. Which arguments give which limits and sources, no clause
 /// says. It may wait.
 pub fn run_command<R, S, I, W, F>(
     rt: &R,
@@ -75,26 +75,27 @@ where
     I: Read,
     W: Write,
     F: Write,
-    requires named { vec_len run.now.named ≡ run.now.limits.ports }
+    requires sources { vec_len run.now.sources ≡ run.now.limits.ports }
     requires unread { reads_of input.old ≡ 0 }
     requires input { has_failed input.old ≡ false }
     requires output { has_failed output.old ≡ false }
-    ensures { ForwardsNamed run.now.limits run.now.named.items run.now.lanes
+    ensures { ForwardsNamed run.now.limits run.now.sources.items run.now.lanes
         (I.remaining (inner_of input.old)) (I.remaining (inner_of input.new)) (has_failed input.new) (reads_of input.new)
         (W.contents (inner_of output.old)) (W.contents (inner_of output.new)) (has_failed output.new) result }
 {
+    let (limits, sources, lanes) = (run.limits, run.sources.as_slice(), run.lanes);
     if run.progress || rt.is_watched() {
-        let progress = ProgressOnStderr::new(rt);
+        let meter = ProgressOnStderr::new(rt);
         forward_named(
-            rt, alloc, run.limits, &run.named, run.lanes, &progress, input, output, faults,
+            rt, alloc, limits, sources, lanes, &meter, input, output, faults,
         )
     } else {
         forward_named(
             rt,
             alloc,
-            run.limits,
-            &run.named,
-            run.lanes,
+            limits,
+            sources,
+            lanes,
             &NoObserver,
             input,
             output,

@@ -1,23 +1,24 @@
 -- The batch with which a run begins, one source after another.
 use Rattle.std.proofs.Common.{◌≡◌, ◌∙◌, ℕ, ◌+◌, ◌<◌, ◌≤◌, ◌==◌, Bool, true, false, cond, List, [], ◌∷◌, ◌++◌, length, get_or}
-use Rattle.std.proofs.Common.{ap, sym, subst, refl, arith}
+use Rattle.std.proofs.Common.{ap, sym, subst, refl, arith, map, Vec, Global}
 use Rattle.std.proofs.Common.{zero, suc, Option, Some, None, if◌then◌else◌, length-append, ⊎_elim}
 use Rattle.std.specs.Prelude.{reverse}
 use Rattle.std.specs.List.{All, find}
 use Rattle.std.specs.Option.{option_map_or}
-use Rattle.std.proofs.lemmas.List.{get_or_default, reverse-append}
+use Rattle.std.proofs.lemmas.List.{get_or_default, get_or-map, reverse-append}
 use Rattle.std.proofs.lemmas.Bool.{cases_eq, false≢true}
 use Rattle.std.proofs.lemmas.Bool.Decides.{nat_tests}
 use Rattle.std.proofs.lemmas.List.Elements.{All-append}
 use Rattle.std.proofs.lemmas.List.Folds.{list_any_none}
 use Rattle.gw_policy.specs.Filter.{Filter}
 use Rattle.gw_policy.specs.Batches.{Pair, names, names_port, policy_after}
-use Rattle.gw_commands.specs.declared.run_command.Source.{Source}
+use Rattle.gw_commands.specs.declared.run_command.PolicySource.{PolicySource}
+use Rattle.gw_commands.specs.declared.run_command.PolicySource.TheVariants.{Opening}
 use Rattle.gw_commands.specs.declared.refusal.Refusal.{Refusal}
 use Rattle.gw_policy.specs.BatchRefusals.{IsBatchRefusal}
 use Rattle.gw_policy.specs.declared.batch.BatchRefusal.{BatchRefusal}
 use Rattle.gw_policy.specs.declared.batch.BatchRefusal.TheVariants.{SamePortTwice, Full}
-use Rattle.gw_commands.specs.Forwarding.{MeansPolicy, RefusesSource, RefusesSources, joined}
+use Rattle.gw_commands.specs.Forwarding.{MeansAt, MeansPolicy, RefusesSource, RefusesSources, joined}
 
 -- the last pair decides where it names the port
 found : (here : Bool) (pair : Pair) (later : Option Pair) (before : Option Filter)
@@ -32,17 +33,31 @@ policy_after-more : (port : ℕ) (pairs : List Pair) (pair : Pair) (before : Opt
 policy_after-more port pairs pair before =
     rw reverse-append (found (pair.port == port) pair (find (names port) (reverse pairs)) before)
 
--- the ports below a number have what their sources mean, and no other port has a policy
-pub record IsBegun (sources : List Source) (port : ℕ) (first : List Pair) : Type 0 where
-  pub means : (k : ℕ) (d : Source) → k < port → MeansPolicy (get_or sources k d) (policy_after k first None)
+-- what the files hold
+abbrev pub octets_of : List (Vec ℕ Global) → List (List ℕ)
+octets_of texts = map (λ (text : Vec ℕ Global). text.items) texts
+
+-- what holds of a port's source and of its text, wherever they were read
+at_port : (P : PolicySource → List ℕ → Type 0) (sources : List PolicySource) (texts : List (Vec ℕ Global)) (port : ℕ)
+    (d : PolicySource) (e : Vec ℕ Global) (text : List ℕ) → port < length sources → length texts ≡ length sources
+    → text ≡ (get_or texts port e).items → P (get_or sources port d) text
+    → P (get_or sources port Opening) (get_or (octets_of texts) port [])
+at_port P sources texts port d e text below even is holds =
+    subst (λ s. P s (get_or (octets_of texts) port [])) (get_or_default sources port d Opening below)
+    (subst (P (get_or sources port d))
+    (is ∙ sym (get_or-map (λ (t : Vec ℕ Global). t.items) texts port e [] (omega arith))) holds)
+
+-- the ports below a number have what is meant for them, and no other port has a policy
+pub record IsBegun (Means : ℕ → Option Filter → Type 0) (port : ℕ) (first : List Pair) : Type 0 where
+  pub means : (k : ℕ) → k < port → Means k (policy_after k first None)
   pub others : (k : ℕ) → port ≤ k → policy_after k first None ≡ None
   pub ports : All (λ pair. pair.port < port) first
   pub few : length first ≤ port
 
 -- the port has no policy yet
-pub not_named : (sources : List Source) (port : ℕ) (first : List Pair) → IsBegun sources port first
+pub not_named : (Means : ℕ → Option Filter → Type 0) (port : ℕ) (first : List Pair) → IsBegun Means port first
     → names_port port first ≡ false
-not_named sources port first so_far =
+not_named Means port first so_far =
     list_any_none (names port) first (λ k d below. apart (get_or first k d).port port (so_far.ports k d below))
   where
     apart : (a b : ℕ) → a < b → (a == b) ≡ false
@@ -54,15 +69,15 @@ more_ports port first so_far = λ k d below. weaker (get_or first k d).port port
     weaker : (a b : ℕ) → a < b → a < b + 1
     weaker a b less = omega arith
 
--- a source that means the opening block
-pub begun_without : (sources : List Source) (port : ℕ) (first : List Pair) → IsBegun sources port first
-    → ((d : Source) → MeansPolicy (get_or sources port d) None) → IsBegun sources (port + 1) first
-begun_without sources port first so_far none = record {
-  means = λ k d below. ⊎_elim
+-- the opening block is meant for the port
+begun_without : (Means : ℕ → Option Filter → Type 0) (port : ℕ) (first : List Pair) → IsBegun Means port first
+    → Means port None → IsBegun Means (port + 1) first
+begun_without Means port first so_far none = record {
+  means = λ k below. ⊎_elim
       (λ (here : k ≡ port).
-      subst (λ n. MeansPolicy (get_or sources n d) (policy_after n first None)) (sym here)
-      (subst (λ policy. MeansPolicy (get_or sources port d) policy) (sym (so_far.others port (omega arith))) (none d)))
-      (λ (other : k ≡ port → ⊥). so_far.means k d (strict k port below other))
+      subst (λ n. Means n (policy_after n first None)) (sym here)
+      (subst (Means port) (sym (so_far.others port (omega arith))) none))
+      (λ (other : k ≡ port → ⊥). so_far.means k (strict k port below other))
       (cases_eq k port);
   others = λ k above. so_far.others k (omega arith);
   ports = more_ports port first so_far.ports;
@@ -72,18 +87,16 @@ begun_without sources port first so_far none = record {
     strict : (k n : ℕ) → k < n + 1 → (k ≡ n → ⊥) → k < n
     strict k n below other = grind arith
 
--- a source with a policy
-pub begun_with : (sources : List Source) (port : ℕ) (first now : List Pair) (policy : Filter) → IsBegun sources port first
+-- a policy is meant for the port
+begun_with : (Means : ℕ → Option Filter → Type 0) (port : ℕ) (first now : List Pair) (policy : Filter) → IsBegun Means port first
     → now ≡ first ++ record { port = port; policy = policy } ∷ []
-    → ((d : Source) → MeansPolicy (get_or sources port d) (Some policy)) → IsBegun sources (port + 1) now
-begun_with sources port first now policy so_far added meant = record {
-  means = λ k d below. ⊎_elim
+    → Means port (Some policy) → IsBegun Means (port + 1) now
+begun_with Means port first now policy so_far added meant = record {
+  means = λ k below. ⊎_elim
       (λ (here : k ≡ port).
-      subst (λ n. MeansPolicy (get_or sources n d) (policy_after n now None)) (sym here)
-      (subst (λ p. MeansPolicy (get_or sources port d) p) (sym (at port ∙ own port)) (meant d)))
+      subst (λ n. Means n (policy_after n now None)) (sym here) (subst (Means port) (sym (at port ∙ own port)) meant))
       (λ (other : k ≡ port → ⊥).
-      subst (λ p. MeansPolicy (get_or sources k d) p) (sym (at k ∙ foreign k (λ (e : port ≡ k). other (sym e))))
-      (so_far.means k d (strict k port below other)))
+      subst (Means k) (sym (at k ∙ foreign k (λ (e : port ≡ k). other (sym e)))) (so_far.means k (strict k port below other)))
       (cases_eq k port);
   others = λ k above. at k ∙ foreign k (λ (e : port ≡ k). omega arith) ∙ so_far.others k (omega arith);
   ports =
@@ -115,17 +128,19 @@ begun_with sources port first now policy so_far added meant = record {
     one : All (λ pair. pair.port < port + 1) (pair ∷ [])
     one = λ k d below. subst (λ (p : Pair). p.port < port + 1) (sym (only k d below)) (omega arith)
 
--- the port's policy joins, if its source means one
-pub begun_more : (sources : List Source) (port : ℕ) (d : Source) (first now : List Pair) (policy : Option Filter)
-    → IsBegun sources port first → port < length sources → MeansPolicy (get_or sources port d) policy
-    → now ≡ joined port policy first → IsBegun sources (port + 1) now
-begun_more sources port d first now (Some policy) so_far below meant added =
-    begun_with sources port first now policy so_far added
-    (λ e. subst (λ s. MeansPolicy s (Some policy)) (get_or_default sources port d e below) meant)
-begun_more sources port d first now None so_far below meant added =
-    subst (λ (f : List Pair). IsBegun sources (port + 1) f) (sym added)
-    (begun_without sources port first so_far
-    (λ e. subst (λ s. MeansPolicy s None) (get_or_default sources port d e below) meant))
+-- the policy that the port's source means joins, if it means one
+pub begun_more : (sources : List PolicySource) (texts : List (Vec ℕ Global)) (port : ℕ) (d : PolicySource) (e : Vec ℕ Global)
+    (text : List ℕ) (first now : List Pair) (policy : Option Filter) → IsBegun (MeansAt sources (octets_of texts)) port first
+    → port < length sources → length texts ≡ length sources → text ≡ (get_or texts port e).items
+    → MeansPolicy (get_or sources port d) text policy → now ≡ joined port policy first
+    → IsBegun (MeansAt sources (octets_of texts)) (port + 1) now
+begun_more sources texts port d e text first now (Some policy) so_far below even is meant added =
+    begun_with (MeansAt sources (octets_of texts)) port first now policy so_far added
+    (at_port (λ s t. MeansPolicy s t (Some policy)) sources texts port d e text below even is meant)
+begun_more sources texts port d e text first now None so_far below even is meant added =
+    subst (λ (f : List Pair). IsBegun (MeansAt sources (octets_of texts)) (port + 1) f) (sym added)
+    (begun_without (MeansAt sources (octets_of texts)) port first so_far
+    (at_port (λ s t. MeansPolicy s t None) sources texts port d e text below even is meant))
 
 -- a port that has no policy yet joins
 pub not_refused : (port : ℕ) (policy : Filter) (first : List Pair) (why : BatchRefusal) → names_port port first ≡ false
@@ -133,12 +148,14 @@ pub not_refused : (port : ℕ) (policy : Filter) (first : List Pair) (why : Batc
 not_refused port policy first (SamePortTwice back) free room why = absurd (false≢true (sym free ∙ why.0))
 not_refused port policy first (Full back) free room why = let full = why.1 in absurd (omega arith)
 
-pub source_refused : (sources : List Source) (port : ℕ) (d : Source) (first : List Pair) (refusal : Refusal)
-    → IsBegun sources port first → port < length sources → RefusesSource (get_or sources port d) refusal
-    → RefusesSources sources refusal
-source_refused sources port d first refusal so_far below refused = record {
+pub source_refused : (sources : List PolicySource) (texts : List (Vec ℕ Global)) (port : ℕ) (d : PolicySource)
+    (e : Vec ℕ Global) (text : List ℕ) (first : List Pair) (refusal : Refusal)
+    → IsBegun (MeansAt sources (octets_of texts)) port first → port < length sources → length texts ≡ length sources
+    → text ≡ (get_or texts port e).items → RefusesSource (get_or sources port d) text refusal
+    → RefusesSources sources (octets_of texts) refusal
+source_refused sources texts port d e text first refusal so_far below even is refused = record {
   port = port;
   within = below;
-  before = λ k e earlier. (policy_after k first None, so_far.means k e earlier);
-  refused = λ e. subst (λ s. RefusesSource s refusal) (get_or_default sources port d e below) refused;
+  before = λ k earlier. (policy_after k first None, so_far.means k earlier);
+  refused = at_port (λ s t. RefusesSource s t refusal) sources texts port d e text below even is refused;
 }

@@ -6,33 +6,35 @@ use Rattle.gw_ports.specs.declared.running.RunReport.{RunReport}
 use Rattle.gw_trace.specs.Traces.{whole_trace}
 use Rattle.gw_trace.specs.declared.refusal.TraceRefusal.{TraceRefusal}
 use Rattle.gw_commands.specs.declared.answer.Answer.TheVariants.{Text}
-use Rattle.gw_commands.specs.declared.run_command.Source.{Source}
+use Rattle.gw_commands.specs.declared.run_command.PolicySource.{PolicySource}
 use Rattle.gw_commands.specs.declared.refusal.Refusal.{Refusal}
 use Rattle.gw_commands.specs.declared.refusal.Refusal.TheVariants.{Trace}
 use Rattle.gw_commands.specs.Forwarding.{IsFirst, IsForwardFound, IsRunOn, IsTraceInput, NoneStopped, RefusesShares}
 use Rattle.gw_commands.specs.Forwarding.{report_lines}
 
-pub by_octets : (limits : Bounds) (sources : List Source) (lanes : Bool) (before after : Option (List ℕ)) (failed : Bool)
-    (reads : ℕ)
-    (first : List Pair) (octets : List ℕ) (why : TraceRefusal) → IsFirst sources first → IsTraceInput before after failed octets
-    → whole_trace octets ≡ Err why → IsForwardFound limits sources lanes before after failed reads (Err (Trace why))
-by_octets limits sources lanes before after failed reads first octets why policies read wrong =
+pub by_octets : (limits : Bounds) (sources : List PolicySource) (texts : List (List ℕ)) (lanes : Bool)
+    (before after : Option (List ℕ)) (failed : Bool) (reads : ℕ) (first : List Pair) (octets : List ℕ)
+    (why : TraceRefusal) → IsFirst sources texts first → IsTraceInput before after failed octets
+    → whole_trace octets ≡ Err why → IsForwardFound limits sources texts lanes before after failed reads (Err (Trace why))
+by_octets limits sources texts lanes before after failed reads first octets why policies read wrong =
     inr (record { first = first; policies = policies; why = inr (octets, read, inl (why, refl, wrong)) })
 
-pub by_run : (limits : Bounds) (sources : List Source) (lanes : Bool) (before after : Option (List ℕ)) (failed : Bool) (reads : ℕ)
-    (first : List Pair) (octets : List ℕ) (frames : List (List ℕ)) (refusal : Refusal) → IsFirst sources first
+pub by_run : (limits : Bounds) (sources : List PolicySource) (texts : List (List ℕ)) (lanes : Bool)
+    (before after : Option (List ℕ)) (failed : Bool) (reads : ℕ) (first : List Pair) (octets : List ℕ)
+    (frames : List (List ℕ)) (refusal : Refusal) → IsFirst sources texts first
     → IsTraceInput before after failed octets → whole_trace octets ≡ Ok frames → RefusesShares limits first frames refusal
-    → IsForwardFound limits sources lanes before after failed reads (Err refusal)
-by_run limits sources lanes before after failed reads first octets frames refusal policies read whole wrong =
+    → IsForwardFound limits sources texts lanes before after failed reads (Err refusal)
+by_run limits sources texts lanes before after failed reads first octets frames refusal policies read whole wrong =
     inr (record { first = first; policies = policies; why = inr (octets, read, inr (frames, whole, wrong)) })
 
-pub by_lines : (limits : Bounds) (sources : List Source) (lanes : Bool) (before after : Option (List ℕ)) (failed : Bool)
-    (reads : ℕ)
-    (first : List Pair) (octets : List ℕ) (frames : List (List ℕ)) (report : RunReport) (text : Vec ℕ Global)
-    → IsFirst sources first → IsTraceInput before after failed octets → whole_trace octets ≡ Ok frames
+pub by_lines : (limits : Bounds) (sources : List PolicySource) (texts : List (List ℕ)) (lanes : Bool)
+    (before after : Option (List ℕ)) (failed : Bool) (reads : ℕ) (first : List Pair) (octets : List ℕ)
+    (frames : List (List ℕ)) (report : RunReport) (text : Vec ℕ Global)
+    → IsFirst sources texts first → IsTraceInput before after failed octets → whole_trace octets ≡ Ok frames
     → IsRunOn limits first frames report → NoneStopped report.stops.items → text.items ≡ report_lines limits.ports lanes report
-    → IsForwardFound limits sources lanes before after failed reads (Ok (Text text))
-by_lines limits sources lanes before after failed reads first octets frames report text policies read whole ran unstopped lines =
+    → IsForwardFound limits sources texts lanes before after failed reads (Ok (Text text))
+by_lines limits sources texts lanes before after failed reads first octets frames report text policies read whole ran
+    unstopped lines =
     record {
       first = first;
       policies = policies;

@@ -3,7 +3,6 @@
 use Rattle.std.specs.Prelude.{◌≡◌, ℕ, ◌<◌, ◌⊎◌, ◌==◌, Bool, true, false, not, ◌&&◌, if◌then◌else◌, List, [], ◌∷◌, ◌++◌, length}
 use Rattle.std.specs.Prelude.{codes, decimal, map, slice_get, slice_index_or, Option, Some, None, Result, Ok, Err, MatchResult}
 use Rattle.std.specs.Prelude.{All, Any}
-use Rattle.std.specs.Borrow.{Bor}
 use Rattle.std.specs.Option.{option_map_or}
 use Rattle.std.specs.List.{flat_map, count_by, range_with_len}
 use Rattle.std.specs.Io.KnownBytes.{IsAtEnd, Consumes}
@@ -28,11 +27,9 @@ use Rattle.gw_trace.specs.declared.refusal.TraceRefusal.{TraceRefusal}
 use Rattle.gw_trace.specs.declared.refusal.TraceRefusal.TheVariants.{ReadFault}
 use Rattle.gw_commands.specs.declared.answer.Answer.{Answer}
 use Rattle.gw_commands.specs.declared.answer.Answer.TheVariants.{Text}
-use Rattle.gw_commands.specs.declared.run_command.files.Named.{Named}
-use Rattle.gw_commands.specs.declared.run_command.files.Named.TheVariants as word
-use Rattle.gw_commands.specs.declared.run_command.Source.{Source}
-use Rattle.gw_commands.specs.declared.run_command.Source.TheVariants as made_of
-use Rattle.gw_commands.specs.declared.run_command.Source.TheVariants.{Opening, Program, Listing}
+use Rattle.gw_commands.specs.declared.run_command.PolicySource.{PolicySource}
+use Rattle.gw_commands.specs.declared.run_command.PolicySource.TheVariants as source
+use Rattle.gw_commands.specs.declared.run_command.PolicySource.TheVariants.{Opening, Program, Listing}
 use Rattle.gw_commands.specs.declared.refusal.Refusal.{Refusal}
 use Rattle.gw_commands.specs.declared.refusal.Refusal.TheVariants as refused
 use Rattle.gw_commands.specs.declared.refusal.Refusal.TheVariants.{Trace, Run, Stopped, TooMuchInput, OutOfMemory}
@@ -55,16 +52,21 @@ pub record IsTablePolicy (text : List ℕ) (policy : Option Filter) : Type 0 whe
   pub named : IsTable text table
   pub policy_is : policy ≡ Some (record { code = emission table; table = Some table })
 
--- the policy that a source means for its port; none is the opening block
-abbrev pub MeansPolicy : Source → Option Filter → Type 0
-MeansPolicy Opening policy = policy ≡ None
-MeansPolicy (Program listing) policy = IsProgramPolicy listing.now policy
-MeansPolicy (Listing file listing) policy = IsProgramPolicy listing.now policy
-MeansPolicy (made_of.Table file text) policy = IsTablePolicy text.now policy
+-- the policy that a source means, where its file has this text; none is the opening block
+abbrev pub MeansPolicy : PolicySource → List ℕ → Option Filter → Type 0
+MeansPolicy Opening text policy = policy ≡ None
+MeansPolicy (Program listing) text policy = IsProgramPolicy listing.now policy
+MeansPolicy (Listing file) text policy = IsProgramPolicy text policy
+MeansPolicy (source.Table file) text policy = IsTablePolicy text policy
+
+-- the policy that a port's source means
+abbrev pub MeansAt : List PolicySource → List (List ℕ) → ℕ → Option Filter → Type 0
+MeansAt sources texts port policy =
+    MeansPolicy (slice_index_or sources port Opening) (slice_index_or texts port []) policy
 
 -- in the batch each port has the policy that its source means, and no other port has one
-pub record IsFirst (sources : List Source) (batch : List Pair) : Type 0 where
-  pub means : (k : ℕ) (d : Source) → k < length sources → MeansPolicy (slice_index_or sources k d) (policy_after k batch None)
+pub record IsFirst (sources : List PolicySource) (texts : List (List ℕ)) (batch : List Pair) : Type 0 where
+  pub means : (k : ℕ) → k < length sources → MeansAt sources texts k (policy_after k batch None)
   pub others : All (λ pair. pair.port < length sources) batch
 
 -- a batch that a port's policy joined, if there is one
@@ -77,18 +79,18 @@ abbrev pub RefusesListing : List ℕ → Refusal → Type 0
 RefusesListing listing OutOfMemory = (program : List Insn) × NamesProgram listing program
 RefusesListing listing refusal = IsProgramRefusal listing refusal
 
-abbrev pub RefusesSource : Source → Refusal → Type 0
-RefusesSource Opening refusal = ⊥
-RefusesSource (Program listing) refusal = RefusesListing listing.now refusal
-RefusesSource (Listing file listing) refusal = RefusesListing listing.now refusal
-RefusesSource (made_of.Table file text) refusal = RefusesText text.now refusal
+abbrev pub RefusesSource : PolicySource → List ℕ → Refusal → Type 0
+RefusesSource Opening text refusal = ⊥
+RefusesSource (Program listing) text refusal = RefusesListing listing.now refusal
+RefusesSource (Listing file) text refusal = RefusesListing text refusal
+RefusesSource (source.Table file) text refusal = RefusesText text refusal
 
 -- the least port's source that is refused: those before it mean policies
-pub record RefusesSources (sources : List Source) (refusal : Refusal) : Type 0 where
+pub record RefusesSources (sources : List PolicySource) (texts : List (List ℕ)) (refusal : Refusal) : Type 0 where
   pub port : ℕ
   pub within : port < length sources
-  pub before : (k : ℕ) (d : Source) → k < port → (policy : Option Filter) × MeansPolicy (slice_index_or sources k d) policy
-  pub refused : (d : Source) → RefusesSource (slice_index_or sources port d) refusal
+  pub before : (k : ℕ) → k < port → (policy : Option Filter) × MeansAt sources texts k policy
+  pub refused : RefusesSource (slice_index_or sources port Opening) (slice_index_or texts port []) refusal
 
 -- ---- the trace
 
@@ -175,10 +177,10 @@ report_lines ports lanes report =
 -- ---- the command
 
 -- the text for what the reader gave: the lines of a run of its trace's frames, under the policies of the ports' sources
-pub record IsForwarded (limits : Bounds) (sources : List Source) (lanes : Bool) (before after : Option (List ℕ)) (failed : Bool)
-    (text : List ℕ) : Type 0 where
+pub record IsForwarded (limits : Bounds) (sources : List PolicySource) (texts : List (List ℕ)) (lanes : Bool)
+    (before after : Option (List ℕ)) (failed : Bool) (text : List ℕ) : Type 0 where
   pub first : List Pair
-  pub policies : IsFirst sources first
+  pub policies : IsFirst sources texts first
   pub octets : List ℕ
   pub read : IsTraceInput before after failed octets
   pub frames : List (List ℕ)
@@ -188,10 +190,11 @@ pub record IsForwarded (limits : Bounds) (sources : List Source) (lanes : Bool) 
   pub unstopped : NoneStopped report.stops.items
   pub lines : text ≡ report_lines limits.ports lanes report
 
-abbrev pub AnswersRun : Bounds → List Source → Bool → Option (List ℕ) → Option (List ℕ) → Bool → Answer → Type 0
-AnswersRun limits sources lanes before after failed (Text text) =
-    IsForwarded limits sources lanes before after failed text.items
-AnswersRun limits sources lanes before after failed _ = ⊥
+abbrev pub AnswersRun : Bounds → List PolicySource → List (List ℕ) → Bool → Option (List ℕ) → Option (List ℕ) → Bool → Answer
+    → Type 0
+AnswersRun limits sources texts lanes before after failed (Text text) =
+    IsForwarded limits sources texts lanes before after failed text.items
+AnswersRun limits sources texts lanes before after failed _ = ⊥
 
 -- what refuses a run on these frames: what refuses the gateway's run, but for a port that is not there, which no source names;
 -- or the least port's that stopped; memory may be wanting for the shares and for the lines
@@ -210,44 +213,34 @@ RefusesOctets limits first octets refusal =
     ⊎ ((frames : List (List ℕ)) × (whole_trace octets ≡ Ok frames) × RefusesShares limits first frames refusal)
 
 -- the sources mean policies, and the trace is refused: its reading before its octets
-pub record RefusesForwarding (limits : Bounds) (sources : List Source) (before after : Option (List ℕ)) (failed : Bool)
-    (reads : ℕ) (refusal : Refusal) : Type 0 where
+pub record RefusesForwarding (limits : Bounds) (sources : List PolicySource) (texts : List (List ℕ))
+    (before after : Option (List ℕ)) (failed : Bool) (reads : ℕ) (refusal : Refusal) : Type 0 where
   pub first : List Pair
-  pub policies : IsFirst sources first
+  pub policies : IsFirst sources texts first
   pub why : IsTraceFault failed reads refusal
       ⊎ ((octets : List ℕ) × IsTraceInput before after failed octets × RefusesOctets limits first octets refusal)
 
 -- what the command found: the lines, or the first refusal, in which that of a source comes before that of the trace
-abbrev pub IsForwardFound : Bounds → List Source → Bool → Option (List ℕ) → Option (List ℕ) → Bool → ℕ → Result Answer Refusal
-    → Type 0
-IsForwardFound limits sources lanes before after failed reads found =
-    MatchResult found (AnswersRun limits sources lanes before after failed)
-    (λ refusal. RefusesSources sources refusal ⊎ RefusesForwarding limits sources before after failed reads refusal)
+abbrev pub IsForwardFound : Bounds → List PolicySource → List (List ℕ) → Bool → Option (List ℕ) → Option (List ℕ) → Bool → ℕ
+    → Result Answer Refusal → Type 0
+IsForwardFound limits sources texts lanes before after failed reads found =
+    MatchResult found (AnswersRun limits sources texts lanes before after failed)
+    (λ refusal. RefusesSources sources texts refusal ⊎ RefusesForwarding limits sources texts before after failed reads refusal)
 
 -- what was found is written, and tells the status
-pub record Forwards (limits : Bounds) (sources : List Source) (lanes : Bool) (before after : Option (List ℕ)) (failed : Bool)
-    (reads : ℕ) (old new : Option (List ℕ)) (write_failed : Bool) (status : ℕ) : Type 0 where
+pub record Forwards (limits : Bounds) (sources : List PolicySource) (texts : List (List ℕ)) (lanes : Bool)
+    (before after : Option (List ℕ)) (failed : Bool) (reads : ℕ) (old new : Option (List ℕ)) (write_failed : Bool) (status : ℕ)
+    : Type 0 where
   pub found : Result Answer Refusal
-  pub is_found : IsForwardFound limits sources lanes before after failed reads found
+  pub is_found : IsForwardFound limits sources texts lanes before after failed reads found
   pub written : Writes found status old new write_failed
 
 -- ---- the files
 
--- the source that a name on the command line stands for, whatever its file holds
-abbrev pub IsNamed : Named → Source → Type 0
-IsNamed word.Opening source = source ≡ Opening
-IsNamed (word.Program listing) source = (text : Bor (List ℕ)) × (source ≡ Program text) × (text.now ≡ listing.now)
-IsNamed (word.Listing file) source = (text : Bor (List ℕ)) × (source ≡ Listing file text)
-IsNamed (word.Table file) source = (text : Bor (List ℕ)) × (source ≡ made_of.Table file text)
-
-pub record AreNamed (named : List Named) (sources : List Source) : Type 0 where
-  pub enough : length sources ≡ length named
-  pub each : (k : ℕ) (d : Named) (e : Source) → k < length named → IsNamed (slice_index_or named k d) (slice_index_or sources k e)
-
--- a name that stands for a file
-abbrev pub NamesFile : Named → Type 0
-NamesFile (word.Listing file) = Unit {0}
-NamesFile (word.Table file) = Unit {0}
+-- a source that names a file
+abbrev pub NamesFile : PolicySource → Type 0
+NamesFile (Listing file) = Unit {0}
+NamesFile (source.Table file) = Unit {0}
 NamesFile _ = ⊥
 
 -- what refuses a file: a read of it failed, it has too many octets, or memory was wanting for what it holds
@@ -257,15 +250,16 @@ RefusesFile TooMuchInput = Unit {0}
 RefusesFile OutOfMemory = Unit {0}
 RefusesFile _ = ⊥
 
--- what refuses the names: that of a file, where there is a name that stands for one; memory may be wanting in any case
-abbrev pub RefusesNamed : List Named → Refusal → Type 0
-RefusesNamed named OutOfMemory = Unit {0}
-RefusesNamed named refusal = Any NamesFile named × RefusesFile refusal
+-- what refuses the files of the sources: that of a file, where a source names one; memory may be wanting in any case
+abbrev pub RefusesNamed : List PolicySource → Refusal → Type 0
+RefusesNamed sources OutOfMemory = Unit {0}
+RefusesNamed sources refusal = Any NamesFile sources × RefusesFile refusal
 
--- the trace was forwarded under the policies of the sources that are named; or a file was refused, and nothing was read
-abbrev pub ForwardsNamed : Bounds → List Named → Bool → Option (List ℕ) → Option (List ℕ) → Bool → ℕ → Option (List ℕ)
+-- the trace was forwarded under the policies of the sources, whatever their files hold; or a file was refused, and nothing was
+-- read
+abbrev pub ForwardsNamed : Bounds → List PolicySource → Bool → Option (List ℕ) → Option (List ℕ) → Bool → ℕ → Option (List ℕ)
     → Option (List ℕ) → Bool → ℕ → Type 0
-ForwardsNamed limits named lanes before after failed reads old new write_failed status =
-    ((sources : List Source) × AreNamed named sources
-    × Forwards limits sources lanes before after failed reads old new write_failed status)
-    ⊎ ((refusal : Refusal) × RefusesNamed named refusal × (after ≡ before) × Writes (Err refusal) status old new write_failed)
+ForwardsNamed limits sources lanes before after failed reads old new write_failed status =
+    ((texts : List (List ℕ)) × Forwards limits sources texts lanes before after failed reads old new write_failed status)
+    ⊎ ((refusal : Refusal) × RefusesNamed sources refusal × (after ≡ before)
+    × Writes (Err refusal) status old new write_failed)

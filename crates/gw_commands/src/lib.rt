@@ -26,7 +26,7 @@ pub use refusal::Refusal;
 pub use replay_command::replay;
 pub use responding::respond;
 pub use run_command::{
-    Named, NoObserver, Observer, ProgressOnStderr, Source, forward, forward_named,
+    NoObserver, Observer, PolicySource, ProgressOnStderr, forward, forward_named,
 };
 pub use table_command::table;
 pub use verdict_command::verdict;

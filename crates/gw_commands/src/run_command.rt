@@ -1,6 +1,6 @@
 //! The command `run`: the frames of a trace, forwarded by a gateway that runs in threads.
 
-ghost use Rattle.std.specs.Prelude.{◌≡◌, length, false};
+ghost use Rattle.std.specs.Prelude.{◌≡◌, length, map, false};
 ghost use Rattle.gw_io.specs.Tries.{inner_of, has_failed, reads_of};
 ghost use Rattle.gw_commands.specs.Forwarding.{Forwards, IsForwardFound};
 
@@ -27,29 +27,31 @@ mod observing;
 mod octets;
 mod running;
 
-pub use files::{Named, forward_named};
+pub use files::forward_named;
 pub use observing::{NoObserver, Observer, ProgressOnStderr};
 
-/// What a port's policy is made of: arguments of the command line, and texts of files.
+/// Where a port's policy comes from.
 #[derive(Clone, Copy, PartialEq, Eq, Debug)]
-pub enum Source<'n, 't> {
-    /// Nothing: the opening block.
+pub enum PolicySource<'a> {
+    /// From nothing: the opening block.
     Opening,
-    /// The listing of the command line.
-    Program(&'n [u8]),
-    /// The listing of a file, with its name.
-    Listing { file: &'n str, text: &'t [u8] },
-    /// The table of a file, with its name.
-    Table { file: &'n str, text: &'t [u8] },
+    /// From a program's listing.
+    Program(&'a str),
+    /// From a file of this name with a program's listing.
+    Listing(&'a str),
+    /// From a file of this name with a table.
+    Table(&'a str),
 }
 
 /// Reads a trace, forwards its frames, frame i at port i mod the number of ports, under the policies of the ports' sources, and
-/// writes what each port counted; with `lanes` also what was placed on each lane and lost there. It may wait.
+/// writes what each port counted; with `lanes` also what was placed on each lane and lost there. `texts` has what the files of
+/// the sources hold, port by port. It may wait.
 pub fn forward<R: Threads + Wait + Sync, G: Observer, I: Read, W: Write, F: Write>(
     rt: &R,
     alloc: Global,
     limits: Limits,
-    sources: &[Source],
+    sources: &[PolicySource],
+    texts: &[Vec<u8>],
     lanes: bool,
     observer: &G,
     input: &mut Tried<I>,
@@ -57,14 +59,17 @@ pub fn forward<R: Threads + Wait + Sync, G: Observer, I: Read, W: Write, F: Writ
     faults: &mut Tried<F>,
 ) -> u8
     requires sources { length sources.now ≡ limits.ports }
+    requires texts { length texts.now ≡ limits.ports }
     requires unread { reads_of input.old ≡ 0 }
     requires input { has_failed input.old ≡ false }
     requires output { has_failed output.old ≡ false }
-    ensures { Forwards limits sources.now lanes (I.remaining (inner_of input.old)) (I.remaining (inner_of input.new))
-        (has_failed input.new) (reads_of input.new)
+    ensures { Forwards limits sources.now (map (λ text. text.items) texts.now) lanes
+        (I.remaining (inner_of input.old)) (I.remaining (inner_of input.new)) (has_failed input.new) (reads_of input.new)
         (W.contents (inner_of output.old)) (W.contents (inner_of output.new)) (has_failed output.new) result }
 {
-    let found = forwarded(rt, alloc, limits, sources, lanes, observer, input, faults);
+    let found = forwarded(
+        rt, alloc, limits, sources, texts, lanes, observer, input, faults,
+    );
     respond(&found, output, faults)
 }
 
@@ -73,19 +78,21 @@ fn forwarded<R: Threads + Wait + Sync, G: Observer, I: Read, F: Write>(
     rt: &R,
     alloc: Global,
     limits: Limits,
-    sources: &[Source],
+    sources: &[PolicySource],
+    texts: &[Vec<u8>],
     lanes: bool,
     observer: &G,
     input: &mut Tried<I>,
     faults: &mut Tried<F>,
 ) -> Result<Answer, Refusal>
     requires sources { length sources.now ≡ limits.ports }
+    requires texts { length texts.now ≡ limits.ports }
     requires unread { reads_of input.old ≡ 0 }
     requires input { has_failed input.old ≡ false }
-    ensures { IsForwardFound limits sources.now lanes
+    ensures { IsForwardFound limits sources.now (map (λ text. text.items) texts.now) lanes
         (I.remaining (inner_of input.old)) (I.remaining (inner_of input.new)) (has_failed input.new) (reads_of input.new) result }
 {
-    let first = match first_batch(alloc, sources, faults) {
+    let first = match first_batch(alloc, sources, texts, faults) {
         Ok(first) => first,
         Err(refusal) => return Err(refusal),
     };

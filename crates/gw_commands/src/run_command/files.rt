@@ -2,16 +2,16 @@
 
 ghost use Rattle.std.specs.Prelude.{◌≡◌, length, vec_len, false, IfOk, IfErr};
 ghost use Rattle.gw_io.specs.Tries.{inner_of, has_failed, reads_of};
-ghost use Rattle.gw_commands.specs.Forwarding.{AreNamed, ForwardsNamed, RefusesFile, RefusesNamed};
+ghost use Rattle.gw_commands.specs.Forwarding.{ForwardsNamed, RefusesFile, RefusesNamed};
 
 use super::observing::Observer;
-use super::{Source, forward};
+use super::{PolicySource, forward};
 use crate::refusal::Refusal;
 use crate::responding::respond;
 use crate::streams::read_input;
 use gw_io::Tried;
 use gw_ledger::Limits;
-use std::alloc::{AllocError, Global};
+use std::alloc::Global;
 use std::fs;
 use std::io::{Read, Write};
 use std::marker::Sync;
@@ -19,74 +19,52 @@ use std::rt::Files;
 use std::sync::Wait;
 use std::thread::Threads;
 
-/// What a command line names for a port.
-#[derive(Clone, Copy, PartialEq, Eq, Debug)]
-pub enum Named<'a> {
-    /// Nothing: the opening block.
-    Opening,
-    /// A program's listing.
-    Program(&'a str),
-    /// A file with a program's listing.
-    Listing(&'a str),
-    /// A file with a table.
-    Table(&'a str),
-}
-
-/// Reads the files that are named for the ports, and forwards a trace under their policies: see `forward`. A file that cannot be
+/// Reads the files that the ports' sources name, and forwards a trace under their policies: see `forward`. A file that cannot be
 /// read is 96, and one of more than 1048576 octets 98; a person is told which. It may wait.
 pub fn forward_named<R: Threads + Wait + Sync + Files, G: Observer, I: Read, W: Write, F: Write>(
     rt: &R,
     alloc: Global,
     limits: Limits,
-    named: &[Named],
+    sources: &[PolicySource],
     lanes: bool,
     observer: &G,
     input: &mut Tried<I>,
     output: &mut Tried<W>,
     faults: &mut Tried<F>,
 ) -> u8
-    requires named { length named.now ≡ limits.ports }
+    requires sources { length sources.now ≡ limits.ports }
     requires unread { reads_of input.old ≡ 0 }
     requires input { has_failed input.old ≡ false }
     requires output { has_failed output.old ≡ false }
-    ensures { ForwardsNamed limits named.now lanes (I.remaining (inner_of input.old)) (I.remaining (inner_of input.new))
+    ensures { ForwardsNamed limits sources.now lanes (I.remaining (inner_of input.old)) (I.remaining (inner_of input.new))
         (has_failed input.new) (reads_of input.new)
         (W.contents (inner_of output.old)) (W.contents (inner_of output.new)) (has_failed output.new) result }
 {
-    let texts = match texts(rt, alloc, named, faults) {
+    let texts = match texts(rt, alloc, sources, faults) {
         Ok(texts) => texts,
         Err(refusal) => return respond(&Err(refusal), output, faults),
     };
-    let Ok(sources) = sources(alloc, named, &texts) else {
-        return respond(&Err(Refusal::OutOfMemory), output, faults);
-    };
     forward(
-        rt,
-        alloc,
-        limits,
-        sources.as_slice(),
-        lanes,
-        observer,
-        input,
-        output,
-        faults,
+        rt, alloc, limits, sources, &texts, lanes, observer, input, output, faults,
     )
 }
 
-/// What the files hold, in the order of their ports; nothing where none is named.
+/// What the files hold, in the order of their ports; nothing where a source names none.
 fn texts<R: Files, F: Write>(
     rt: &R,
     alloc: Global,
-    named: &[Named],
+    sources: &[PolicySource],
     faults: &mut Tried<F>,
 ) -> Result<Vec<Vec<u8>>, Refusal>
-    ensures count { IfOk result (λ texts. vec_len texts ≡ length named.now) }
-    ensures refused { IfErr result (RefusesNamed named.now) }
+    ensures count { IfOk result (λ texts. vec_len texts ≡ length sources.now) }
+    ensures refused { IfErr result (RefusesNamed sources.now) }
 {
     let mut texts = Vec::new(alloc);
-    for port in 0..named.len() {
-        let text = match named[port] {
-            Named::Listing(file) | Named::Table(file) => read_file(rt, alloc, port, file, faults)?,
+    for port in 0..sources.len() {
+        let text = match sources[port] {
+            PolicySource::Listing(file) | PolicySource::Table(file) => {
+                read_file(rt, alloc, port, file, faults)?
+            }
             _ => Vec::new(alloc),
         };
         if texts.push(text).is_err() {
@@ -114,26 +92,4 @@ fn read_file<R: Files, F: Write>(
         let _ = writeln!(faults, "gw: the file of port {port}, {path}, is refused:");
     }
     read
-}
-
-/// What the ports' policies are made of.
-fn sources<'n, 't>(
-    alloc: Global,
-    named: &[Named<'n>],
-    texts: &'t [Vec<u8>],
-) -> Result<Vec<Source<'n, 't>>, AllocError>
-    requires { length named.now ≡ length texts.now }
-    ensures { IfOk result (λ sources. AreNamed named.now sources.items) }
-{
-    let mut sources = Vec::new(alloc);
-    for port in 0..named.len() {
-        let text = texts[port].as_slice();
-        sources.push(match named[port] {
-            Named::Opening => Source::Opening,
-            Named::Program(listing) => Source::Program(listing.as_bytes()),
-            Named::Listing(file) => Source::Listing { file, text },
-            Named::Table(file) => Source::Table { file, text },
-        })?;
-    }
-    Ok(sources)
 }

@@ -1,12 +1,12 @@
 //! The policies with which a run begins.
 
-ghost use Rattle.std.specs.Prelude.{◌≡◌, ◌<◌, ◌≤◌, false, length, option_map, IfOk, IfErr};
+ghost use Rattle.std.specs.Prelude.{◌≡◌, ◌<◌, ◌≤◌, false, length, map, option_map, IfOk, IfErr};
 ghost use Rattle.gw_policy.specs.Batches.{names_port};
 ghost use Rattle.gw_commands.specs.Forwarding.{IsFirst, MeansPolicy, IsProgramPolicy, IsTablePolicy, joined};
 ghost use Rattle.gw_commands.specs.Forwarding.{RefusesListing, RefusesSource, RefusesSources};
 ghost use Rattle.gw_commands.specs.Tables.{RefusesText};
 
-use super::Source;
+use super::PolicySource;
 use crate::refusal::Refusal;
 use crate::texts::{program, read_table};
 use gw_io::Tried;
@@ -18,16 +18,18 @@ use std::sync::Arc;
 /// The policies of the ports' sources. A person is told which port's file is refused.
 pub(super) fn first_batch<F: Write>(
     alloc: Global,
-    sources: &[Source],
+    sources: &[PolicySource],
+    texts: &[Vec<u8>],
     faults: &mut Tried<F>,
 ) -> Result<Batch, Refusal>
-    requires { length sources.now ≤ 16 }
-    ensures first { IfOk result (IsFirst sources.now) }
-    ensures refused { IfErr result (RefusesSources sources.now) }
+    requires few { length sources.now ≤ 16 }
+    requires texts { length texts.now ≡ length sources.now }
+    ensures first { IfOk result (IsFirst sources.now (map (λ text. text.items) texts.now)) }
+    ensures refused { IfErr result (RefusesSources sources.now (map (λ text. text.items) texts.now)) }
 {
     let mut first = Batch::new();
     for port in 0..sources.len() {
-        let made = match policy(alloc, sources[port]) {
+        let made = match policy(alloc, sources[port], texts[port].as_slice()) {
             Ok(made) => made,
             Err(refusal) => {
                 note_file(port, sources[port], faults);
@@ -52,16 +54,16 @@ fn join(first: &mut Batch, port: u8, made: Option<Arc<Policy>>)
     }
 }
 
-/// The policy that a source means, if it means one.
-fn policy(alloc: Global, source: Source) -> Result<Option<Arc<Policy>>, Refusal>
-    ensures means { IfOk result (λ policy. MeansPolicy source.entry (option_map (λ shared. shared.value) policy)) }
-    ensures refused { IfErr result (RefusesSource source.entry) }
+/// The policy that a source means, if it means one; a file's source with what the file holds.
+fn policy(alloc: Global, source: PolicySource, text: &[u8]) -> Result<Option<Arc<Policy>>, Refusal>
+    ensures means { IfOk result (λ policy. MeansPolicy source.entry text.now (option_map (λ shared. shared.value) policy)) }
+    ensures refused { IfErr result (RefusesSource source.entry text.now) }
 {
     match source {
-        Source::Opening => Ok(None),
-        Source::Program(listing) => program_policy(alloc, listing),
-        Source::Listing { text, .. } => program_policy(alloc, text),
-        Source::Table { text, .. } => table_policy(alloc, text),
+        PolicySource::Opening => Ok(None),
+        PolicySource::Program(listing) => program_policy(alloc, listing.as_bytes()),
+        PolicySource::Listing(_) => program_policy(alloc, text),
+        PolicySource::Table(_) => table_policy(alloc, text),
     }
 }
 
@@ -99,15 +101,15 @@ fn table_policy(alloc: Global, text: &[u8]) -> Result<Option<Arc<Policy>>, Refus
 }
 
 /// Tells which file is refused, and for which port it is.
-fn note_file<F: Write>(port: usize, source: Source, faults: &mut Tried<F>) {
+fn note_file<F: Write>(port: usize, source: PolicySource, faults: &mut Tried<F>) {
     match source {
-        Source::Listing { file, .. } => {
+        PolicySource::Listing(file) => {
             let _ = writeln!(
                 faults,
                 "gw: the listing of port {port}, {file}, is refused:"
             );
         }
-        Source::Table { file, .. } => {
+        PolicySource::Table(file) => {
             let _ = writeln!(faults, "gw: the table of port {port}, {file}, is refused:");
         }
         _ => {}

@@ -2,4 +2,4 @@ use Rattle.std.proofs.Common.{◌≡◌, length}
 use Rattle.gw_cli.proofs.run_arguments.name_files.Given as goal
 
 abbrev pub invariant-loop-word : goal.invariant-loop-word
-invariant-loop-word l = length l.named ≡ length l.initial.named
+invariant-loop-word l = length l.sources ≡ length l.initial.sources

@@ -1,9 +1,10 @@
-use Rattle.std.proofs.Common.{sym, subst, IfErr}
-use Rattle.gw_commands.specs.Forwarding.{RefusesSource}
-use Rattle.gw_commands.specs.declared.run_command.Source.{Source}
+use Rattle.std.proofs.Common.{List, ℕ, IfErr, sym, subst}
+use Rattle.gw_commands.specs.Forwarding.{RefusesListing, RefusesSource}
+use Rattle.gw_commands.specs.declared.run_command.PolicySource.{PolicySource}
 use Rattle.gw_commands.proofs.run_command.first.policy.Goals as goal
 
-pub returns-in-Listing-clause-refused : goal.returns-in-Listing-clause-refused
-returns-in-Listing-clause-refused c =
-    subst (λ (s : Source). IfErr c.program_policy-in-Listing.result (RefusesSource s)) (sym c.in-Listing.is)
-    c.program_policy-in-Listing.ensures.refused
+pub returns-in-Program-clause-refused : goal.returns-in-Program-clause-refused
+returns-in-Program-clause-refused c =
+    subst (λ (s : PolicySource). IfErr c.program_policy.result (RefusesSource s c.args.text.now)) (sym c.in-Program.is)
+    (subst (λ (l : List ℕ). IfErr c.program_policy.result (RefusesListing l)) c.as_bytes.ensures.value
+    c.program_policy.ensures.refused)
