@@ -1,5 +1,5 @@
 -- A script that ended early, and the line that says why.
-use Rattle.std.proofs.Common.{◌≡◌, ◌≢◌, ℕ, Bool, true, false, List, length, Option, Err, inr, refl, sym, ◌∙◌, subst}
+use Rattle.std.proofs.Common.{◌≡◌, ◌≢◌, ℕ, Bool, true, false, List, length, Option, Err, inl, inr, refl, sym, ◌∙◌, subst}
 use Rattle.std.proofs.Math.Seq.{take-length}
 use Rattle.std.proofs.lemmas.Bool.{true≢false}
 use Rattle.std.specs.Io.KnownBytes.{Appends}
@@ -50,3 +50,9 @@ pub unread : (read_failed : Bool) (reads : ℕ) (write_failed later_failed : Boo
 unread read_failed reads write_failed later_failed fault.ReadFault other none is = is
 unread read_failed reads write_failed later_failed fault.WriteFault other none is = absurd (true≢false (sym is ∙ none))
 unread read_failed reads write_failed later_failed fault.OutOfMemory other none is = absurd (other refl)
+
+-- after a failed read the status is 1
+pub failed_is_1 : (before after : Option (List ℕ)) (reads : ℕ) (old new : Option (List ℕ)) (write_failed : Bool) (status : ℕ)
+    → Replays before after true reads old new write_failed status → status ≡ 1
+failed_is_1 before after reads old new write_failed status (inl done) = absurd (true≢false done.1)
+failed_is_1 before after reads old new write_failed status (inr early) = early.0

@@ -22,8 +22,9 @@ pub record EndsEarly (before after : Option (List ℕ)) (read_failed : Bool) (re
   pub line : WritesPart middle new (fault_line fault)
   pub whole : write_failed ≡ false → Appends middle new (fault_line fault)
 
--- all of the script's answers and status 0, or what was answered before it ended early and status 1
+-- all of the script's answers and status 0, where no read and no write failed; or what was answered before it ended early and
+-- status 1
 abbrev pub Replays : Option (List ℕ) → Option (List ℕ) → Bool → ℕ → Option (List ℕ) → Option (List ℕ) → Bool → ℕ → Type 0
 Replays before after read_failed reads old new write_failed status =
-    ((status ≡ 0) × IsReplayed before after old new)
+    ((status ≡ 0) × (read_failed ≡ false) × (write_failed ≡ false) × IsReplayed before after old new)
     ⊎ ((status ≡ 1) × EndsEarly before after read_failed reads old new write_failed)
