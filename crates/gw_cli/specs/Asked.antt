@@ -6,7 +6,7 @@ use Rattle.clap.specs.declared.error.kind.ErrorKind.{ErrorKind}
 use Rattle.clap.specs.declared.error.kind.ErrorKind.TheVariants.{DisplayHelp, DisplayVersion}
 use Rattle.gw_ledger.specs.Bounds.{Bounds}
 use Rattle.gw_commands.specs.Assemblies.{AnswersAsm, RefusesAsm, AnswersList, RefusesList}
-use Rattle.gw_commands.specs.Checks.{AnswersCheck, RefusesCheck}
+use Rattle.gw_commands.specs.Checks.{Checks}
 use Rattle.gw_commands.specs.ClaimLines.{AnswersClaims, RefusesClaims}
 use Rattle.gw_commands.specs.Commands.{Does, Writes, WritesText}
 use Rattle.gw_commands.specs.Forwarding.{ForwardsNamed}
@@ -48,7 +48,7 @@ DoesAsked (Verdict port word) before after failed reads old new write_failed tol
     Does (AnswersVerdict (option_copied word) port) (RefusesVerdict (option_copied word)) before after failed old new
     write_failed status
 DoesAsked Check before after failed reads old new write_failed told_old told_new tell_failed status =
-    Does AnswersCheck RefusesCheck before after failed old new write_failed status
+    Checks before after failed old new write_failed status
 DoesAsked Asm before after failed reads old new write_failed told_old told_new tell_failed status =
     Does AnswersAsm RefusesAsm before after failed old new write_failed status
 DoesAsked asked.List before after failed reads old new write_failed told_old told_new tell_failed status =

@@ -1,18 +1,16 @@
 //! The command `check`: whether a listing's program is accepted.
 
-ghost use Rattle.std.specs.Prelude.{◌≡◌, ◌++◌, ℕ, List, false, IfOk, IfErr, string_bytes};
+ghost use Rattle.std.specs.Prelude.{◌≡◌, ◌++◌, ℕ, List, false, Some, IfOk, IfErr, string_bytes};
 ghost use Rattle.gw_io.specs.Tries.{inner_of, has_failed};
-ghost use Rattle.gw_verify.specs.Cause.{cause_number};
-ghost use Rattle.gw_commands.specs.Commands.{Does, IsFound};
-ghost use Rattle.gw_commands.specs.Checks.{AnswersCheck, RefusesCheck, path_line};
+ghost use Rattle.gw_commands.specs.Commands.{IsFound};
+ghost use Rattle.gw_commands.specs.Checks.{AnswersCheck, Checks, RefusesCheck, path_line};
+ghost use Rattle.gw_commands.specs.Refusals.{refusal_line};
 ghost use Rattle.gw_commands.specs.Verdicts.{IsProgramRefusal};
 ghost use Rattle.gw_commands.specs.declared.refusal.Refusal.TheVariants.{Program};
-ghost use Rattle.gw_input.specs.Refused.{cause_details};
-ghost use Rattle.gw_input.specs.Refused.{refused_line};
 
 use crate::answer::Answer;
 use crate::refusal::Refusal;
-use crate::responding::respond;
+use crate::responding::{refuse, respond};
 use crate::streams::read_input;
 use crate::texts::program;
 use gw_input::refused_code;
@@ -21,7 +19,8 @@ use gw_verify::{Cause, Path, Refused};
 use std::alloc::{AllocError, Global};
 use std::io::{Read, Write};
 
-/// Reads a listing, and writes how many instructions its accepted program has.
+/// Reads a listing, and writes how many instructions its accepted program has. A path to the read of an unset word is written
+/// before its refusal.
 pub fn check<R: Read, W: Write, F: Write>(
     alloc: Global,
     input: &mut Tried<R>,
@@ -30,12 +29,24 @@ pub fn check<R: Read, W: Write, F: Write>(
 ) -> u8
     requires input { has_failed input.old ≡ false }
     requires output { has_failed output.old ≡ false }
-    ensures { Does AnswersCheck RefusesCheck (R.remaining (inner_of input.old)) (R.remaining (inner_of input.new))
-        (has_failed input.new)
+    ensures { Checks (R.remaining (inner_of input.old)) (R.remaining (inner_of input.new)) (has_failed input.new)
         (W.contents (inner_of output.old)) (W.contents (inner_of output.new)) (has_failed output.new) result }
 {
     let found = checked(alloc, input);
-    respond(&found, output, faults)
+    let Err(refusal) = &found else {
+        return respond(&found, output, faults);
+    };
+    let Refusal::Program {
+        refused,
+        path: Some(path),
+    } = refusal
+    else {
+        return respond(&found, output, faults);
+    };
+    match explained(alloc, refused, path) {
+        Ok(text) => refuse(&text, refusal, output, faults),
+        Err(AllocError) => respond(&Err(Refusal::OutOfMemory), output, faults),
+    }
 }
 
 /// How many instructions the accepted program of the input has.
@@ -55,47 +66,43 @@ fn counted(alloc: Global, listing: &[u8]) -> Result<Answer, Refusal>
 {
     match program(alloc, listing) {
         Ok(program) => Ok(Answer::Accepted(program.len())),
-        Err(refusal) => Err(with_path(alloc, refusal)),
+        Err(refusal) => Err(with_path(refusal)),
     }
 }
 
-/// The refusal, for an unset word with the path as a part of the output.
-fn with_path(alloc: Global, refusal: Refusal) -> Refusal
+/// The refusal; want of memory where an unset word has no path.
+fn with_path(refusal: Refusal) -> Refusal
     ensures { (listing : List ℕ) → IsProgramRefusal listing refusal → RefusesCheck listing result }
 {
     match refusal {
-        Refusal::Program { refused, path } => told(alloc, refused, path),
+        Refusal::Program { refused, path } => told(refused, path),
         refusal => refusal,
     }
 }
 
-/// The refusal of a program, for an unset word with the path as a part of the output.
-fn told(alloc: Global, refused: Refused, path: Option<Path>) -> Refusal
+/// The refusal of a program; want of memory where an unset word has no path.
+fn told(refused: Refused, path: Option<Path>) -> Refusal
     ensures { (listing : List ℕ) → IsProgramRefusal listing (Program refused path) → RefusesCheck listing result }
 {
-    let Some(path) = path else {
-        return match refused.why {
-            Cause::UnsetWord { .. } => Refusal::OutOfMemory,
-            _ => Refusal::Program {
-                refused,
-                path: None,
-            },
-        };
-    };
-    match explained(alloc, &refused, &path) {
-        Ok(output) => Refusal::Unset {
+    if let Some(path) = path {
+        return Refusal::Program {
             refused,
-            path,
-            output,
+            path: Some(path),
+        };
+    }
+    match refused.why {
+        Cause::UnsetWord { .. } => Refusal::OutOfMemory,
+        _ => Refusal::Program {
+            refused,
+            path: None,
         },
-        Err(AllocError) => Refusal::OutOfMemory,
     }
 }
 
 /// The lines of a path and of the refusal that it explains.
 fn explained(alloc: Global, refused: &Refused, path: &Path) -> Result<Vec<u8>, AllocError>
     ensures { IfOk result (λ output. output.items ≡ path_line path.now.places.items
-        ++ refused_line (cause_number refused.now.why) (cause_details refused.now.why refused.now.place)) }
+        ++ refusal_line (Program refused.now (Some path.now))) }
 {
     let mut output = path_line(alloc, &path.places)?.into_bytes();
     output.extend_from_slice(refused_code(refused.why, refused.place).as_bytes())?;

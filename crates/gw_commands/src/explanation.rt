@@ -18,7 +18,6 @@ impl Display for Refusal {
                 path: Some(path),
             } => unset(f, refused, path),
             Refusal::Program { refused, .. } => write!(f, "{refused}"),
-            Refusal::Unset { refused, path, .. } => unset(f, refused, path),
             Refusal::Assembler { why, text } => match str::from_utf8(text.as_slice()) {
                 Ok(text) => {
                     let explained = Explained {

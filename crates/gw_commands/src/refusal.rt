@@ -33,12 +33,6 @@ pub enum Refusal {
         refused: Refused,
         path: Option<Path>,
     },
-    /// 29 where the path is part of the output: the line of the path, and that of the refusal.
-    Unset {
-        refused: Refused,
-        path: Path,
-        output: Vec<u8>,
-    },
     /// 96: a read failed.
     ReadFault,
     /// 40 to 49: a text that means no code, and the text.
@@ -77,7 +71,6 @@ impl Refusal {
             Refusal::RecordOnLine { fault, .. } => fault.number(),
             Refusal::Listing(why) => why.number(),
             Refusal::Program { refused, .. } => refused.why.number(),
-            Refusal::Unset { refused, .. } => refused.why.number(),
             Refusal::Assembler { why, .. } => why.number(),
             Refusal::ReadFault => 96,
             Refusal::Table(why) => why.number(),
@@ -104,7 +97,6 @@ impl Refusal {
                 refused(number, &[*index as u64, u64::from(why.number())])
             }
             Refusal::Program { refused, .. } => refused_code(refused.why, refused.place),
-            Refusal::Unset { refused, .. } => refused_code(refused.why, refused.place),
             _ => refused(number, &[]),
         }
     }

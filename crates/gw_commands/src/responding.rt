@@ -1,11 +1,8 @@
 //! How a command ends: its answer or its refusal is written, and tells the status.
 
-ghost use Rattle.std.specs.Prelude.{◌≡◌, false, true, OnOk, OnErr};
-ghost use Rattle.std.specs.Io.KnownBytes.{Appends};
+ghost use Rattle.std.specs.Prelude.{◌≡◌, false};
 ghost use Rattle.gw_io.specs.Tries.{inner_of, has_failed};
-ghost use Rattle.gw_commands.specs.Commands.{Writes};
-ghost use Rattle.gw_io.specs.Written.{WritesPart};
-ghost use Rattle.gw_commands.specs.Refusals.{refusal_text};
+ghost use Rattle.gw_commands.specs.Commands.{Writes, WritesText};
 
 use crate::answer::Answer;
 use crate::refusal::Refusal;
@@ -23,34 +20,39 @@ pub fn respond<W: Write, F: Write>(
     ensures { Writes found.now result (W.contents (inner_of output.old)) (W.contents (inner_of output.new))
         (has_failed output.new) }
 {
-    let (written, status) = match found {
-        Ok(answer) => (answer.write(output), 0),
-        Err(refusal) => (write_refusal(refusal, output), 1),
+    let answer = match found {
+        Ok(answer) => answer,
+        Err(refusal) => return refuse(refusal.line().as_bytes(), refusal, output, faults),
     };
-    if let Err(refusal) = found {
-        let _ = writeln!(faults, "gw: {refusal}");
-    }
-    match written {
-        Ok(()) => status,
-        Err(WriteFault) => {
-            let _ = writeln!(faults, "gw: the output could not be written");
-            1
-        }
+    match answer.write(output) {
+        Ok(()) => 0,
+        Err(WriteFault) => unwritten(faults),
     }
 }
 
-/// Writes the lines of a refusal.
-fn write_refusal<W: Write>(refusal: &Refusal, output: &mut Tried<W>) -> Result<(), WriteFault>
+/// Writes the text of a refusal, tells a person of it, and gives the status 1.
+pub(crate) fn refuse<W: Write, F: Write>(
+    text: &[u8],
+    refusal: &Refusal,
+    output: &mut Tried<W>,
+    faults: &mut Tried<F>,
+) -> u8
     requires { has_failed output.old ≡ false }
-    ensures written { OnOk result (Appends (W.contents (inner_of output.old)) (W.contents (inner_of output.new))
-        (refusal_text refusal.now)) }
-    ensures part { OnErr result (WritesPart (W.contents (inner_of output.old)) (W.contents (inner_of output.new))
-        (refusal_text refusal.now)) }
-    ensures whole { OnOk result (has_failed output.new ≡ false) }
-    ensures failed { OnErr result (has_failed output.new ≡ true) }
+    ensures { WritesText text.now 1 result (W.contents (inner_of output.old)) (W.contents (inner_of output.new))
+        (has_failed output.new) }
 {
-    match refusal {
-        Refusal::Unset { output: text, .. } => write_all(output, text.as_slice()),
-        _ => write_all(output, refusal.line().as_bytes()),
+    let written = write_all(output, text);
+    let _ = writeln!(faults, "gw: {refusal}");
+    match written {
+        Ok(()) => 1,
+        Err(WriteFault) => unwritten(faults),
     }
+}
+
+/// Tells a person that a write failed, and gives the status 1.
+fn unwritten<F: Write>(faults: &mut Tried<F>) -> u8
+    ensures { result ≡ 1 }
+{
+    let _ = writeln!(faults, "gw: the output could not be written");
+    1
 }
