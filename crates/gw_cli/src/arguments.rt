@@ -6,7 +6,7 @@ use std::alloc::{AllocError, Global};
 use std::convert::AsStr;
 
 /// What the arguments ask for.
-#[derive(Clone, Copy, Debug, PartialEq, Eq)]
+#[derive(Clone, Copy)]
 pub enum Request<'a> {
     /// `verdict [--port P] [HEX]`.
     Verdict {

@@ -17,7 +17,7 @@ const FRAMES: u32 = u32::MAX;
 const LANE: u32 = 64;
 
 /// What `gw run` is asked for.
-#[derive(Drop, Debug, PartialEq, Eq)]
+#[derive(Drop)]
 pub struct RunRequest<'a> {
     pub limits: Limits,
     /// Where each port's policy comes from.

@@ -31,7 +31,7 @@ use std::alloc::{AllocError, Global};
 use std::io::{Read, Write};
 
 /// A line that is to name a record and does not, counted from 1.
-#[derive(Clone, Copy, PartialEq, Eq, Debug)]
+#[derive(Drop)]
 struct BadLine {
     number: usize,
     fault: RecordFault,
