@@ -1,20 +1,31 @@
 -- A gateway stands after one more batch.
-use Rattle.std.proofs.Common.{length-append, ◌≡◌, ◌+◌}
+use Rattle.std.proofs.Common.{length-append, ◌≡◌, ℕ, suc, ◌+◌}
 use Rattle.std.proofs.Common.{◌<◌, false, leb, List, [], ◌∷◌, ◌++◌, length, Option}
-use Rattle.std.proofs.Common.{Ok, refl, sym, ap, subst, ◌∙◌, arith}
+use Rattle.std.proofs.Common.{Some, Ok, refl, sym, ap, subst, ◌∙◌, arith}
+use Rattle.std.specs.Prelude.{All, slice_get}
 use Rattle.std.proofs.lemmas.Bool.Decides.{nat_tests}
+use Rattle.std.proofs.lemmas.List.Elements.{All-nil, All-cons}
+use Rattle.gw_policy.specs.Filter.{IsFilter}
 use Rattle.gw_policy.specs.Batches.{Pair}
 use Rattle.gw_core.specs.Events.{history_of, all_batches, accepted}
 use Rattle.gw_core.specs.Events.{names_no_port}
 use Rattle.gw_core.specs.declared.event.Event.{Event}
 use Rattle.gw_core.specs.declared.event.Event.TheVariants.{Publish}
 use Rattle.gw_core.specs.Standing.{AreSound}
+use Rattle.gw_core.specs.Headline.{IsEvent}
 use Rattle.gw_core.proofs.Publishings.{sound_published, found_published, worker_published}
 use Rattle.gw_core.specs.declared.active.PairPlace.{PairPlace}
 use Rattle.gw_core.specs.declared.event.Answer.TheVariants.{Published}
 use Rattle.std.proofs.lemmas.List.{reverse-append}
 use Rattle.gw_core.specs.Gateway.{PlacesWith, Gateway, StandsAt, Stands, CoreAnswers}
 use Rattle.gw_core.proofs.Gateways.{front_of, accepts, batches_of_port}
+
+-- what is known of each pair of a batch is known of all
+all_sound : (batch : List Pair) → ((i : ℕ) (pair : Pair) → slice_get batch i ≡ Some pair → IsFilter pair.policy)
+    → All (λ (pair : Pair). IsFilter pair.policy) batch
+all_sound [] each = All-nil (λ (pair : Pair). IsFilter pair.policy)
+all_sound (pair ∷ pairs) each = All-cons (λ (pair : Pair). IsFilter pair.policy) pair pairs (each 0 pair refl)
+    (all_sound pairs (λ i x get. each (suc i) x get))
 
 -- a batch was published
 pub stands_publish : (c : Gateway) (done : List Event) (batch : List Pair) (latest : List (Option PairPlace)) → StandsAt c done
@@ -25,6 +36,7 @@ stands_publish c done batch latest s more made =
     let sound : AreSound (batch ∷ all_batches done) = sound_published (all_batches done) batch s.sound made.sound in
     record {
       limits = s.limits;
+      events = All-cons IsEvent (Publish batch) done (all_sound batch made.sound) s.events;
       batches = ap (λ (x : List (List Pair)). x ++ batch ∷ []) s.batches ∙ sym (reverse-append (batch ∷ []) (all_batches done));
       few = let k = length-append c.batches (batch ∷ []) in omega arith;
       sound = sound;

@@ -39,7 +39,7 @@ pub stands_empty : (c : Gateway) (done : List Event) (to from : ℕ) (w w2 : Wor
 stands_empty c done to from w w2 s at lt is first =
     let none : length (waiting (place_of c.limits from) to (history_of from done))
     ≡ 0 = ap length (sym (lane_waits c done to from w s at lt)) ∙ none_wait (lane_of w to).waiting first in
-    stands_at c done (Send to from) (copy_asked to) from w w2 refl (send_here to from) (λ q ne. send_there to from q ne)
+    stands_at c done (Send to from) (copy_asked to) from w w2 tt refl (send_here to from) (λ q ne. send_there to from q ne)
     (λ r q. count none r q (cases_eq r from) (cases_eq q to))
     s at (sent_worker c done to from w w2 s at lt is) (ap (λ (x : Worker). x.limits) is) (ap (λ (x : Worker). x.own) is)
   where
@@ -61,7 +61,7 @@ pub stands_sent : (c : Gateway) (done : List Event) (to from : ℕ) (w w2 : Work
     → o2.sent ≡ slice_set o.sent from (min (slice_index o.sent from + 1) (2 ^ 64 - 1))
     → StandsAt (record c { workers = slice_set c.workers from w2; outs = slice_set c.outs to o2 }) (Send to from ∷ done)
 stands_sent c done to from w w2 o o2 copy s at out lt own is first counts =
-    stands_with c done (Send to from) (copy_asked to) from w w2 (slice_set c.outs to o2) refl (send_here to from)
+    stands_with c done (Send to from) (copy_asked to) from w w2 (slice_set c.outs to o2) tt refl (send_here to from)
     (λ q ne. send_there to from q ne)
     s at (sent_worker c done to from w w2 s at lt is) (ap (λ (x : Worker). x.limits) is) (ap (λ (x : Worker). x.own) is)
     (length_set c.outs to o2 ∙ s.senders)

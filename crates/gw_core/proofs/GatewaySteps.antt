@@ -7,6 +7,7 @@ use Rattle.std.proofs.lemmas.Bool.Decides.{nat_tests}
 use Rattle.std.specs.List.{cons_option}
 use Rattle.std.proofs.lemmas.Option.{slice_get_read}
 use Rattle.std.proofs.lemmas.Bool.{cases_eq}
+use Rattle.std.proofs.lemmas.List.Elements.{All-cons}
 use Rattle.gw_policy.specs.Batches.{Pair}
 use Rattle.gw_ledger.specs.Bounds.{Bounds}
 use Rattle.gw_core.specs.PortHistory.{PortEvent, step_made, Place, place_of}
@@ -18,6 +19,7 @@ use Rattle.gw_core.specs.declared.event.Answer.{Answer}
 use Rattle.gw_core.specs.declared.event.EventRefusal.{EventRefusal}
 use Rattle.gw_core.specs.declared.event.EventRefusal.TheVariants.{NoSuchPort}
 use Rattle.gw_core.specs.Standing.{Worker, WorkerStands, place, AnswersStep}
+use Rattle.gw_core.specs.Headline.{IsEvent}
 use Rattle.gw_core.specs.Gateway.{Gateway, IsGateway, StandsAt, Stands, WorkerAt, CoreAnswers}
 use Rattle.gw_core.proofs.Gateways.{get_set_same, get_set_other, length_set, same_some, accepts, refuses, set_same, with_worker}
 
@@ -44,6 +46,7 @@ pub stands_step : (c : Gateway) (done : List Event) (p : ℕ) (w w2 : Worker) (a
     → StandsAt (record c { workers = slice_set c.workers p w2 }) (Step p ∷ done)
 stands_step c done p w w2 answer s at answers limits own = record {
   limits = s.limits;
+  events = All-cons IsEvent (Step p) done tt s.events;
   batches = s.batches;
   few = s.few;
   sound = s.sound;

@@ -6,6 +6,7 @@ use Rattle.std.specs.Prelude.{slice_get, slice_set, OnErr}
 use Rattle.std.proofs.lemmas.Bool.Decides.{nat_tests}
 use Rattle.std.specs.List.{cons_option}
 use Rattle.std.proofs.lemmas.Option.{slice_get_read}
+use Rattle.gw_frame.specs.Record.{IsRecord}
 use Rattle.gw_policy.specs.Batches.{Pair}
 use Rattle.gw_ledger.specs.Bounds.{Bounds}
 use Rattle.gw_core.specs.PortHistory.{PortEvent, frame_taken, place_of}
@@ -18,6 +19,7 @@ use Rattle.gw_core.specs.declared.event.Answer.{Answer}
 use Rattle.gw_core.specs.declared.event.EventRefusal.{EventRefusal}
 use Rattle.gw_core.specs.Standing.{Worker, WorkerStands, AnswersTake, AreFound}
 use Rattle.gw_core.specs.declared.active.PairPlace.{PairPlace}
+use Rattle.gw_core.specs.Headline.{IsEvent}
 use Rattle.gw_core.specs.Gateway.{Gateway, IsGateway, StandsAt, Stands, CoreAnswers}
 use Rattle.gw_core.proofs.Gateways.{front_of, accepts, refuses, set_same, with_worker, batches_of_port, stands_at}
 
@@ -43,6 +45,11 @@ TakesAs w given w2 frame latest front = (all : List (List Pair)) (done : List Po
     → AreFound all latest (batches done) → front ≡ length (batches done)
     → AnswersTake all w given w2 done frame
 
+-- the taking of a record at a port that is there is an event
+taken_event : (c : Gateway) (done : List Event) (p : ℕ) (frame : List ℕ) → StandsAt c done → p < c.limits.ports → IsRecord frame
+    → IsEvent (Take p frame)
+taken_event c done p frame s within is_record = let most = s.limits.most_ports in (is_record, omega arith)
+
 -- what the worker answers for the history of its port, and what the gateway answers for its own
 told_take : (c : Gateway) (p : ℕ) (w w2 : Worker) (given : Result Answer EventRefusal) (frame : List ℕ) (front : ℕ)
     → TakesAs w given w2 frame c.latest front → front ≡ length c.batches
@@ -54,11 +61,11 @@ told_take c p w w2 given frame front makes fronts done s at =
     (fronts ∙ sym (front_of c done s) ∙ ap length (sym (batches_of_port p done)))
 
 taken_by : (c : Gateway) (p : ℕ) (w w2 : Worker) (given : Result Answer EventRefusal) (frame : List ℕ) (front : ℕ)
-    → p < c.limits.ports → TakesAs w given w2 frame c.latest front
+    → p < c.limits.ports → IsRecord frame → TakesAs w given w2 frame c.latest front
     → front ≡ length c.batches → w2.limits ≡ w.limits → w2.own ≡ w.own → (history : List Event) → Stands c history
     → slice_get c.workers p ≡ Some w
     → CoreAnswers c (Take p frame) given (with_worker c p w2) history
-taken_by c p w w2 (Ok answer) frame front within makes fronts limits own history s at =
+taken_by c p w w2 (Ok answer) frame front within is_record makes fronts limits own history s at =
     let done = accepted c.limits history in
     let here = s.workers p w at in
     let told = told_take c p w w2 (Ok answer) frame front makes fronts done s at in
@@ -67,9 +74,10 @@ taken_by c p w w2 (Ok answer) frame front within makes fronts limits own history
     subst (λ n. take_refusal c.limits (place_of c.limits n) (history_of p done) ≡ None) here.own
     (subst (λ (l : Bounds). take_refusal l (place_of l w.own) (history_of p done) ≡ None) here.limits told.0) in
     accepts c (with_worker c p w2) history (Take p frame) answer (rw e allowed) told.1 refl
-    (stands_at c done (Take p frame) (frame_taken frame) p w w2 refl (take_here p frame) (λ q ne. take_there p q frame ne)
+    (stands_at c done (Take p frame) (frame_taken frame) p w w2 (taken_event c done p frame s within is_record) refl
+    (take_here p frame) (λ q ne. take_there p q frame ne)
     (λ r q. take_sent c.limits r q p frame done) s at told.2 limits own)
-taken_by c p w w2 (Err why) frame front within makes fronts limits own history s at =
+taken_by c p w w2 (Err why) frame front within is_record makes fronts limits own history s at =
     let done = accepted c.limits history in
     let here = s.workers p w at in
     let told = told_take c p w w2 (Err why) frame front makes fronts done s at in
@@ -86,20 +94,20 @@ taken_by c p w w2 (Err why) frame front within makes fronts limits own history s
 
 -- what a taking answers, as the machine finds its worker
 pub core_take : (c : Gateway) (i p : ℕ) (w w2 : Worker) (given : Result Answer EventRefusal) (frame : List ℕ) (front : ℕ) → i ≡ p
-    → p < c.limits.ports → w ≡ slice_index_or c.workers i w
+    → p < c.limits.ports → IsRecord frame → w ≡ slice_index_or c.workers i w
     → TakesAs w given w2 frame c.latest front → front ≡ length c.batches → w2.limits ≡ w.limits → w2.own ≡ w.own
     → (history : List Event) → Stands c history → CoreAnswers c (Take p frame) given (with_worker c i w2) history
-core_take c i p w w2 given frame front at within read makes fronts limits own history s =
+core_take c i p w w2 given frame front at within is_record read makes fronts limits own history s =
     subst (λ n. CoreAnswers c (Take p frame) given (with_worker c n w2) history) (sym at)
-    (taken_by c p w w2 given frame front within makes fronts limits own history s
+    (taken_by c p w w2 given frame front within is_record makes fronts limits own history s
     (slice_get_read c.workers c.limits.ports p w (sym s.ports) within (read ∙ ap (λ n. slice_index_or c.workers n w) at)))
 
 -- some history leads to the gateway after it, which is the same where it is refused
 pub core_take_stays : (c : Gateway) (i : ℕ) (w w2 : Worker) (given : Result Answer EventRefusal) (frame : List ℕ) (front : ℕ)
-    → i < c.limits.ports → w ≡ slice_index_or c.workers i w
+    → i < c.limits.ports → IsRecord frame → w ≡ slice_index_or c.workers i w
     → TakesAs w given w2 frame c.latest front → front ≡ length c.batches → w2.limits ≡ w.limits → w2.own ≡ w.own → IsGateway c
     → IsGateway (with_worker c i w2) × OnErr given (with_worker c i w2 ≡ c)
-core_take_stays c i w w2 given frame front within read makes fronts limits own g = go given
+core_take_stays c i w w2 given frame front within is_record read makes fronts limits own g = go given
     (told_take c i w w2 given frame front makes fronts g.0 g.1 at)
   where
     at : slice_get c.workers i ≡ Some w
@@ -110,7 +118,8 @@ core_take_stays c i w w2 given frame front within read makes fronts limits own g
     go (Ok answer) told = (
       (
         Take i frame ∷ g.0,
-        stands_at c g.0 (Take i frame) (frame_taken frame) i w w2 refl (take_here i frame) (λ q ne. take_there i q frame ne)
+        stands_at c g.0 (Take i frame) (frame_taken frame) i w w2 (taken_event c g.0 i frame g.1 within is_record) refl
+            (take_here i frame) (λ q ne. take_there i q frame ne)
             (λ r q. take_sent c.limits r q i frame g.0) g.1 at told.2 limits own,
       ),
       tt,

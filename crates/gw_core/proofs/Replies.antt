@@ -12,7 +12,7 @@ use Rattle.gw_core.specs.Events.{reply, replies}
 use Rattle.gw_core.specs.Runs.{AreReplies}
 
 -- an event before others is the newest of the history that these meet
-turned : (x : Event) (before history : List Event) → reverse (x ∷ before) ++ history ≡ reverse before ++ x ∷ history
+pub turned : (x : Event) (before history : List Event) → reverse (x ∷ before) ++ history ≡ reverse before ++ x ∷ history
 turned x before history = ap (λ (l : List Event). l ++ history) (reverse-append (x ∷ []) before)
     ∙ append_assoc (reverse before) (x ∷ []) history
 

@@ -20,13 +20,12 @@ use Rattle.gw_core.specs.PortHistory.{PortEvent, batch_published, frame_taken, s
 use Rattle.gw_core.specs.PortHistory.{taking, Work, instruction, placing, heard, last_taking, work, work_left}
 use Rattle.gw_core.specs.PortHistory.{steps_since, lane_after, waiting, places_at, placed_by, copy_of, placed_at}
 use Rattle.gw_core.specs.PortHistory.{placed_since}
-use Rattle.gw_core.specs.Events.{history_of, all_batches, accepted, keep_accepted, refusal}
+use Rattle.gw_core.specs.Events.{history_of, all_batches}
 use Rattle.gw_core.specs.Events.{at_port, waiting_after}
 use Rattle.gw_core.specs.Standing.{AreSound}
 use Rattle.gw_core.specs.Headline.{IsEvent, WasFull}
 use Rattle.gw_core.specs.declared.event.Event.{Event}
 use Rattle.gw_core.specs.declared.event.Event.TheVariants.{Publish, Take, Step, Send}
-use Rattle.gw_core.specs.declared.event.EventRefusal.{EventRefusal}
 use Rattle.gw_core.proofs.Histories.{work_left-step}
 use Rattle.gw_core.proofs.Publishings.{sound_published}
 use Rattle.gw_core.proofs.Starts.{none_in_force, none_some}
@@ -38,18 +37,10 @@ abbrev pub AreEvents : List Event → Type 0
 AreEvents [] = Unit {0}
 AreEvents (e ∷ done) = IsEvent e × AreEvents done
 
--- one by one, and of those accepted
+-- one by one
 pub events_all : (done : List Event) → All IsEvent done → AreEvents done
 events_all [] h = tt
 events_all (e ∷ done) h = (All-head IsEvent e done h, events_all done (All-tail IsEvent e done h))
-
-pub events_accepted : (limits : Bounds) (history : List Event) → AreEvents history → AreEvents (accepted limits history)
-events_accepted limits [] h = tt
-events_accepted limits (e ∷ before) h = go (refusal limits (accepted limits before) e) (events_accepted limits before h.1)
-  where
-    go : (r : Option EventRefusal) → AreEvents (accepted limits before) → AreEvents (keep_accepted r e (accepted limits before))
-    go None k = (h.0, k)
-    go (Some refused) k = k
 
 -- the policies in force are sound
 pub sound_events : (done : List Event) → AreEvents done → AreSound (all_batches done)

@@ -10,9 +10,9 @@ use Rattle.gw_machine.specs.Runs.{Reaches, IsStep}
 use Rattle.gw_policy.specs.Batches.{in_force, steps}
 use Rattle.gw_ledger.specs.Bounds.{Bounds}
 use Rattle.gw_core.specs.PortHistory.{Work, instruction, place_of, work_left, heard}
-use Rattle.gw_core.specs.Events.{history_of, all_batches}
+use Rattle.gw_core.specs.Events.{history_of, all_batches, accepted}
 use Rattle.gw_core.specs.declared.event.Event.{Event}
-use Rattle.gw_core.specs.declared.event.Event.TheVariants.{Take}
+use Rattle.gw_core.specs.declared.event.Event.TheVariants.{Take, Step}
 
 -- The machine that makes instruction n of accepted code for a frame taken at port p: n steps lead to it from the start. It
 -- stands inside the code, at an instruction that has a step there, each word that this loads was stored, and n is below the
@@ -45,3 +45,9 @@ pub record IsSafeStep (limits : Bounds) (done : List Event) (p q n : ℕ) : Type
   pub other : q ≢ p
   pub few : n < steps (in_force q (all_batches earlier)) frame p
   pub runs : MatchOption (in_force q (all_batches earlier)) (n ≡ 0) (λ filter. RunsInside filter.code frame p n)
+
+-- where an event is a step that makes an instruction, that is a safe one
+abbrev pub StepsInside : Bounds → List Event → Event → Type 0
+StepsInside limits history e =
+    (p q n : ℕ) → e ≡ Step p → MakesNext limits (accepted limits history) p q n
+    → IsSafeStep limits (accepted limits history) p q n

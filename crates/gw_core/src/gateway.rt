@@ -3,10 +3,13 @@
 ghost use Rattle.std.specs.Prelude.{◌≡◌, ℕ, ◌<◌, ◌≤◌, List, [], ◌∷◌, length, IfOk, IfErr, OnErr, slice_index};
 ghost use Rattle.gw_core.specs.Gateway.{Stands, CoreAnswers};
 ghost use Rattle.gw_core.specs.Events.{accepted, ledger_after, waiting_after, sent_after};
+ghost use Rattle.gw_core.specs.Headline.{Forwards};
+ghost use Rattle.gw_core.specs.Safety.{StepsInside};
 ghost use Rattle.gw_core.specs.declared.event.Event.{Event};
 
 use crate::active::{PairPlace, PairPlaces};
 use crate::event::{Answer, Event, EventRefusal};
+use crate::laws::{finished_frames_were_forwarded, steps_are_safe};
 use crate::refusal::OutOfMemory;
 use crate::worker::Worker;
 use gw_frame::Frame;
@@ -66,15 +69,21 @@ impl Core {
     }
 
     /// Does one event, or refuses it (72 to 76, the first that holds) and changes nothing. It takes no memory. A refused
-    /// batch is dropped.
+    /// batch is dropped. A frame that the event finishes was forwarded, and an instruction that it makes is a safe one.
     // Inlined, so that a caller that names the event builds none: an `Event` has room for a batch of sixteen pairs.
     #[inline(always)]
     pub fn event(&mut self, event: Event) -> Result<Answer, EventRefusal>
         ensures answers { (history : List Event) → Stands self.old history
             → CoreAnswers self.old event result self.new history }
+        ensures headline { (history : List Event) → Stands self.old history
+            → Forwards self.old.limits history event result }
+        ensures safe { (history : List Event) → Stands self.old history → StepsInside self.old.limits history event }
         ensures refused { OnErr result (self.new ≡ self.old) }
         ensures limits { self.new.limits ≡ self.old.limits }
     {
+        // `headline` and `safe` rest on these laws, which do nothing when run.
+        finished_frames_were_forwarded();
+        steps_are_safe();
         match event {
             Event::Publish(batch) => self.publish(batch),
             Event::Take(port, frame) => self.take(port, frame),
@@ -105,6 +114,8 @@ impl Core {
         if u32::from(port) >= self.limits.ports() {
             return Err(EventRefusal::NoSuchPort);
         }
+        // A frame's octets are a record.
+        let _record = frame.bytes();
         let front = self.batches.len() as u32;
         self.workers[usize::from(port)].take(frame, &self.latest, front)
     }
@@ -178,10 +189,10 @@ fn places_with(batch: &Batch, ports: u32, index: usize, latest: PairPlaces) -> O
 
 impl Core {
     ghost use Rattle.std.specs.Prelude.{MatchResult};
-    ghost use Rattle.gw_core.specs.Runs.{RunsTo};
+    ghost use Rattle.gw_core.specs.Runs.{RunsTo, ForEachAnswer};
 
     /// Does events one after another, and gives the answer of each. The list of answers is made first: where memory for
-    /// it was refused (71), nothing has changed and the events come back.
+    /// it was refused (71), nothing has changed and the events come back. Of each event holds what `event` says.
     pub fn run(
         &mut self,
         alloc: Global,
@@ -189,10 +200,17 @@ impl Core {
     ) -> Result<Vec<Result<Answer, EventRefusal>>, Vec<Event>>
         ensures answers { (history : List Event) → Stands self.old history
             → IfOk result (λ answers. RunsTo self.old history events.items answers.items self.new) }
+        ensures headline { (history : List Event) → Stands self.old history
+            → IfOk result (λ answers. ForEachAnswer (Forwards self.old.limits) history events.items answers.items) }
+        ensures safe { (history : List Event) → Stands self.old history
+            → IfOk result (λ answers. ForEachAnswer (λ past event answer. StepsInside self.old.limits past event)
+            history events.items answers.items) }
         ensures handed_back { IfErr result (λ back. back.items ≡ events.items) }
         ensures unchanged { OnErr result (self.new ≡ self.old) }
         ensures limits { self.new.limits ≡ self.old.limits }
     {
+        finished_frames_were_forwarded();
+        steps_are_safe();
         let Ok(mut answers) = Vec::with_capacity(alloc, events.len()) else {
             return Err(events);
         };

@@ -1,5 +1,5 @@
 use Rattle.gw_core.specs.Events.{accepted}
-use Rattle.gw_core.proofs.Since.{events_all, events_accepted}
+use Rattle.gw_core.proofs.Since.{events_all}
 use Rattle.gw_core.proofs.SafeSteps.{safe_step}
 use Rattle.gw_core.proofs.laws.steps_are_safe.Goals as goal
 
@@ -7,4 +7,4 @@ pub returns : goal.returns
 returns c = λ limits history p q n events next.
     safe_step c.one_answer.ensures.returns c.one_answer.ensures.steps c.soundness.ensures.accepted_loads
     c.soundness.ensures.accepted_places
-    limits (accepted limits history) p q n (events_accepted limits history (events_all history events)) next
+    limits (accepted limits history) p q n (events_all (accepted limits history) events) next

@@ -1,6 +1,11 @@
-use Rattle.std.proofs.Common.{◌≡◌, ◌∷◌, [], length, ap, ◌∙◌, append_assoc, arith, length-append}
+use Rattle.std.proofs.Common.{◌≡◌, List, ◌∷◌, [], length, ap, subst, ◌∙◌, append_assoc, arith, length-append}
 use Rattle.std.specs.Vec.Iter.{into_iter_items}
-use Rattle.gw_core.proofs.Runs.{one_more}
+use Rattle.gw_core.specs.Headline.{Forwards}
+use Rattle.gw_core.specs.Safety.{StepsInside}
+use Rattle.gw_core.specs.Runs.{ForEachAnswer}
+use Rattle.gw_core.specs.declared.event.Event.{Event}
+use Rattle.gw_core.proofs.Runs.{one_more, all_yielded}
+use Rattle.gw_core.proofs.Answered.{each_forwards, each_inside}
 use Rattle.gw_core.proofs.gateway.Core.run.Goals as goal
 
 pub loop-event-preserved : goal.loop-event-preserved
@@ -18,3 +23,24 @@ loop-event-preserved c =
           c.push_reserved.new.self.items c.event.result at.invariant.limits c.push_reserved.ensures.items
           c.event.ensures.answers (at.invariant.runs history s);
     }
+
+pub returns-clause-headline : goal.returns-clause-headline
+returns-clause-headline c =
+    let old = c.args.self.now in
+    let at = c.loop-event in
+    let whole : at.yielded ≡ c.args.events.items = all_yielded at.yielded (into_iter_items at.event-iterator) _ _ _
+    at.invariant.handed c.into_iter-event-iterator.ensures.into_iter_gives.0 at.invariant.rest c.in-None.ensures.steps.0 in
+    λ history s. subst (λ (es : List Event). ForEachAnswer (Forwards old.limits) history es at.answers.items) whole
+    (each_forwards c.finished_frames_were_forwarded.ensures old at.self history at.yielded at.answers.items at.invariant.limits
+    (at.invariant.runs history s))
+
+pub returns-clause-safe : goal.returns-clause-safe
+returns-clause-safe c =
+    let old = c.args.self.now in
+    let at = c.loop-event in
+    let whole : at.yielded ≡ c.args.events.items = all_yielded at.yielded (into_iter_items at.event-iterator) _ _ _
+    at.invariant.handed c.into_iter-event-iterator.ensures.into_iter_gives.0 at.invariant.rest c.in-None.ensures.steps.0 in
+    λ history s. subst (λ (es : List Event). ForEachAnswer (λ past e answer. StepsInside old.limits past e) history es
+    at.answers.items) whole
+    (each_inside c.steps_are_safe.ensures old at.self history at.yielded at.answers.items at.invariant.limits
+    (at.invariant.runs history s))

@@ -1,5 +1,6 @@
 use Rattle.std.proofs.Common.{rules, ◌≡◌, ◌<◌, List, length, subst, arith}
 use Rattle.std.specs.Prelude.{OnErr}
+use Rattle.gw_frame.specs.Record.{IsRecord}
 use Rattle.gw_core.specs.Gateway.{Gateway, Stands, CoreAnswers}
 use Rattle.gw_core.specs.declared.event.Event.{Event}
 use Rattle.gw_core.specs.declared.event.Event.TheVariants.{Take}
@@ -24,10 +25,11 @@ invariant_of-self c =
     let g : Gateway =
     record { limits = i.limits; batches = i.batches.items; latest = i.latest; workers = i.workers.items; outs = i.outs.items } in
     let within : c.from-2.result < g.limits.ports = omega (arith, c.from-2.ensures, c.from.ensures, c.ports.ensures.ports) in
-    let front : c.len-front.result ≡ length g.batches = search rules in (
+    let front : c.len-front.result ≡ length g.batches = search rules in
+    let is_record : IsRecord c.args.frame = subst IsRecord c.bytes-record.ensures.octets c.bytes-record.ensures.record in (
       c.self.invariant.0,
       (core_take_stays g c.from-2.result c.index_mut.result.now c.take.new.self c.take.result c.args.frame c.len-front.result
-          within c.index_mut.ensures.value
+          within is_record c.index_mut.ensures.value
           c.take.ensures.answers front c.take.ensures.limits c.take.ensures.own c.self.invariant.1).0,
     )
 
@@ -41,9 +43,10 @@ returns-clause-answers c =
     let P : Gateway → Type 0 = λ x. (history : List Event) → Stands x history
     → CoreAnswers x (Take c.args.port c.args.frame) c.take.result (with_worker g c.from-2.result c.take.new.self) history in
     let is_view : g ≡ c.args.self.now = c.self.view_is in
+    let is_record : IsRecord c.args.frame = subst IsRecord c.bytes-record.ensures.octets c.bytes-record.ensures.record in
     subst P is_view
     (core_take g c.from-2.result c.args.port c.index_mut.result.now c.take.new.self c.take.result c.args.frame c.len-front.result
-    c.from-2.ensures within c.index_mut.ensures.value
+    c.from-2.ensures within is_record c.index_mut.ensures.value
     c.take.ensures.answers front c.take.ensures.limits c.take.ensures.own)
 
 pub returns-clause-refused : goal.returns-clause-refused
@@ -54,7 +57,8 @@ returns-clause-refused c =
     let within : c.from-2.result < g.limits.ports = omega (arith, c.from-2.ensures, c.from.ensures, c.ports.ensures.ports) in
     let front : c.len-front.result ≡ length g.batches = search rules in
     let is_view : g ≡ c.args.self.now = c.self.view_is in
+    let is_record : IsRecord c.args.frame = subst IsRecord c.bytes-record.ensures.octets c.bytes-record.ensures.record in
     subst (λ (x : Gateway). OnErr c.take.result (with_worker g c.from-2.result c.take.new.self ≡ x)) is_view
     ((core_take_stays g c.from-2.result c.index_mut.result.now c.take.new.self c.take.result c.args.frame c.len-front.result
-    within c.index_mut.ensures.value
+    within is_record c.index_mut.ensures.value
     c.take.ensures.answers front c.take.ensures.limits c.take.ensures.own c.self.invariant.1).1)
