@@ -12,7 +12,7 @@ use gw_machine::State;
 use gw_policy::{Batch, Policy};
 
 /// Where a policy stands: which published batch, and which of its pairs.
-#[derive(Clone, Copy, PartialEq, Eq, Debug)]
+#[derive(Clone, Copy)]
 pub(crate) struct PairPlace {
     pub(crate) batch: usize,
     pub(crate) pair: usize,
@@ -22,7 +22,7 @@ pub(crate) struct PairPlace {
 pub(crate) type PairPlaces = [Option<PairPlace>; 16];
 
 /// A frame that is not finished.
-#[derive(Clone, Copy, PartialEq, Eq, Debug)]
+#[derive(Clone, Copy)]
 pub(crate) struct Active {
     pub(crate) frame: Frame,
     pub(crate) number: u32,
@@ -38,7 +38,7 @@ pub(crate) struct Active {
 }
 
 /// What a frame did at the port that it is offered to.
-#[derive(Clone, Copy, PartialEq, Eq, Debug)]
+#[derive(Clone, Copy)]
 pub(crate) enum Progress {
     /// One instruction, and there is more to do at the port.
     Runs,
