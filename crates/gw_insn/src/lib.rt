@@ -7,7 +7,9 @@ mod insn;
 mod reading;
 mod writing;
 
-pub use bounds::{INTERFACE, MAX_INSNS, NEGATIVE_OFFSETS, SCRATCH_WORDS};
+pub use bounds::{
+    INTERFACE, MAX_INSNS, NEGATIVE_OFFSETS, SCRATCH_WORDS, bounds_are_those_of_linux,
+};
 pub use code::{decode, encode};
 pub use insn::{Insn, Raw};
 pub use reading::{ListRefusal, read_listing};

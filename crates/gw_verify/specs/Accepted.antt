@@ -1,7 +1,6 @@
 -- The checks of a program (this project's profile of Linux's bpf_check_classic and check_load_and_stores,
 -- net/core/filter.c), and which refusal comes first.
 use Rattle.std.specs.Prelude.{ℕ, ◌≡◌, ◌≢◌, ◌+◌, ◌<◌, ◌≤◌, ◌⊎◌, List, [], ◌∷◌, ◌++◌, length, Some, None, slice_get}
-use Rattle.gw_insn.specs.declared.bounds.TheConstants.{SCRATCH_WORDS, MAX_INSNS, NEGATIVE_OFFSETS, INTERFACE}
 use Rattle.gw_insn.specs.declared.insn.Raw.{Raw}
 use Rattle.gw_insn.specs.Form.{Form, Load, LoadScratch, Store, Alu, Jump, Branch, ReturnConstant, ReturnA, Word, Constant, Div}
 use Rattle.gw_insn.specs.Form.{Mod, Lsh, Rsh}
@@ -23,10 +22,10 @@ ShiftsTooFar (Alu Lsh (Constant k)) = 32 ≤ k
 ShiftsTooFar (Alu Rsh (Constant k)) = 32 ≤ k
 ShiftsTooFar _ = ⊥
 
--- the number of no scratch word
+-- the number of no scratch word: there are 16 (BPF_MEMWORDS)
 abbrev pub NamesNoWord : Form → Type 0
-NamesNoWord (LoadScratch register k) = SCRATCH_WORDS ≤ k
-NamesNoWord (Store register k) = SCRATCH_WORDS ≤ k
+NamesNoWord (LoadScratch register k) = 16 ≤ k
+NamesNoWord (Store register k) = 16 ≤ k
 NamesNoWord _ = ⊥
 
 -- a jump from place i out of a code of this length
@@ -35,11 +34,11 @@ JumpsOut len i (Jump k) = len ≤ i + 1 + k
 JumpsOut len i (Branch comparison operand jt jf) = (len ≤ i + 1 + jt) ⊎ (len ≤ i + 1 + jf)
 JumpsOut len i _ = ⊥
 
--- an absolute load at one of the kernel's negative offsets (SKF_AD_OFF and below), except the
--- interface number (SKF_AD_OFF + SKF_AD_IFINDEX) of a word load
+-- an absolute load at one of the kernel's negative offsets, those from SKF_AD_OFF (-0x1000) on, except a word load
+-- of the interface number, at SKF_AD_OFF + SKF_AD_IFINDEX (8)
 abbrev pub IsAncillary : Form → Type 0
-IsAncillary (Load Word k) = (NEGATIVE_OFFSETS ≤ k) × (k ≢ INTERFACE)
-IsAncillary (Load _ k) = NEGATIVE_OFFSETS ≤ k
+IsAncillary (Load Word k) = (0xfffff000 ≤ k) × (k ≢ 0xfffff008)
+IsAncillary (Load _ k) = 0xfffff000 ≤ k
 IsAncillary _ = ⊥
 
 -- any instruction but a return
@@ -54,10 +53,10 @@ pub record At (forms : Forms) (i : ℕ) (P : Form → Type 0) : Type 0 where
   pub here : HasAt forms i insn
   pub holds : P insn
 
--- what each cause says is wrong at place i
+-- what each cause says is wrong at place i; code has at most 4096 instructions (BPF_MAXINSNS)
 abbrev pub IsFault : Forms → Cause → ℕ → Type 0
 IsFault forms Empty i = (forms ≡ []) × (i ≡ 0)
-IsFault forms TooLong i = (MAX_INSNS < length forms) × (i ≡ MAX_INSNS)
+IsFault forms TooLong i = (4096 < length forms) × (i ≡ 4096)
 IsFault forms UnknownCode i = slice_get forms i ≡ Some None
 IsFault forms DivideByZero i = At forms i DividesByZero
 IsFault forms ShiftTooFar i = At forms i ShiftsTooFar
@@ -85,7 +84,7 @@ IsRefusal forms cause i = IsFirstFault forms cause i
 
 -- what a refusal for an unset word says besides: it is one of the 16 words, and the code is not too long
 abbrev pub IsExplainable : Cause → List Raw → Type 0
-IsExplainable (UnsetWord word) code = (word < SCRATCH_WORDS) × (length code ≤ MAX_INSNS)
+IsExplainable (UnsetWord word) code = (word < 16) × (length code ≤ 4096)
 IsExplainable _ code = Unit {0}
 
 -- the last of the places loads the word
