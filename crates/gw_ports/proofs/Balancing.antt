@@ -31,56 +31,56 @@ counted_from lane = count_of (taken_from lane)
 -- lanes are the same in number and kind as their ends: of each pair of ends both are there or none is
 
 -- one pair of ends
-one_placed : (source destination : ℕ) (inlet : Option Inlet) (outlet : Option Outlet) → ring_to inlet ≡ ring_from outlet
-    → sum_by placed_in (lane_of source destination inlet outlet) ≡ placed_on inlet
-one_placed source destination None outlet same = refl
-one_placed source destination (Some inlet) None same = absurd (cc same)
-one_placed source destination (Some inlet) (Some outlet) same = zero-add (length inlet.placed)
+one_placed : (ingress egress : ℕ) (inlet : Option Inlet) (outlet : Option Outlet) → ring_to inlet ≡ ring_from outlet
+    → sum_by placed_in (lane_of ingress egress inlet outlet) ≡ placed_on inlet
+one_placed ingress egress None outlet same = refl
+one_placed ingress egress (Some inlet) None same = absurd (cc same)
+one_placed ingress egress (Some inlet) (Some outlet) same = zero-add (length inlet.placed)
 
-one_counted : (source destination : ℕ) (inlet : Option Inlet) (outlet : Option Outlet) → ring_to inlet ≡ ring_from outlet
-    → sum_by counted_in (lane_of source destination inlet outlet) ≡ counted_from outlet
-one_counted source destination None None same = refl
-one_counted source destination None (Some outlet) same = absurd (cc same)
-one_counted source destination (Some inlet) None same = absurd (cc same)
-one_counted source destination (Some inlet) (Some outlet) same = zero-add (count_of (length outlet.taken))
+one_counted : (ingress egress : ℕ) (inlet : Option Inlet) (outlet : Option Outlet) → ring_to inlet ≡ ring_from outlet
+    → sum_by counted_in (lane_of ingress egress inlet outlet) ≡ counted_from outlet
+one_counted ingress egress None None same = refl
+one_counted ingress egress None (Some outlet) same = absurd (cc same)
+one_counted ingress egress (Some inlet) None same = absurd (cc same)
+one_counted ingress egress (Some inlet) (Some outlet) same = zero-add (count_of (length outlet.taken))
 
 -- the ends of all lanes from a port
-pub row_placed : (source destination : ℕ) (inlets : List (Option Inlet)) (outlets : List (Option Outlet))
+pub row_placed : (ingress egress : ℕ) (inlets : List (Option Inlet)) (outlets : List (Option Outlet))
     → map ring_to inlets ≡ map ring_from outlets
-    → sum_by placed_in (lanes_to source destination inlets outlets) ≡ sum_by placed_on inlets
-row_placed source destination [] outlets same = refl
-row_placed source destination (inlet ∷ inlets) [] same = absurd (cc same)
-row_placed source destination (inlet ∷ inlets) (outlet ∷ outlets) same =
+    → sum_by placed_in (lanes_to ingress egress inlets outlets) ≡ sum_by placed_on inlets
+row_placed ingress egress [] outlets same = refl
+row_placed ingress egress (inlet ∷ inlets) [] same = absurd (cc same)
+row_placed ingress egress (inlet ∷ inlets) (outlet ∷ outlets) same =
     let first : ring_to inlet ≡ ring_from outlet = cc same in
     let rest : map ring_to inlets ≡ map ring_from outlets = cc same in
-    sum_by-append placed_in (lane_of source destination inlet outlet) (lanes_to source (suc destination) inlets outlets)
-    ∙ ap (λ n. n + sum_by placed_in (lanes_to source (suc destination) inlets outlets))
-    (one_placed source destination inlet outlet first)
-    ∙ ap (λ n. placed_on inlet + n) (row_placed source (suc destination) inlets outlets rest)
+    sum_by-append placed_in (lane_of ingress egress inlet outlet) (lanes_to ingress (suc egress) inlets outlets)
+    ∙ ap (λ n. n + sum_by placed_in (lanes_to ingress (suc egress) inlets outlets))
+    (one_placed ingress egress inlet outlet first)
+    ∙ ap (λ n. placed_on inlet + n) (row_placed ingress (suc egress) inlets outlets rest)
     ∙ sym (sum_by-cons placed_on inlet inlets)
 
-pub row_counted : (source destination : ℕ) (inlets : List (Option Inlet)) (outlets : List (Option Outlet))
+pub row_counted : (ingress egress : ℕ) (inlets : List (Option Inlet)) (outlets : List (Option Outlet))
     → map ring_to inlets ≡ map ring_from outlets
-    → sum_by counted_in (lanes_to source destination inlets outlets) ≡ sum_by counted_from outlets
-row_counted source destination [] [] same = refl
-row_counted source destination [] (outlet ∷ outlets) same = absurd (cc same)
-row_counted source destination (inlet ∷ inlets) [] same = absurd (cc same)
-row_counted source destination (inlet ∷ inlets) (outlet ∷ outlets) same =
+    → sum_by counted_in (lanes_to ingress egress inlets outlets) ≡ sum_by counted_from outlets
+row_counted ingress egress [] [] same = refl
+row_counted ingress egress [] (outlet ∷ outlets) same = absurd (cc same)
+row_counted ingress egress (inlet ∷ inlets) [] same = absurd (cc same)
+row_counted ingress egress (inlet ∷ inlets) (outlet ∷ outlets) same =
     let first : ring_to inlet ≡ ring_from outlet = cc same in
     let rest : map ring_to inlets ≡ map ring_from outlets = cc same in
-    sum_by-append counted_in (lane_of source destination inlet outlet) (lanes_to source (suc destination) inlets outlets)
-    ∙ ap (λ n. n + sum_by counted_in (lanes_to source (suc destination) inlets outlets))
-    (one_counted source destination inlet outlet first)
-    ∙ ap (λ n. counted_from outlet + n) (row_counted source (suc destination) inlets outlets rest)
+    sum_by-append counted_in (lane_of ingress egress inlet outlet) (lanes_to ingress (suc egress) inlets outlets)
+    ∙ ap (λ n. n + sum_by counted_in (lanes_to ingress (suc egress) inlets outlets))
+    (one_counted ingress egress inlet outlet first)
+    ∙ ap (λ n. counted_from outlet + n) (row_counted ingress (suc egress) inlets outlets rest)
     ∙ sym (sum_by-cons counted_from outlet outlets)
 
-pub all_placed : (source : ℕ) (rows : List (List (Option Inlet))) (columns : List (List (Option Outlet))) → Match rows columns
-    → sum_by placed_in (lanes_of source rows columns) ≡ sum_by (sum_by placed_on) rows
-all_placed source [] columns match = refl
-all_placed source (row ∷ rows) columns match =
-    let whole = sum_by-append placed_in (lanes_to source 0 row (heads columns)) (lanes_of (suc source) rows (tails columns)) in
-    let first = row_placed source 0 row (heads columns) match.0 in
-    let rest = all_placed (suc source) rows (tails columns) match.1 in
+pub all_placed : (ingress : ℕ) (rows : List (List (Option Inlet))) (columns : List (List (Option Outlet))) → Match rows columns
+    → sum_by placed_in (lanes_of ingress rows columns) ≡ sum_by (sum_by placed_on) rows
+all_placed ingress [] columns match = refl
+all_placed ingress (row ∷ rows) columns match =
+    let whole = sum_by-append placed_in (lanes_to ingress 0 row (heads columns)) (lanes_of (suc ingress) rows (tails columns)) in
+    let first = row_placed ingress 0 row (heads columns) match.0 in
+    let rest = all_placed (suc ingress) rows (tails columns) match.1 in
     let sum = sum_by-cons (sum_by placed_on) row rows in
     omega arith
 
@@ -121,15 +121,15 @@ shorter n columns all = All-map (λ (c : List (Option Outlet)). length c ≡ n) 
     one [] size = absurd (omega arith)
     one (lane ∷ lanes) size = omega arith
 
--- rows and columns have the same lanes: what was sent is counted source by source
-pub all_counted : (source : ℕ) (rows : List (List (Option Inlet))) (columns : List (List (Option Outlet))) → Match rows columns
+-- rows and columns have the same lanes: what was sent is counted one ingress port after another
+pub all_counted : (ingress : ℕ) (rows : List (List (Option Inlet))) (columns : List (List (Option Outlet))) → Match rows columns
     → All (λ column. length column ≡ length rows) columns
-    → sum_by counted_in (lanes_of source rows columns) ≡ sum_by (sum_by counted_from) columns
-all_counted source [] columns match whole = sym (nothing_in columns whole)
-all_counted source (row ∷ rows) columns match whole =
-    let all = sum_by-append counted_in (lanes_to source 0 row (heads columns)) (lanes_of (suc source) rows (tails columns)) in
-    let first = row_counted source 0 row (heads columns) match.0 in
-    let rest = all_counted (suc source) rows (tails columns) match.1 (shorter (length rows) columns whole) in
+    → sum_by counted_in (lanes_of ingress rows columns) ≡ sum_by (sum_by counted_from) columns
+all_counted ingress [] columns match whole = sym (nothing_in columns whole)
+all_counted ingress (row ∷ rows) columns match whole =
+    let all = sum_by-append counted_in (lanes_to ingress 0 row (heads columns)) (lanes_of (suc ingress) rows (tails columns)) in
+    let first = row_counted ingress 0 row (heads columns) match.0 in
+    let rest = all_counted (suc ingress) rows (tails columns) match.1 (shorter (length rows) columns whole) in
     let split = heads_and_rest columns in
     omega arith
 
@@ -152,49 +152,49 @@ lefts_balance (lane ∷ lanes) (left ∷ lefts) are small =
     omega arith
 
 -- a lane has no more copies than its port placed
-small_row : (most source destination : ℕ) (inlets : List (Option Inlet)) (outlets : List (Option Outlet))
-    → sum_by placed_on inlets < most → All (λ lane. placed_in lane < most) (lanes_to source destination inlets outlets)
-small_row most source destination [] outlets less = λ k d below. absurd (omega arith)
-small_row most source destination (inlet ∷ inlets) [] less = λ k d below. absurd (omega arith)
-small_row most source destination (inlet ∷ inlets) (outlet ∷ outlets) less =
+small_row : (most ingress egress : ℕ) (inlets : List (Option Inlet)) (outlets : List (Option Outlet))
+    → sum_by placed_on inlets < most → All (λ lane. placed_in lane < most) (lanes_to ingress egress inlets outlets)
+small_row most ingress egress [] outlets less = λ k d below. absurd (omega arith)
+small_row most ingress egress (inlet ∷ inlets) [] less = λ k d below. absurd (omega arith)
+small_row most ingress egress (inlet ∷ inlets) (outlet ∷ outlets) less =
     let sum = sum_by-cons placed_on inlet inlets in
-    All-append (λ (l : Lane). placed_in l < most) (lane_of source destination inlet outlet)
-    (lanes_to source (suc destination) inlets outlets) (one inlet outlet (omega arith))
-    (small_row most source (suc destination) inlets outlets (omega arith))
+    All-append (λ (l : Lane). placed_in l < most) (lane_of ingress egress inlet outlet)
+    (lanes_to ingress (suc egress) inlets outlets) (one inlet outlet (omega arith))
+    (small_row most ingress (suc egress) inlets outlets (omega arith))
   where
     one : (i : Option Inlet) (o : Option Outlet) → placed_on i < most
-        → All (λ lane. placed_in lane < most) (lane_of source destination i o)
+        → All (λ lane. placed_in lane < most) (lane_of ingress egress i o)
     one None o less_one = λ k d below. absurd (omega arith)
     one (Some i) None less_one = λ k d below. absurd (omega arith)
     one (Some i) (Some o) less_one =
-        All-cons (λ (l : Lane). placed_in l < most) (record { source = source; destination = destination; inlet = i; outlet = o })
+        All-cons (λ (l : Lane). placed_in l < most) (record { ingress = ingress; egress = egress; inlet = i; outlet = o })
         []
         less_one (λ k d below. absurd (omega arith))
 
-pub small_lanes : (most source : ℕ) (rows : List (List (Option Inlet))) (columns : List (List (Option Outlet)))
-    → All (λ row. sum_by placed_on row < most) rows → All (λ lane. placed_in lane < most) (lanes_of source rows columns)
-small_lanes most source [] columns all = λ k d below. absurd (omega arith)
-small_lanes most source (row ∷ rows) columns all =
+pub small_lanes : (most ingress : ℕ) (rows : List (List (Option Inlet))) (columns : List (List (Option Outlet)))
+    → All (λ row. sum_by placed_on row < most) rows → All (λ lane. placed_in lane < most) (lanes_of ingress rows columns)
+small_lanes most ingress [] columns all = λ k d below. absurd (omega arith)
+small_lanes most ingress (row ∷ rows) columns all =
     let small = λ (r : List (Option Inlet)). sum_by placed_on r < most in
-    All-append (λ (l : Lane). placed_in l < most) (lanes_to source 0 row (heads columns))
-    (lanes_of (suc source) rows (tails columns))
-    (small_row most source 0 row (heads columns) (All-head small row rows all))
-    (small_lanes most (suc source) rows (tails columns) (All-tail small row rows all))
+    All-append (λ (l : Lane). placed_in l < most) (lanes_to ingress 0 row (heads columns))
+    (lanes_of (suc ingress) rows (tails columns))
+    (small_row most ingress 0 row (heads columns) (All-head small row rows all))
+    (small_lanes most (suc ingress) rows (tails columns) (All-tail small row rows all))
 
 -- the counts of the copies sent are those of the lanes, as many as there are
 counts_sum : (counts : List ℕ) (lanes : List (Option Outlet)) → length lanes ≤ length counts
-    → ((source : ℕ) → source < length counts → get_or counts source 0 ≡ counted_from (lane_at lanes source))
+    → ((ingress : ℕ) → ingress < length counts → get_or counts ingress 0 ≡ counted_from (lane_at lanes ingress))
     → sum counts ≡ sum_by counted_from lanes
 counts_sum [] [] few each = refl
 counts_sum [] (lane ∷ lanes) few each = absurd (omega arith)
 counts_sum (count ∷ counts) [] few each =
     let first = each 0 (omega arith) in
-    let rest = counts_sum counts [] (omega arith) (λ source below. each (suc source) (omega arith)) in
+    let rest = counts_sum counts [] (omega arith) (λ ingress below. each (suc ingress) (omega arith)) in
     let whole : sum (count ∷ counts) ≡ count + sum counts = sum_by-cons (λ (x : ℕ). x) count counts in
     omega arith
 counts_sum (count ∷ counts) (lane ∷ lanes) few each =
     let first = each 0 (omega arith) in
-    let rest = counts_sum counts lanes (omega arith) (λ source below. each (suc source) (omega arith)) in
+    let rest = counts_sum counts lanes (omega arith) (λ ingress below. each (suc ingress) (omega arith)) in
     let whole : sum (count ∷ counts) ≡ count + sum counts = sum_by-cons (λ (x : ℕ). x) count counts in
     let all = sum_by-cons counted_from lane lanes in
     omega arith
@@ -216,10 +216,10 @@ ledgers_sent : (outs : List Egress) → All IsSoundEgress outs
 ledgers_sent [] sound = refl
 ledgers_sent (egress ∷ outs) sound =
     let here = All-head IsSoundEgress egress outs sound in
-    let sources = here.counted.sources in
+    let ports = here.counted.ports in
     let few = here.few in
     let one : sum egress.ledger.sent ≡ sum_by counted_from egress.lanes =
-    counts_sum egress.ledger.sent egress.lanes (omega arith) (λ source below. here.counted.sent source (omega arith)) in
+    counts_sum egress.ledger.sent egress.lanes (omega arith) (λ ingress below. here.counted.sent ingress (omega arith)) in
     let rest = ledgers_sent outs (All-tail IsSoundEgress egress outs sound) in
     let ledgers = sum_by-cons (λ (l : OutLedger). sum l.sent) egress.ledger (map (λ (e : Egress). e.ledger) outs) in
     let columns = sum_by-cons (sum_by counted_from) egress.lanes (columns_of outs) in

@@ -36,110 +36,110 @@ one_placed true P Q copy lane lane' m =
 one_placed false P Q copy lane lane' m = ap placed_list m.0 ∙ sym (append-nil (placed_list lane))
 
 abbrev copy_of : ℕ → ℕ → List ℕ → FrameCopy
-copy_of source number octets = record { from = source; number = number; frame = octets }
+copy_of ingress number octets = record { from = ingress; number = number; frame = octets }
 
--- the lane to a destination has the copies that the outcomes placed for it
-pub placed_to : (destination : ℕ) (heard : List (List ℕ)) (old : Ingress) (frames : List (List ℕ)) (outcomes : List Outcome)
-    (new : Ingress) → Offers heard old frames outcomes new → placed_list (lane_at new.lanes destination)
-    ≡ placed_list (lane_at old.lanes destination) ++ copies_to old.port destination frames outcomes
-placed_to destination heard old [] [] new same =
-    ap (λ (i : Ingress). placed_list (lane_at i.lanes destination)) same
-    ∙ sym (append-nil (placed_list (lane_at old.lanes destination)))
-placed_to destination heard old [] (o ∷ outcomes) new offers = absurd offers
-placed_to destination heard old (f ∷ frames) [] new offers = absurd offers
-placed_to destination heard old (f ∷ frames) (o ∷ outcomes) new offers =
+-- the lane to an egress port has the copies that the outcomes placed for it
+pub placed_to : (egress : ℕ) (heard : List (List ℕ)) (old : Ingress) (frames : List (List ℕ)) (outcomes : List Outcome)
+    (new : Ingress) → Offers heard old frames outcomes new → placed_list (lane_at new.lanes egress)
+    ≡ placed_list (lane_at old.lanes egress) ++ copies_to old.port egress frames outcomes
+placed_to egress heard old [] [] new same =
+    ap (λ (i : Ingress). placed_list (lane_at i.lanes egress)) same
+    ∙ sym (append-nil (placed_list (lane_at old.lanes egress)))
+placed_to egress heard old [] (o ∷ outcomes) new offers = absurd offers
+placed_to egress heard old (f ∷ frames) [] new offers = absurd offers
+placed_to egress heard old (f ∷ frames) (o ∷ outcomes) new offers =
     let next = offers.0 in
-    let before = placed_list (lane_at old.lanes destination) in
-    let one : placed_list (lane_at next.lanes destination) ≡ before ++ placed_copy old.port destination f o =
-    one_placed (has_port destination o.placed) _ _ (copy_of old.port old.ledger.taken f) (lane_at old.lanes destination)
-    (lane_at next.lanes destination) (offers.1.placed.ports destination)
-    ∙ ap (λ n. before ++ (if has_port destination o.placed then copy_of old.port n f ∷ [] else [])) (sym offers.1.number) in
-    placed_to destination (f ∷ heard) next frames outcomes new offers.2
-    ∙ ap (λ p. placed_list (lane_at next.lanes destination) ++ copies_to p destination frames outcomes) offers.1.same.0
-    ∙ ap (λ (l : List FrameCopy). l ++ copies_to old.port destination frames outcomes) one
-    ∙ append_assoc before (placed_copy old.port destination f o) (copies_to old.port destination frames outcomes)
+    let before = placed_list (lane_at old.lanes egress) in
+    let one : placed_list (lane_at next.lanes egress) ≡ before ++ placed_copy old.port egress f o =
+    one_placed (has_port egress o.placed) _ _ (copy_of old.port old.ledger.taken f) (lane_at old.lanes egress)
+    (lane_at next.lanes egress) (offers.1.placed.ports egress)
+    ∙ ap (λ n. before ++ (if has_port egress o.placed then copy_of old.port n f ∷ [] else [])) (sym offers.1.number) in
+    placed_to egress (f ∷ heard) next frames outcomes new offers.2
+    ∙ ap (λ p. placed_list (lane_at next.lanes egress) ++ copies_to p egress frames outcomes) offers.1.same.0
+    ∙ ap (λ (l : List FrameCopy). l ++ copies_to old.port egress frames outcomes) one
+    ∙ append_assoc before (placed_copy old.port egress f o) (copies_to old.port egress frames outcomes)
 
 -- they are copies from that port
-pub placed_from : (source destination : ℕ) (frames : List (List ℕ)) (outcomes : List Outcome)
-    → All (λ copy. copy.from ≡ source) (copies_to source destination frames outcomes)
-placed_from source destination [] [] = λ k d below. absurd (omega arith)
-placed_from source destination [] (o ∷ outcomes) = λ k d below. absurd (omega arith)
-placed_from source destination (f ∷ frames) [] = λ k d below. absurd (omega arith)
-placed_from source destination (f ∷ frames) (o ∷ outcomes) =
-    All-append (λ (c : FrameCopy). c.from ≡ source) (placed_copy source destination f o)
-    (copies_to source destination frames outcomes) (one (has_port destination o.placed))
-    (placed_from source destination frames outcomes)
+pub placed_from : (ingress egress : ℕ) (frames : List (List ℕ)) (outcomes : List Outcome)
+    → All (λ copy. copy.from ≡ ingress) (copies_to ingress egress frames outcomes)
+placed_from ingress egress [] [] = λ k d below. absurd (omega arith)
+placed_from ingress egress [] (o ∷ outcomes) = λ k d below. absurd (omega arith)
+placed_from ingress egress (f ∷ frames) [] = λ k d below. absurd (omega arith)
+placed_from ingress egress (f ∷ frames) (o ∷ outcomes) =
+    All-append (λ (c : FrameCopy). c.from ≡ ingress) (placed_copy ingress egress f o)
+    (copies_to ingress egress frames outcomes) (one (has_port egress o.placed))
+    (placed_from ingress egress frames outcomes)
   where
-    one : (b : Bool) → All (λ copy. copy.from ≡ source) (if b then copy_of source o.number f ∷ [] else [])
+    one : (b : Bool) → All (λ copy. copy.from ≡ ingress) (if b then copy_of ingress o.number f ∷ [] else [])
     one true =
-        All-cons (λ (c : FrameCopy). c.from ≡ source) (copy_of source o.number f) [] refl (λ k d below. absurd (omega arith))
+        All-cons (λ (c : FrameCopy). c.from ≡ ingress) (copy_of ingress o.number f) [] refl (λ k d below. absurd (omega arith))
     one false = λ k d below. absurd (omega arith)
 
 -- taking out
 
-taken_here : (source : ℕ) (old new : List (Option Outlet)) (copy : FrameCopy) → PopsFrom source old copy new
-    → taken_list (lane_at new source) ≡ taken_list (lane_at old source) ++ copy ∷ []
-taken_here source old new copy pops =
+taken_here : (ingress : ℕ) (old new : List (Option Outlet)) (copy : FrameCopy) → PopsFrom ingress old copy new
+    → taken_list (lane_at new ingress) ≡ taken_list (lane_at old ingress) ++ copy ∷ []
+taken_here ingress old new copy pops =
     ap taken_list pops.lane.is ∙ ap (λ (l : List FrameCopy). l ++ copy ∷ []) (sym (ap taken_list pops.lane.was))
 
-taken_elsewhere : (source other : ℕ) (old new : List (Option Outlet)) (copy : FrameCopy) → PopsFrom source old copy new
-    → (other ≡ source → ⊥) → taken_list (lane_at new other) ≡ taken_list (lane_at old other)
-taken_elsewhere source other old new copy pops apart =
+taken_elsewhere : (ingress other : ℕ) (old new : List (Option Outlet)) (copy : FrameCopy) → PopsFrom ingress old copy new
+    → (other ≡ ingress → ⊥) → taken_list (lane_at new other) ≡ taken_list (lane_at old other)
+taken_elsewhere ingress other old new copy pops apart =
     ap taken_list (ap (λ (l : List (Option Outlet)). lane_at l other) pops.others
-    ∙ get_or-set_other old source other (lane_at new source) None apart)
+    ∙ get_or-set_other old ingress other (lane_at new ingress) None apart)
 
 -- each copy that was taken from a lane is from the port whose lane it is
 abbrev pub AreOwn : List (Option Outlet) → Type 0
-AreOwn lanes = (source : ℕ) → All (λ copy. copy.from ≡ source) (taken_list (lane_at lanes source))
+AreOwn lanes = (ingress : ℕ) → All (λ copy. copy.from ≡ ingress) (taken_list (lane_at lanes ingress))
 
-own_of : (source : ℕ) (before after whole : List FrameCopy) (copy : FrameCopy) → whole ≡ (before ++ copy ∷ []) ++ after
-    → All (λ c. c.from ≡ source) whole → copy.from ≡ source
-own_of source before after whole copy is own =
+own_of : (ingress : ℕ) (before after whole : List FrameCopy) (copy : FrameCopy) → whole ≡ (before ++ copy ∷ []) ++ after
+    → All (λ c. c.from ≡ ingress) whole → copy.from ≡ ingress
+own_of ingress before after whole copy is own =
     let split : whole ≡ before ++ copy ∷ after = is ∙ append_assoc before (copy ∷ []) after in
     let size = ap length split ∙ length-append before (copy ∷ after) in
-    subst (λ (c : FrameCopy). c.from ≡ source)
+    subst (λ (c : FrameCopy). c.from ≡ ingress)
     (ap (λ (l : List FrameCopy). get_or l (length before) copy) split ∙ get_or_at before copy after copy (length before) refl)
     (own (length before) copy (omega arith))
 
-one_from : (source : ℕ) (copy : FrameCopy) (copies : List FrameCopy) → copy.from ≡ source
-    → from_port source (copy ∷ copies) ≡ copy ∷ from_port source copies
-one_from source copy copies is =
-    ap (λ b. cond b (copy ∷ from_port source copies) (from_port source copies)) (eq-eqb copy.from source is)
+one_from : (ingress : ℕ) (copy : FrameCopy) (copies : List FrameCopy) → copy.from ≡ ingress
+    → from_port ingress (copy ∷ copies) ≡ copy ∷ from_port ingress copies
+one_from ingress copy copies is =
+    ap (λ b. cond b (copy ∷ from_port ingress copies) (from_port ingress copies)) (eq-eqb copy.from ingress is)
 
-one_other : (source : ℕ) (copy : FrameCopy) (copies : List FrameCopy) → (copy.from ≡ source → ⊥)
-    → from_port source (copy ∷ copies) ≡ from_port source copies
-one_other source copy copies apart =
-    ap (λ b. cond b (copy ∷ from_port source copies) (from_port source copies)) (ne_eqb copy.from source apart)
+one_other : (ingress : ℕ) (copy : FrameCopy) (copies : List FrameCopy) → (copy.from ≡ ingress → ⊥)
+    → from_port ingress (copy ∷ copies) ≡ from_port ingress copies
+one_other ingress copy copies apart =
+    ap (λ b. cond b (copy ∷ from_port ingress copies) (from_port ingress copies)) (ne_eqb copy.from ingress apart)
 
--- what was taken from the lane of a source are the copies from there
+-- what was taken from the lane of an ingress port are the copies from there
 pub taken_from_port : (old : Egress) (copies : List FrameCopy) (new : Egress) → Takes old copies new → AreOwn new.lanes
-    → (source : ℕ) → taken_list (lane_at new.lanes source) ≡ taken_list (lane_at old.lanes source) ++ from_port source copies
-taken_from_port old [] new same own source =
-    ap (λ (e : Egress). taken_list (lane_at e.lanes source)) same ∙ sym (append-nil (taken_list (lane_at old.lanes source)))
-taken_from_port old (copy ∷ copies) new takes own source =
+    → (ingress : ℕ) → taken_list (lane_at new.lanes ingress) ≡ taken_list (lane_at old.lanes ingress) ++ from_port ingress copies
+taken_from_port old [] new same own ingress =
+    ap (λ (e : Egress). taken_list (lane_at e.lanes ingress)) same ∙ sym (append-nil (taken_list (lane_at old.lanes ingress)))
+taken_from_port old (copy ∷ copies) new takes own ingress =
     let from = takes.0 in
     let next = takes.1 in
     let pops = takes.2.lanes in
     let rest = taken_from_port next copies new takes.3 own in
-    let before = taken_list (lane_at old.lanes source) in
+    let before = taken_list (lane_at old.lanes ingress) in
     let is : copy.from ≡ from =
     own_of from (taken_list (lane_at old.lanes from)) (from_port from copies) (taken_list (lane_at new.lanes from)) copy
     (rest from ∙ ap (λ (l : List FrameCopy). l ++ from_port from copies) (taken_here from old.lanes next.lanes copy pops))
     (own from) in
     ⊎_elim
-    (λ (same : source ≡ from).
-    rest source
-    ∙ ap (λ (l : List FrameCopy). l ++ from_port source copies)
+    (λ (same : ingress ≡ from).
+    rest ingress
+    ∙ ap (λ (l : List FrameCopy). l ++ from_port ingress copies)
     (subst (λ n. taken_list (lane_at next.lanes n) ≡ taken_list (lane_at old.lanes n) ++ copy ∷ []) (sym same)
     (taken_here from old.lanes next.lanes copy pops))
-    ∙ append_assoc before (copy ∷ []) (from_port source copies)
-    ∙ ap (λ (l : List FrameCopy). before ++ l) (sym (one_from source copy copies (is ∙ sym same))))
-    (λ (apart : source ≡ from → ⊥).
-    rest source
-    ∙ ap (λ (l : List FrameCopy). l ++ from_port source copies)
-    (taken_elsewhere from source old.lanes next.lanes copy pops apart)
-    ∙ ap (λ (l : List FrameCopy). before ++ l) (sym (one_other source copy copies (λ e. apart (sym e ∙ is)))))
-    (cases_eq source from)
+    ∙ append_assoc before (copy ∷ []) (from_port ingress copies)
+    ∙ ap (λ (l : List FrameCopy). before ++ l) (sym (one_from ingress copy copies (is ∙ sym same))))
+    (λ (apart : ingress ≡ from → ⊥).
+    rest ingress
+    ∙ ap (λ (l : List FrameCopy). l ++ from_port ingress copies)
+    (taken_elsewhere from ingress old.lanes next.lanes copy pops apart)
+    ∙ ap (λ (l : List FrameCopy). before ++ l) (sym (one_other ingress copy copies (λ e. apart (sym e ∙ is)))))
+    (cases_eq ingress from)
 
 -- and they are counted there
 pub sent_counted : (old : Egress) (copies : List FrameCopy) (new : Egress) → Takes old copies new → AreOwn new.lanes
@@ -158,13 +158,13 @@ sent_counted old (copy ∷ copies) new takes own =
     (takes.2.ledger ∙ ap (λ n. sent_with old.ledger n) (sym is))
 
 -- frames behind those with outcomes change nothing
-pub copies_of_more : (source destination : ℕ) (frames more : List (List ℕ)) (outcomes : List Outcome)
+pub copies_of_more : (ingress egress : ℕ) (frames more : List (List ℕ)) (outcomes : List Outcome)
     → length outcomes ≤ length frames
-    → copies_to source destination (frames ++ more) outcomes ≡ copies_to source destination frames outcomes
-copies_of_more source destination [] [] outcomes few = refl
-copies_of_more source destination [] (m ∷ more) [] few = refl
-copies_of_more source destination [] (m ∷ more) (o ∷ outcomes) few = absurd (omega arith)
-copies_of_more source destination (f ∷ frames) more [] few = refl
-copies_of_more source destination (f ∷ frames) more (o ∷ outcomes) few =
-    ap (λ (l : List FrameCopy). placed_copy source destination f o ++ l)
-    (copies_of_more source destination frames more outcomes (omega arith))
+    → copies_to ingress egress (frames ++ more) outcomes ≡ copies_to ingress egress frames outcomes
+copies_of_more ingress egress [] [] outcomes few = refl
+copies_of_more ingress egress [] (m ∷ more) [] few = refl
+copies_of_more ingress egress [] (m ∷ more) (o ∷ outcomes) few = absurd (omega arith)
+copies_of_more ingress egress (f ∷ frames) more [] few = refl
+copies_of_more ingress egress (f ∷ frames) more (o ∷ outcomes) few =
+    ap (λ (l : List FrameCopy). placed_copy ingress egress f o ++ l)
+    (copies_of_more ingress egress frames more outcomes (omega arith))

@@ -49,28 +49,28 @@ nothing_placed room (lane ∷ lanes) all =
     none_on (Some inlet) new = ap (λ (i : Inlet). length i.placed) new
 
 -- nothing was sent from a lane that is new
-pub one_more_source : (ledger : OutLedger) (lanes : List (Option Outlet)) (lane : Option Outlet) → CountsSent ledger lanes
+pub one_more_ingress : (ledger : OutLedger) (lanes : List (Option Outlet)) (lane : Option Outlet) → CountsSent ledger lanes
     → taken_from lane ≡ 0 → CountsSent ledger (lanes ++ lane ∷ [])
-one_more_source ledger lanes lane counts new = record {
-  sources = counts.sources;
-  sent = λ source below. counts.sent source below ∙ ap count_of (sym (same source));
+one_more_ingress ledger lanes lane counts new = record {
+  ports = counts.ports;
+  sent = λ ingress below. counts.sent ingress below ∙ ap count_of (sym (same ingress));
 }
   where
-    same : (source : ℕ) → taken_from (lane_at (lanes ++ lane ∷ []) source) ≡ taken_from (lane_at lanes source)
-    same source = ⊎_elim
-        (λ (inside : source < length lanes). ap taken_from (get_or_append_left lanes (lane ∷ []) None source inside))
-        (λ (past : length lanes ≤ source).
-        let nothing : taken_from (lane_at lanes source) ≡ 0 = ap taken_from (get_or_past lanes source None past) in
+    same : (ingress : ℕ) → taken_from (lane_at (lanes ++ lane ∷ []) ingress) ≡ taken_from (lane_at lanes ingress)
+    same ingress = ⊎_elim
+        (λ (inside : ingress < length lanes). ap taken_from (get_or_append_left lanes (lane ∷ []) None ingress inside))
+        (λ (past : length lanes ≤ ingress).
+        let nothing : taken_from (lane_at lanes ingress) ≡ 0 = ap taken_from (get_or_past lanes ingress None past) in
         ⊎_elim
-        (λ (last : source ≡ length lanes).
+        (λ (last : ingress ≡ length lanes).
         ap (λ n. taken_from (lane_at (lanes ++ lane ∷ []) n)) last
         ∙ ap taken_from (get_or_push lanes lane None (length lanes) refl)
         ∙ new ∙ sym nothing)
-        (λ (apart : source ≡ length lanes → ⊥).
+        (λ (apart : ingress ≡ length lanes → ⊥).
         let more = length-append lanes (lane ∷ []) in
-        ap taken_from (get_or_past (lanes ++ lane ∷ []) source None (grind arith)) ∙ sym nothing)
-        (cases_eq source (length lanes)))
-        (cases_lt source (length lanes))
+        ap taken_from (get_or_past (lanes ++ lane ∷ []) ingress None (grind arith)) ∙ sym nothing)
+        (cases_eq ingress (length lanes)))
+        (cases_lt ingress (length lanes))
 
 -- one more copy
 
@@ -80,37 +80,37 @@ count_after-count_of copies = ⊎_elim
     (λ (full : 2 ^ 64 - 1 ≤ copies). ap count_after (min-eq_right full) ∙ sym (min-eq_right (omega arith)))
     (cases_lt copies (2 ^ 64 - 1))
 
--- a copy that was taken is counted at its source
-pub one_more_sent : (ledger : OutLedger) (lanes lanes' : List (Option Outlet)) (source : ℕ) (copy : FrameCopy)
-    → CountsSent ledger lanes → PopsFrom source lanes copy lanes' → source < 16 → CountsSent (sent_with ledger source) lanes'
-one_more_sent ledger lanes lanes' source copy counts pops below = record {
-  sources = length-set ledger.sent source next ∙ counts.sources;
-  sent = λ other inside. ⊎_elim (here other) (elsewhere other inside) (cases_eq other source);
+-- a copy that was taken is counted at its ingress port
+pub one_more_sent : (ledger : OutLedger) (lanes lanes' : List (Option Outlet)) (ingress : ℕ) (copy : FrameCopy)
+    → CountsSent ledger lanes → PopsFrom ingress lanes copy lanes' → ingress < 16 → CountsSent (sent_with ledger ingress) lanes'
+one_more_sent ledger lanes lanes' ingress copy counts pops below = record {
+  ports = length-set ledger.sent ingress next ∙ counts.ports;
+  sent = λ other inside. ⊎_elim (here other) (elsewhere other inside) (cases_eq other ingress);
 }
   where
     next : ℕ
-    next = count_after (get_or ledger.sent source 0)
+    next = count_after (get_or ledger.sent ingress 0)
 
-    taken : taken_from (lane_at lanes' source) ≡ taken_from (lane_at lanes source) + 1
+    taken : taken_from (lane_at lanes' ingress) ≡ taken_from (lane_at lanes ingress) + 1
     taken =
         let before = pops.lane.before in
         ap taken_from pops.lane.is ∙ length-append before.taken (copy ∷ []) ∙ ap (λ n. n + 1) (sym (ap taken_from pops.lane.was))
 
-    at_source : get_or (sent_with ledger source).sent source 0 ≡ count_of (taken_from (lane_at lanes' source))
-    at_source =
-        let inside : source < length ledger.sent = let n = counts.sources in omega arith in
-        get_or-set_same ledger.sent source next 0 inside ∙ ap count_after (counts.sent source below)
-        ∙ count_after-count_of (taken_from (lane_at lanes source)) ∙ ap count_of (sym taken)
+    at_ingress : get_or (sent_with ledger ingress).sent ingress 0 ≡ count_of (taken_from (lane_at lanes' ingress))
+    at_ingress =
+        let inside : ingress < length ledger.sent = let n = counts.ports in omega arith in
+        get_or-set_same ledger.sent ingress next 0 inside ∙ ap count_after (counts.sent ingress below)
+        ∙ count_after-count_of (taken_from (lane_at lanes ingress)) ∙ ap count_of (sym taken)
 
-    here : (other : ℕ) → other ≡ source → get_or (sent_with ledger source).sent other 0
+    here : (other : ℕ) → other ≡ ingress → get_or (sent_with ledger ingress).sent other 0
         ≡ count_of (taken_from (lane_at lanes' other))
     here other same =
-        ap (λ n. get_or (sent_with ledger source).sent n 0) same ∙ at_source
+        ap (λ n. get_or (sent_with ledger ingress).sent n 0) same ∙ at_ingress
         ∙ ap (λ n. count_of (taken_from (lane_at lanes' n))) (sym same)
 
-    elsewhere : (other : ℕ) → other < 16 → (other ≡ source → ⊥)
-        → get_or (sent_with ledger source).sent other 0 ≡ count_of (taken_from (lane_at lanes' other))
+    elsewhere : (other : ℕ) → other < 16 → (other ≡ ingress → ⊥)
+        → get_or (sent_with ledger ingress).sent other 0 ≡ count_of (taken_from (lane_at lanes' other))
     elsewhere other inside apart =
-        get_or-set_other ledger.sent source other next 0 apart ∙ counts.sent other inside
+        get_or-set_other ledger.sent ingress other next 0 apart ∙ counts.sent other inside
         ∙ ap (λ l. count_of (taken_from l)) (sym (ap (λ l. lane_at l other) pops.others
-        ∙ get_or-set_other lanes source other (lane_at lanes' source) None apart))
+        ∙ get_or-set_other lanes ingress other (lane_at lanes' ingress) None apart))

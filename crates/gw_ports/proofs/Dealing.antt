@@ -14,7 +14,7 @@ use Rattle.gw_ports.specs.Making.{IsNewLane, egress_with}
 abbrev pub AreNew : ℕ → List Inlet → Type 0
 AreNew room froms = All (λ i. i ≡ new_inlet i.ring room) froms
 
--- the ends to the destinations below a number were dealt out
+-- the ends to the egress ports below a number were dealt out
 pub record Dealt (port count : ℕ) (lanes : List (Option Inlet)) (outs outs' : List Egress) (froms froms' : List Inlet)
     (tos' : List Outlet) : Type 0 where
   pub size : length lanes ≡ count

@@ -33,38 +33,38 @@ finishes_more lanes lanes' rooms rooms' rooms'' lefts lefts' lefts'' first then 
 
 -- the lanes from one port
 
--- the next end of the row and the first of the next column are those of the next destination
-pub record TakesNext (destination : ℕ) (row : List (Option Inlet)) (columns : List (List (Option Outlet))) (from : Option Inlet)
+-- the next end of the row and the first of the next column are those of the next egress port
+pub record TakesNext (egress : ℕ) (row : List (Option Inlet)) (columns : List (List (Option Outlet))) (from : Option Inlet)
     (to : Option Outlet) (rest : List (Option Inlet)) : Type 0 where
-  pub inside : destination < length row
-  pub inside' : destination < length (heads columns)
-  pub from_is : from ≡ lane_at row destination
-  pub to_is : to ≡ lane_at (heads columns) destination
-  pub rest_is : rest ≡ drop (destination + 1) row
-  pub left : destination + 1 + length rest ≡ length row
+  pub inside : egress < length row
+  pub inside' : egress < length (heads columns)
+  pub from_is : from ≡ lane_at row egress
+  pub to_is : to ≡ lane_at (heads columns) egress
+  pub rest_is : rest ≡ drop (egress + 1) row
+  pub left : egress + 1 + length rest ≡ length row
   pub pair : ring_to from ≡ ring_from to
 
-pub takes_next : (destination : ℕ) (row : List (Option Inlet)) (columns now : List (List (Option Outlet)))
-    (rest rest' : List (Option Inlet)) (from : Option Inlet) (to : Option Outlet) → Passed destination columns now
-    → rest ≡ drop destination row → destination + length rest ≡ length row → map ring_to row ≡ map ring_from (heads columns)
-    → rest ≡ from ∷ rest' → to ≡ lane_at (get_or now destination []) 0 → TakesNext destination row columns from to rest'
-takes_next destination row columns now rest rest' from to so_far is left pairs next head =
+pub takes_next : (egress : ℕ) (row : List (Option Inlet)) (columns now : List (List (Option Outlet)))
+    (rest rest' : List (Option Inlet)) (from : Option Inlet) (to : Option Outlet) → Passed egress columns now
+    → rest ≡ drop egress row → egress + length rest ≡ length row → map ring_to row ≡ map ring_from (heads columns)
+    → rest ≡ from ∷ rest' → to ≡ lane_at (get_or now egress []) 0 → TakesNext egress row columns from to rest'
+takes_next egress row columns now rest rest' from to so_far is left pairs next head =
     let one : length rest ≡ suc (length rest') = ap length next in
-    let inside : destination < length row = omega arith in
+    let inside : egress < length row = omega arith in
     let size : length row ≡ length (heads columns) =
     sym (length-map row ring_to) ∙ ap length pairs ∙ length-map (heads columns) ring_from in
     let many : length (heads columns) ≡ length columns = length-map columns (λ (c : List (Option Outlet)). lane_at c 0) in
-    let inside' : destination < length (heads columns) = omega arith in
-    let split : from ∷ rest' ≡ lane_at row destination ∷ drop (destination + 1) row =
-    sym next ∙ is ∙ drop_more row destination None inside in
-    let from_is : from ≡ lane_at row destination = cc split in
-    let rest_is : rest' ≡ drop (destination + 1) row = cc split in
-    let to_is : to ≡ lane_at (heads columns) destination =
-    head ∙ ap (λ c. lane_at c 0) (so_far.waiting destination (omega arith))
-    ∙ sym (get_or-map (λ (c : List (Option Outlet)). lane_at c 0) columns destination [] None (omega arith)) in
-    let ends : ring_to (lane_at row destination) ≡ ring_from (lane_at (heads columns) destination) =
-    sym (get_or-map ring_to row destination None None inside) ∙ ap (λ l. get_or l destination None) pairs
-    ∙ get_or-map ring_from (heads columns) destination None None inside' in
+    let inside' : egress < length (heads columns) = omega arith in
+    let split : from ∷ rest' ≡ lane_at row egress ∷ drop (egress + 1) row =
+    sym next ∙ is ∙ drop_more row egress None inside in
+    let from_is : from ≡ lane_at row egress = cc split in
+    let rest_is : rest' ≡ drop (egress + 1) row = cc split in
+    let to_is : to ≡ lane_at (heads columns) egress =
+    head ∙ ap (λ c. lane_at c 0) (so_far.waiting egress (omega arith))
+    ∙ sym (get_or-map (λ (c : List (Option Outlet)). lane_at c 0) columns egress [] None (omega arith)) in
+    let ends : ring_to (lane_at row egress) ≡ ring_from (lane_at (heads columns) egress) =
+    sym (get_or-map ring_to row egress None None inside) ∙ ap (λ l. get_or l egress None) pairs
+    ∙ get_or-map ring_from (heads columns) egress None None inside' in
     record {
       inside = inside;
       inside' = inside';
@@ -75,75 +75,75 @@ takes_next destination row columns now rest rest' from to so_far is left pairs n
       pair = ap ring_to from_is ∙ ends ∙ sym (ap ring_from to_is);
     }
 
--- so the lanes to the other destinations begin with the lane of these ends
-pub row_splits : (source destination : ℕ) (row : List (Option Inlet)) (columns : List (List (Option Outlet)))
+-- so the lanes to the other egress ports begin with the lane of these ends
+pub row_splits : (ingress egress : ℕ) (row : List (Option Inlet)) (columns : List (List (Option Outlet)))
     (from : Option Inlet)
-    (to : Option Outlet) (rest : List (Option Inlet)) → TakesNext destination row columns from to rest
-    → row_behind source destination row (heads columns)
-    ≡ lane_of source destination from to ++ row_behind source (destination + 1) row (heads columns)
-row_splits source destination row columns from to rest takes =
-    row_next source destination row (heads columns) takes.inside takes.inside'
-    ∙ ap (λ f. lane_of source destination f (lane_at (heads columns) destination)
-    ++ row_behind source (destination + 1) row (heads columns))
+    (to : Option Outlet) (rest : List (Option Inlet)) → TakesNext egress row columns from to rest
+    → row_behind ingress egress row (heads columns)
+    ≡ lane_of ingress egress from to ++ row_behind ingress (egress + 1) row (heads columns)
+row_splits ingress egress row columns from to rest takes =
+    row_next ingress egress row (heads columns) takes.inside takes.inside'
+    ∙ ap (λ f. lane_of ingress egress f (lane_at (heads columns) egress)
+    ++ row_behind ingress (egress + 1) row (heads columns))
     (sym takes.from_is)
-    ∙ ap (λ t. lane_of source destination from t ++ row_behind source (destination + 1) row (heads columns)) (sym takes.to_is)
+    ∙ ap (λ t. lane_of ingress egress from t ++ row_behind ingress (egress + 1) row (heads columns)) (sym takes.to_is)
 
 -- they have room
-pub rooms_split : (source destination : ℕ) (row : List (Option Inlet)) (columns : List (List (Option Outlet)))
+pub rooms_split : (ingress egress : ℕ) (row : List (Option Inlet)) (columns : List (List (Option Outlet)))
     (from : Option Inlet)
     (to : Option Outlet) (rest : List (Option Inlet)) (others : List Lane) (rooms : List LaneLeft)
-    → TakesNext destination row columns from to rest → AreRooms (row_behind source destination row (heads columns) ++ others)
+    → TakesNext egress row columns from to rest → AreRooms (row_behind ingress egress row (heads columns) ++ others)
     rooms
-    → AreRooms (lane_of source destination from to ++ (row_behind source (destination + 1) row (heads columns) ++ others)) rooms
-rooms_split source destination row columns from to rest others rooms takes are =
+    → AreRooms (lane_of ingress egress from to ++ (row_behind ingress (egress + 1) row (heads columns) ++ others)) rooms
+rooms_split ingress egress row columns from to rest others rooms takes are =
     subst (λ (l : List Lane). AreRooms l rooms)
-    (ap (λ l. l ++ others) (row_splits source destination row columns from to rest takes)
-    ∙ append_assoc (lane_of source destination from to) (row_behind source (destination + 1) row (heads columns)) others)
+    (ap (λ l. l ++ others) (row_splits ingress egress row columns from to rest takes)
+    ∙ append_assoc (lane_of ingress egress from to) (row_behind ingress (egress + 1) row (heads columns)) others)
     are
 
 -- once the lane of these ends and then the others are finished, all are
-pub row_goes_on : (source destination : ℕ) (row : List (Option Inlet)) (columns : List (List (Option Outlet)))
+pub row_goes_on : (ingress egress : ℕ) (row : List (Option Inlet)) (columns : List (List (Option Outlet)))
     (from : Option Inlet)
     (to : Option Outlet) (rest : List (Option Inlet)) (rooms rooms' rooms'' lefts lefts' lefts'' : List LaneLeft)
-    → TakesNext destination row columns from to rest → Finishes (lane_of source destination from to) rooms rooms' lefts lefts'
-    → Finishes (row_behind source (destination + 1) row (heads columns)) rooms' rooms'' lefts' lefts''
-    → Finishes (row_behind source destination row (heads columns)) rooms rooms'' lefts lefts''
-row_goes_on source destination row columns from to rest rooms rooms' rooms'' lefts lefts' lefts'' takes one others =
+    → TakesNext egress row columns from to rest → Finishes (lane_of ingress egress from to) rooms rooms' lefts lefts'
+    → Finishes (row_behind ingress (egress + 1) row (heads columns)) rooms' rooms'' lefts' lefts''
+    → Finishes (row_behind ingress egress row (heads columns)) rooms rooms'' lefts lefts''
+row_goes_on ingress egress row columns from to rest rooms rooms' rooms'' lefts lefts' lefts'' takes one others =
     subst (λ (l : List Lane). Finishes l rooms rooms'' lefts lefts'')
-    (sym (row_splits source destination row columns from to rest takes))
-    (finishes_more (lane_of source destination from to) (row_behind source (destination + 1) row (heads columns)) rooms rooms'
+    (sym (row_splits ingress egress row columns from to rest takes))
+    (finishes_more (lane_of ingress egress from to) (row_behind ingress (egress + 1) row (heads columns)) rooms rooms'
     rooms''
     lefts lefts' lefts'' one others)
 
--- behind the last destination there is nothing to finish
-pub row_is_done : (source destination : ℕ) (row : List (Option Inlet)) (columns : List (List (Option Outlet)))
-    (rooms lefts : List LaneLeft) → length row ≤ destination
-    → Finishes (row_behind source destination row (heads columns)) rooms rooms lefts lefts
-row_is_done source destination row columns rooms lefts past =
-    subst (λ (l : List Lane). Finishes l rooms rooms lefts lefts) (sym (row_end source destination row (heads columns) past))
+-- behind the last egress port there is nothing to finish
+pub row_is_done : (ingress egress : ℕ) (row : List (Option Inlet)) (columns : List (List (Option Outlet)))
+    (rooms lefts : List LaneLeft) → length row ≤ egress
+    → Finishes (row_behind ingress egress row (heads columns)) rooms rooms lefts lefts
+row_is_done ingress egress row columns rooms lefts past =
+    subst (λ (l : List Lane). Finishes l rooms rooms lefts lefts) (sym (row_end ingress egress row (heads columns) past))
     (finishes_nothing rooms lefts)
 
 -- the lanes from all ports
 
 -- one port more
-pub port_goes_on : (source : ℕ) (row : List (Option Inlet)) (rows : List (List (Option Inlet)))
+pub port_goes_on : (ingress : ℕ) (row : List (Option Inlet)) (rows : List (List (Option Inlet)))
     (columns columns' : List (List (Option Outlet))) (rooms rooms' lefts lefts' : List LaneLeft)
-    → Match (row ∷ rows) columns → AreRooms (lanes_of source (row ∷ rows) columns) rooms
-    → Finishes (lanes_to source 0 row (heads columns)) rooms rooms' lefts lefts' → columns' ≡ tails columns
-    → Match rows columns' × AreRooms (lanes_of (suc source) rows columns') rooms'
-    × ((rooms'' lefts'' : List LaneLeft) → Finishes (lanes_of (suc source) rows columns') rooms' rooms'' lefts' lefts''
-    → Finishes (lanes_of source (row ∷ rows) columns) rooms rooms'' lefts lefts'')
-port_goes_on source row rows columns columns' rooms rooms' lefts lefts' match are one is =
+    → Match (row ∷ rows) columns → AreRooms (lanes_of ingress (row ∷ rows) columns) rooms
+    → Finishes (lanes_to ingress 0 row (heads columns)) rooms rooms' lefts lefts' → columns' ≡ tails columns
+    → Match rows columns' × AreRooms (lanes_of (suc ingress) rows columns') rooms'
+    × ((rooms'' lefts'' : List LaneLeft) → Finishes (lanes_of (suc ingress) rows columns') rooms' rooms'' lefts' lefts''
+    → Finishes (lanes_of ingress (row ∷ rows) columns) rooms rooms'' lefts lefts'')
+port_goes_on ingress row rows columns columns' rooms rooms' lefts lefts' match are one is =
     subst
-    (λ (now : List (List (Option Outlet))). Match rows now × AreRooms (lanes_of (suc source) rows now) rooms'
-    × ((rooms'' lefts'' : List LaneLeft) → Finishes (lanes_of (suc source) rows now) rooms' rooms'' lefts' lefts''
-    → Finishes (lanes_of source (row ∷ rows) columns) rooms rooms'' lefts lefts''))
+    (λ (now : List (List (Option Outlet))). Match rows now × AreRooms (lanes_of (suc ingress) rows now) rooms'
+    × ((rooms'' lefts'' : List LaneLeft) → Finishes (lanes_of (suc ingress) rows now) rooms' rooms'' lefts' lefts''
+    → Finishes (lanes_of ingress (row ∷ rows) columns) rooms rooms'' lefts lefts''))
     (sym is) (
       match.1,
-      (one.finished (lanes_of (suc source) rows (tails columns)) are).0,
+      (one.finished (lanes_of (suc ingress) rows (tails columns)) are).0,
       λ rooms'' lefts'' others.
-          finishes_more (lanes_to source 0 row (heads columns)) (lanes_of (suc source) rows (tails columns)) rooms rooms' rooms''
-          lefts lefts' lefts'' one others,
+          finishes_more (lanes_to ingress 0 row (heads columns)) (lanes_of (suc ingress) rows (tails columns)) rooms rooms'
+          rooms'' lefts lefts' lefts'' one others,
     )
 
 -- when all are finished, what stands in the list is what is left of them

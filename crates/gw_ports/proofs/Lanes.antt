@@ -14,7 +14,7 @@ use Rattle.gw_ports.specs.Closing.{AreLeft, IsLeft, Lane, heads, lane_of, lanes_
 use Rattle.gw_ports.specs.declared.closing.LaneLeft.{LaneLeft}
 use Rattle.gw_ports.proofs.Copied.{placed_list, taken_list}
 
--- the column of a destination, lane by lane
+-- the column of an egress port, lane by lane
 
 heads_at : (columns : List (List (Option Outlet))) (q : ℕ) → lane_at (heads columns) q ≡ lane_at (get_or columns q []) 0
 heads_at [] q = refl
@@ -33,42 +33,42 @@ tails_at (column ∷ columns) (suc q) j = tails_at columns q j
 
 -- a lane of the list has the ends that stand at its ports
 
-record IsInRow (source destination : ℕ) (inlets : List (Option Inlet)) (outlets : List (Option Outlet)) (lane : Lane)
+record IsInRow (ingress egress : ℕ) (inlets : List (Option Inlet)) (outlets : List (Option Outlet)) (lane : Lane)
     : Type 0 where
   pub place : ℕ
-  pub from : lane.source ≡ source
-  pub to : lane.destination ≡ destination + place
+  pub from : lane.ingress ≡ ingress
+  pub to : lane.egress ≡ egress + place
   pub inlet : lane_at inlets place ≡ Some lane.inlet
   pub outlet : lane_at outlets place ≡ Some lane.outlet
 
-all_in_row : (source destination : ℕ) (inlets : List (Option Inlet)) (outlets : List (Option Outlet))
-    → All (IsInRow source destination inlets outlets) (lanes_to source destination inlets outlets)
-all_in_row source destination [] outlets = λ k d below. absurd (omega arith)
-all_in_row source destination (x ∷ xs) [] = λ k d below. absurd (omega arith)
-all_in_row source destination (x ∷ xs) (y ∷ ys) =
-    All-append (IsInRow source destination (x ∷ xs) (y ∷ ys)) (lane_of source destination x y)
-    (lanes_to source (suc destination) xs ys) (one x y)
+all_in_row : (ingress egress : ℕ) (inlets : List (Option Inlet)) (outlets : List (Option Outlet))
+    → All (IsInRow ingress egress inlets outlets) (lanes_to ingress egress inlets outlets)
+all_in_row ingress egress [] outlets = λ k d below. absurd (omega arith)
+all_in_row ingress egress (x ∷ xs) [] = λ k d below. absurd (omega arith)
+all_in_row ingress egress (x ∷ xs) (y ∷ ys) =
+    All-append (IsInRow ingress egress (x ∷ xs) (y ∷ ys)) (lane_of ingress egress x y)
+    (lanes_to ingress (suc egress) xs ys) (one x y)
     (λ k d below.
-    let r = all_in_row source (suc destination) xs ys k d below in
+    let r = all_in_row ingress (suc egress) xs ys k d below in
     let at = r.to in
     record { place = suc r.place; from = r.from; to = omega arith; inlet = r.inlet; outlet = r.outlet })
   where
     one : (i : Option Inlet) (o : Option Outlet)
-        → All (IsInRow source destination (i ∷ xs) (o ∷ ys)) (lane_of source destination i o)
+        → All (IsInRow ingress egress (i ∷ xs) (o ∷ ys)) (lane_of ingress egress i o)
     one None o = λ k d below. absurd (omega arith)
     one (Some i) None = λ k d below. absurd (omega arith)
     one (Some i) (Some o) =
-        All-cons (IsInRow source destination (Some i ∷ xs) (Some o ∷ ys))
-        (record { source = source; destination = destination; inlet = i; outlet = o }) []
+        All-cons (IsInRow ingress egress (Some i ∷ xs) (Some o ∷ ys))
+        (record { ingress = ingress; egress = egress; inlet = i; outlet = o }) []
         record { place = 0; from = refl; to = omega arith; inlet = refl; outlet = refl }
         (λ k d below. absurd (omega arith))
 
 pub record IsAmong (offset : ℕ) (rows : List (List (Option Inlet))) (columns : List (List (Option Outlet))) (lane : Lane)
     : Type 0 where
   pub place : ℕ
-  pub from : lane.source ≡ offset + place
-  pub inlet : lane_at (get_or rows place []) lane.destination ≡ Some lane.inlet
-  pub outlet : lane_at (get_or columns lane.destination []) place ≡ Some lane.outlet
+  pub from : lane.ingress ≡ offset + place
+  pub inlet : lane_at (get_or rows place []) lane.egress ≡ Some lane.inlet
+  pub outlet : lane_at (get_or columns lane.egress []) place ≡ Some lane.outlet
 
 pub all_among : (offset : ℕ) (rows : List (List (Option Inlet))) (columns : List (List (Option Outlet)))
     → All (IsAmong offset rows columns) (lanes_of offset rows columns)
@@ -79,12 +79,12 @@ all_among offset (row ∷ rows) columns =
     (λ k d below.
     let r = all_in_row offset 0 row (heads columns) k d below in
     let lane = get_or (lanes_to offset 0 row (heads columns)) k d in
-    let at : r.place ≡ lane.destination = let to = r.to in omega arith in
+    let at : r.place ≡ lane.egress = let to = r.to in omega arith in
     record {
       place = 0;
       from = let from = r.from in omega arith;
       inlet = ap (λ n. lane_at row n) (sym at) ∙ r.inlet;
-      outlet = sym (heads_at columns lane.destination) ∙ ap (λ n. lane_at (heads columns) n) (sym at) ∙ r.outlet;
+      outlet = sym (heads_at columns lane.egress) ∙ ap (λ n. lane_at (heads columns) n) (sym at) ∙ r.outlet;
     })
     (λ k d below.
     let r = all_among (suc offset) rows (tails columns) k d below in
@@ -93,7 +93,7 @@ all_among offset (row ∷ rows) columns =
       place = suc r.place;
       from = let from = r.from in omega arith;
       inlet = r.inlet;
-      outlet = sym (tails_at columns lane.destination r.place) ∙ r.outlet;
+      outlet = sym (tails_at columns lane.egress r.place) ∙ r.outlet;
     })
 
 -- what holds of all lanes holds of the two ends that stand at two ports
@@ -111,22 +111,22 @@ all_right P xs ys all k d below =
 abbrev HoldsOf : (Inlet → Outlet → Type 0) → Lane → Type 0
 HoldsOf P lane = P lane.inlet lane.outlet
 
-holds_in_row : (P : Inlet → Outlet → Type 0) (source destination : ℕ) (inlets : List (Option Inlet))
-    (outlets : List (Option Outlet)) → All (HoldsOf P) (lanes_to source destination inlets outlets)
+holds_in_row : (P : Inlet → Outlet → Type 0) (ingress egress : ℕ) (inlets : List (Option Inlet))
+    (outlets : List (Option Outlet)) → All (HoldsOf P) (lanes_to ingress egress inlets outlets)
     → (i : ℕ) (inlet : Inlet) (outlet : Outlet) → lane_at inlets i ≡ Some inlet → lane_at outlets i ≡ Some outlet
     → P inlet outlet
-holds_in_row P source destination [] outlets all i inlet outlet is is' = absurd (cc is)
-holds_in_row P source destination (x ∷ xs) [] all i inlet outlet is is' = absurd (cc is')
-holds_in_row P source destination (x ∷ xs) (y ∷ ys) all zero inlet outlet is is' =
-    let rest : List Lane = lanes_to source (suc destination) xs ys in
-    let lane : Lane = record { source = source; destination = destination; inlet = inlet; outlet = outlet } in
-    let there : All (HoldsOf P) (lane_of source destination (Some inlet) (Some outlet) ++ rest) =
-    subst (λ (b : Option Outlet). All (HoldsOf P) (lane_of source destination (Some inlet) b ++ rest)) is'
-    (subst (λ (a : Option Inlet). All (HoldsOf P) (lane_of source destination a y ++ rest)) is all) in
+holds_in_row P ingress egress [] outlets all i inlet outlet is is' = absurd (cc is)
+holds_in_row P ingress egress (x ∷ xs) [] all i inlet outlet is is' = absurd (cc is')
+holds_in_row P ingress egress (x ∷ xs) (y ∷ ys) all zero inlet outlet is is' =
+    let rest : List Lane = lanes_to ingress (suc egress) xs ys in
+    let lane : Lane = record { ingress = ingress; egress = egress; inlet = inlet; outlet = outlet } in
+    let there : All (HoldsOf P) (lane_of ingress egress (Some inlet) (Some outlet) ++ rest) =
+    subst (λ (b : Option Outlet). All (HoldsOf P) (lane_of ingress egress (Some inlet) b ++ rest)) is'
+    (subst (λ (a : Option Inlet). All (HoldsOf P) (lane_of ingress egress a y ++ rest)) is all) in
     there 0 lane (omega arith)
-holds_in_row P source destination (x ∷ xs) (y ∷ ys) all (suc i) inlet outlet is is' =
-    holds_in_row P source (suc destination) xs ys
-    (all_right (HoldsOf P) (lane_of source destination x y) (lanes_to source (suc destination) xs ys) all) i inlet outlet is is'
+holds_in_row P ingress egress (x ∷ xs) (y ∷ ys) all (suc i) inlet outlet is is' =
+    holds_in_row P ingress (suc egress) xs ys
+    (all_right (HoldsOf P) (lane_of ingress egress x y) (lanes_to ingress (suc egress) xs ys) all) i inlet outlet is is'
 
 pub holds_between : (P : Inlet → Outlet → Type 0) (offset : ℕ) (rows : List (List (Option Inlet)))
     (columns : List (List (Option Outlet))) → All (HoldsOf P) (lanes_of offset rows columns)
@@ -163,7 +163,7 @@ left_of_each (lane ∷ lanes) (left ∷ lefts) are =
     (left, are.0.copies) (left_of_each lanes lefts are.1)
 
 abbrev pub ports_of_lane : Lane → ℕ × ℕ
-ports_of_lane lane = (lane.source, lane.destination)
+ports_of_lane lane = (lane.ingress, lane.egress)
 
 pub same_ports : (lanes : List Lane) (lefts : List LaneLeft) → AreLeft lanes lefts
     → map (λ left. (left.from, left.to)) lefts ≡ map ports_of_lane lanes
@@ -172,87 +172,87 @@ same_ports [] (left ∷ lefts) are = absurd are
 same_ports (lane ∷ lanes) [] are = absurd are
 same_ports (lane ∷ lanes) (left ∷ lefts) are =
     ap (λ (l : List (ℕ × ℕ)). (left.from, left.to) ∷ l) (same_ports lanes lefts are.1)
-    ∙ ap (λ n. (n, left.to) ∷ map ports_of_lane lanes) are.0.source
-    ∙ ap (λ n. (lane.source, n) ∷ map ports_of_lane lanes) are.0.destination
+    ∙ ap (λ n. (n, left.to) ∷ map ports_of_lane lanes) are.0.ingress
+    ∙ ap (λ n. (lane.ingress, n) ∷ map ports_of_lane lanes) are.0.egress
 
 -- the ports of all lanes
 
 -- both ends are there, unless the ports are one
-pub record IsThere (source destination : ℕ) (inlet : Option Inlet) (outlet : Option Outlet) : Type 0 where
-  pub none : destination ≡ source → inlet ≡ None
-  pub inlets : destination ≢ source → IsSome inlet
-  pub outlets : destination ≢ source → IsSome outlet
+pub record IsThere (ingress egress : ℕ) (inlet : Option Inlet) (outlet : Option Outlet) : Type 0 where
+  pub none : egress ≡ ingress → inlet ≡ None
+  pub inlets : egress ≢ ingress → IsSome inlet
+  pub outlets : egress ≢ ingress → IsSome outlet
 
 abbrev pair_of : ℕ → ℕ → ℕ × ℕ
-pair_of source destination = (source, destination)
+pair_of ingress egress = (ingress, egress)
 
-one_lane : (source destination : ℕ) (inlet : Option Inlet) (outlet : Option Outlet) → IsThere source destination inlet outlet
-    → map ports_of_lane (lane_of source destination inlet outlet)
-    ≡ map (pair_of source) (cond (not (destination == source)) (destination ∷ []) [])
-one_lane source destination inlet outlet there =
+one_lane : (ingress egress : ℕ) (inlet : Option Inlet) (outlet : Option Outlet) → IsThere ingress egress inlet outlet
+    → map ports_of_lane (lane_of ingress egress inlet outlet)
+    ≡ map (pair_of ingress) (cond (not (egress == ingress)) (egress ∷ []) [])
+one_lane ingress egress inlet outlet there =
     ⊎_elim
-    (λ (same : destination ≡ source).
+    (λ (same : egress ≡ ingress).
     nothing inlet outlet (there.none same)
-    ∙ ap (λ b. map (pair_of source) (cond (not b) (destination ∷ []) [])) (sym (eq-eqb destination source same)))
-    (λ (apart : destination ≡ source → ⊥).
+    ∙ ap (λ b. map (pair_of ingress) (cond (not b) (egress ∷ []) [])) (sym (eq-eqb egress ingress same)))
+    (λ (apart : egress ≡ ingress → ⊥).
     something inlet outlet (there.inlets apart) (there.outlets apart)
-    ∙ ap (λ b. map (pair_of source) (cond (not b) (destination ∷ []) [])) (sym (ne_eqb destination source apart)))
-    (cases_eq destination source)
+    ∙ ap (λ b. map (pair_of ingress) (cond (not b) (egress ∷ []) [])) (sym (ne_eqb egress ingress apart)))
+    (cases_eq egress ingress)
   where
-    nothing : (i : Option Inlet) (o : Option Outlet) → i ≡ None → map ports_of_lane (lane_of source destination i o) ≡ []
+    nothing : (i : Option Inlet) (o : Option Outlet) → i ≡ None → map ports_of_lane (lane_of ingress egress i o) ≡ []
     nothing None o none = refl
     nothing (Some i) o none = absurd (cc none)
 
     something : (i : Option Inlet) (o : Option Outlet) → IsSome i → IsSome o
-        → map ports_of_lane (lane_of source destination i o) ≡ (source, destination) ∷ []
+        → map ports_of_lane (lane_of ingress egress i o) ≡ (ingress, egress) ∷ []
     something None o some some' = absurd (true≢false (sym some))
     something (Some i) None some some' = absurd (true≢false (sym some'))
     something (Some i) (Some o) some some' = refl
 
-filter_cons : (source destination : ℕ) (rest : List ℕ)
-    → map (pair_of source) (cond (not (destination == source)) (destination ∷ []) [])
-    ++ map (pair_of source) (filter (λ to. not (to == source)) rest)
-    ≡ map (pair_of source) (filter (λ to. not (to == source)) (destination ∷ rest))
-filter_cons source destination rest = by (not (destination == source))
+filter_cons : (ingress egress : ℕ) (rest : List ℕ)
+    → map (pair_of ingress) (cond (not (egress == ingress)) (egress ∷ []) [])
+    ++ map (pair_of ingress) (filter (λ to. not (to == ingress)) rest)
+    ≡ map (pair_of ingress) (filter (λ to. not (to == ingress)) (egress ∷ rest))
+filter_cons ingress egress rest = by (not (egress == ingress))
   where
-    by : (b : Bool) → map (pair_of source) (cond b (destination ∷ []) [])
-        ++ map (pair_of source) (filter (λ to. not (to == source)) rest)
-        ≡ map (pair_of source) (cond b (destination ∷ filter (λ to. not (to == source)) rest)
-        (filter (λ to. not (to == source)) rest))
+    by : (b : Bool) → map (pair_of ingress) (cond b (egress ∷ []) [])
+        ++ map (pair_of ingress) (filter (λ to. not (to == ingress)) rest)
+        ≡ map (pair_of ingress) (cond b (egress ∷ filter (λ to. not (to == ingress)) rest)
+        (filter (λ to. not (to == ingress)) rest))
     by true = refl
     by false = refl
 
-row_ports : (source destination : ℕ) (inlets : List (Option Inlet)) (outlets : List (Option Outlet))
+row_ports : (ingress egress : ℕ) (inlets : List (Option Inlet)) (outlets : List (Option Outlet))
     → length outlets ≡ length inlets
-    → ((i : ℕ) → i < length inlets → IsThere source (destination + i) (lane_at inlets i) (lane_at outlets i))
-    → map ports_of_lane (lanes_to source destination inlets outlets)
-    ≡ map (pair_of source) (filter (λ to. not (to == source)) (range_with_len destination (length inlets)))
-row_ports source destination [] outlets size there = refl
-row_ports source destination (x ∷ xs) [] size there = absurd (omega arith)
-row_ports source destination (x ∷ xs) (y ∷ ys) size there =
+    → ((i : ℕ) → i < length inlets → IsThere ingress (egress + i) (lane_at inlets i) (lane_at outlets i))
+    → map ports_of_lane (lanes_to ingress egress inlets outlets)
+    ≡ map (pair_of ingress) (filter (λ to. not (to == ingress)) (range_with_len egress (length inlets)))
+row_ports ingress egress [] outlets size there = refl
+row_ports ingress egress (x ∷ xs) [] size there = absurd (omega arith)
+row_ports ingress egress (x ∷ xs) (y ∷ ys) size there =
     let one = there 0 (omega arith) in
-    let here : IsThere source destination x y = record {
+    let here : IsThere ingress egress x y = record {
       none = λ same. one.none (omega arith);
       inlets = λ apart. one.inlets (λ e. apart (omega arith));
       outlets = λ apart. one.outlets (λ e. apart (omega arith));
     } in
-    let rest = row_ports source (suc destination) xs ys (omega arith) (λ i below.
+    let rest = row_ports ingress (suc egress) xs ys (omega arith) (λ i below.
     let next = there (suc i) (omega arith) in
     record {
       none = λ same. next.none (omega arith);
       inlets = λ apart. next.inlets (λ e. apart (omega arith));
       outlets = λ apart. next.outlets (λ e. apart (omega arith));
     }) in
-    let on : suc destination ≡ destination + 1 = omega arith in
-    map-append ports_of_lane (lane_of source destination x y) (lanes_to source (suc destination) xs ys)
-    ∙ ap (λ (l : List (ℕ × ℕ)). l ++ map ports_of_lane (lanes_to source (suc destination) xs ys))
-    (one_lane source destination x y here)
-    ∙ ap (λ (l : List (ℕ × ℕ)). map (pair_of source) (cond (not (destination == source)) (destination ∷ []) []) ++ l)
-    (rest ∙ ap (λ n. map (pair_of source) (filter (λ to. not (to == source)) (range_with_len n (length xs)))) on)
-    ∙ filter_cons source destination (range_with_len (destination + 1) (length xs))
+    let on : suc egress ≡ egress + 1 = omega arith in
+    map-append ports_of_lane (lane_of ingress egress x y) (lanes_to ingress (suc egress) xs ys)
+    ∙ ap (λ (l : List (ℕ × ℕ)). l ++ map ports_of_lane (lanes_to ingress (suc egress) xs ys))
+    (one_lane ingress egress x y here)
+    ∙ ap (λ (l : List (ℕ × ℕ)). map (pair_of ingress) (cond (not (egress == ingress)) (egress ∷ []) []) ++ l)
+    (rest ∙ ap (λ n. map (pair_of ingress) (filter (λ to. not (to == ingress)) (range_with_len n (length xs)))) on)
+    ∙ filter_cons ingress egress (range_with_len (egress + 1) (length xs))
 
 abbrev pub lanes_from_port : ℕ → ℕ → List (ℕ × ℕ)
-lanes_from_port ports source = map (pair_of source) (filter (λ to. not (to == source)) (range_with_len 0 ports))
+lanes_from_port ports ingress = map (pair_of ingress) (filter (λ to. not (to == ingress)) (range_with_len 0 ports))
 
 pub all_ports : (ports offset : ℕ) (rows : List (List (Option Inlet))) (columns : List (List (Option Outlet)))
     → All (λ row. length row ≡ ports) rows → length columns ≡ ports

@@ -32,16 +32,16 @@ rings_stay allowed copy placed lanes lanes' done =
     ∙ ring_stays (has_port k placed) allowed copy k (lane_at lanes k) (lane_at lanes' k) (done.ports k)
     ∙ sym (get_or-map ring_to lanes k None d (omega arith)))
 
-pub rings_stay_below : (source : ℕ) (copy : FrameCopy) (lanes lanes' : List (Option Outlet)) → PopsFrom source lanes copy lanes'
+pub rings_stay_below : (ingress : ℕ) (copy : FrameCopy) (lanes lanes' : List (Option Outlet)) → PopsFrom ingress lanes copy lanes'
     → map ring_from lanes' ≡ map ring_from lanes
-rings_stay_below source copy lanes lanes' pops =
+rings_stay_below ingress copy lanes lanes' pops =
     let there = pops.there in
-    let ring : ring_from (lane_at lanes' source) ≡ ring_from (lane_at lanes source) = ap ring_from pops.lane.is
+    let ring : ring_from (lane_at lanes' ingress) ≡ ring_from (lane_at lanes ingress) = ap ring_from pops.lane.is
     ∙ sym (ap ring_from pops.lane.was) in
-    ap (λ l. map ring_from l) pops.others ∙ map-set ring_from lanes source (lane_at lanes' source)
-    ∙ ap (λ r. slice_set (map ring_from lanes) source r)
-    (ring ∙ sym (get_or-map ring_from lanes source None None there))
-    ∙ set-get_or (map ring_from lanes) source None
+    ap (λ l. map ring_from l) pops.others ∙ map-set ring_from lanes ingress (lane_at lanes' ingress)
+    ∙ ap (λ r. slice_set (map ring_from lanes) ingress r)
+    (ring ∙ sym (get_or-map ring_from lanes ingress None None there))
+    ∙ set-get_or (map ring_from lanes) ingress None
 
 abbrev pub end_of : ℕ → Board → List (Option Ring) → EndIn
 end_of port board rings = record { port = port; board = board; rings = rings }

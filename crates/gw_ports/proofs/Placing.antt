@@ -180,22 +180,22 @@ has_one_more own lanes lane has few none there = record {
 }
 
 -- a copy that is taken leaves the lanes where they are
-pub pops_keep_lanes : (own source : ℕ) (copy : FrameCopy) (lanes lanes' : List (Option Outlet))
-    → PopsFrom source lanes copy lanes'
+pub pops_keep_lanes : (own ingress : ℕ) (copy : FrameCopy) (lanes lanes' : List (Option Outlet))
+    → PopsFrom ingress lanes copy lanes'
     → HasLanes own lanes → HasLanes own lanes'
-pops_keep_lanes own source copy lanes lanes' pops has = record {
+pops_keep_lanes own ingress copy lanes lanes' pops has = record {
   most = let e = size in let m = has.most in omega arith;
   none = elsewhere own (λ same. absurd (cc (sym (ap (λ n. lane_at lanes n) same) ∙ has.none, pops.lane.was))) ∙ has.none;
   others = λ port below apart. ⊎_elim
-      (λ (same : port ≡ source). subst (λ l. IsSome l) (sym (ap (λ n. lane_at lanes' n) same ∙ pops.lane.is)) refl)
-      (λ (other : port ≡ source → ⊥).
+      (λ (same : port ≡ ingress). subst (λ l. IsSome l) (sym (ap (λ n. lane_at lanes' n) same ∙ pops.lane.is)) refl)
+      (λ (other : port ≡ ingress → ⊥).
       subst (λ l. IsSome l) (sym (elsewhere port other)) (has.others port (let e = size in omega arith) apart))
-      (cases_eq port source);
+      (cases_eq port ingress);
 }
   where
     size : length lanes' ≡ length lanes
-    size = ap length pops.others ∙ length-set lanes source (lane_at lanes' source)
+    size = ap length pops.others ∙ length-set lanes ingress (lane_at lanes' ingress)
 
-    elsewhere : (port : ℕ) → (port ≡ source → ⊥) → lane_at lanes' port ≡ lane_at lanes port
+    elsewhere : (port : ℕ) → (port ≡ ingress → ⊥) → lane_at lanes' port ≡ lane_at lanes port
     elsewhere port other =
-        ap (λ l. lane_at l port) pops.others ∙ get_or-set_other lanes source port (lane_at lanes' source) None other
+        ap (λ l. lane_at l port) pops.others ∙ get_or-set_other lanes ingress port (lane_at lanes' ingress) None other

@@ -7,18 +7,18 @@ use Rattle.gw_lanes.specs.Ends.{Outlet}
 use Rattle.gw_ports.specs.Ends.{lane_at}
 use Rattle.gw_ports.specs.Sending.{Pops, PopsFrom}
 
-pub taken : (result : Option FrameCopy) (lanes : List (Option Outlet)) (source : ℕ) (d lane' : Option Outlet)
-    → source < length lanes
-    → MatchOption result (lane' ≡ get_or lanes source d) (λ copy. Pops (get_or lanes source d) copy lane')
-    → MatchOption result (slice_set lanes source lane' ≡ lanes)
-    (λ copy. PopsFrom source lanes copy (slice_set lanes source lane'))
-taken None lanes source d lane' inside same = ap (λ l. slice_set lanes source l) same ∙ set-get_or lanes source d
-taken (Some copy) lanes source d lane' inside gives =
-    let first : get_or lanes source d ≡ lane_at lanes source = get_or_default lanes source d None inside in
-    let then_is : lane_at (slice_set lanes source lane') source ≡ lane' = get_or-set_same lanes source lane' None inside in
+pub taken : (result : Option FrameCopy) (lanes : List (Option Outlet)) (ingress : ℕ) (d lane' : Option Outlet)
+    → ingress < length lanes
+    → MatchOption result (lane' ≡ get_or lanes ingress d) (λ copy. Pops (get_or lanes ingress d) copy lane')
+    → MatchOption result (slice_set lanes ingress lane' ≡ lanes)
+    (λ copy. PopsFrom ingress lanes copy (slice_set lanes ingress lane'))
+taken None lanes ingress d lane' inside same = ap (λ l. slice_set lanes ingress l) same ∙ set-get_or lanes ingress d
+taken (Some copy) lanes ingress d lane' inside gives =
+    let first : get_or lanes ingress d ≡ lane_at lanes ingress = get_or_default lanes ingress d None inside in
+    let then_is : lane_at (slice_set lanes ingress lane') ingress ≡ lane' = get_or-set_same lanes ingress lane' None inside in
     record {
       there = inside;
-      lane = subst (λ (l : Option Outlet). Pops (lane_at lanes source) copy l) (sym then_is)
+      lane = subst (λ (l : Option Outlet). Pops (lane_at lanes ingress) copy l) (sym then_is)
           (subst (λ (l : Option Outlet). Pops l copy lane') first gives);
-      others = ap (λ l. slice_set lanes source l) (sym then_is);
+      others = ap (λ l. slice_set lanes ingress l) (sym then_is);
     }

@@ -26,7 +26,7 @@ abbrev limits : Bounds
 limits = record { ports = 3; lane = 1; versions = 2; frames = 2 }
 
 abbrev frame : ℕ → List ℕ
-frame source = 0x8C ∷ 0xF0 ∷ 0x04 ∷ source ∷ 0 ∷ 0 ∷ 0 ∷ 0 ∷ []
+frame ingress = 0x8C ∷ 0xF0 ∷ 0x04 ∷ ingress ∷ 0 ∷ 0 ∷ 0 ∷ 0 ∷ []
 
 all_offered : EndsAt limits (frame 1 ∷ frame 2 ∷ []) (copied ∷ kept ∷ []) None
 all_offered = refl
@@ -39,7 +39,7 @@ stopped_by_76 = (omega arith, refl)
 refused_by_75 : RefusesNext limits 2 [] (VersionsSpent [])
 refused_by_75 = (refl, (λ k d below. absurd (omega arith)), refl)
 
--- the lanes of three ports, by source and then destination
+-- the lanes of three ports, by ingress port and then egress port
 lanes_of_three : lanes_between 3 ≡ (0, 1) ∷ (0, 2) ∷ (1, 0) ∷ (1, 2) ∷ (2, 0) ∷ (2, 1) ∷ []
 lanes_of_three = refl
 
@@ -57,7 +57,7 @@ abbrev of_1 : List Outcome
 of_1 = offered 0 1 (0 ∷ 2 ∷ []) ∷ offered 1 2 (0 ∷ []) ∷ []
 
 abbrev copy : ℕ → ℕ → FrameCopy
-copy source number = record { from = source; number = number; frame = frame 0 }
+copy ingress number = record { from = ingress; number = number; frame = frame 0 }
 
 from_0_to_1 : copies_to 0 1 twice of_0 ≡ copy 0 0 ∷ copy 0 1 ∷ []
 from_0_to_1 = refl

@@ -263,14 +263,14 @@ module _ {S : Type 0} {steps : S → Option (List ℕ) → S → Type 0} {limits
         let lane = at.0 in
         let among = at.2 in
         let p = among.place in
-        let q = lane.destination in
+        let q = lane.egress in
         let n = enough_rows in
         let m = enough_columns in
         let low = inside rows p q lane.inlet among.inlet in
         let low' = inside columns q p lane.outlet among.outlet in
         let below_p : p < limits.ports = omega arith in
         let below_q : q < limits.ports = omega arith in
-        let from : left.from ≡ p = let a = at.1.source in let b = among.from in omega arith in
+        let from : left.from ≡ p = let a = at.1.ingress in let b = among.from in omega arith in
         let all =
         copied_between p q below_p below_q lane.inlet lane.outlet left.left.items
         (ap (λ (r : List (Option Inlet)). lane_at r q) (sym (row_is p below_p)) ∙ among.inlet)
@@ -278,7 +278,7 @@ module _ {S : Type 0} {steps : S → Option (List ℕ) → S → Type 0} {limits
         subst (λ f. from_port f (copies_of report left.to) ++ left.left.items
         ≡ copies_to f left.to (frames_of frames f) (outcomes_of report f)) (sym from)
         (subst (λ to. from_port p (copies_of report to) ++ left.left.items
-        ≡ copies_to p to (frames_of frames p) (outcomes_of report p)) (sym at.1.destination) all)
+        ≡ copies_to p to (frames_of frames p) (outcomes_of report p)) (sym at.1.egress) all)
 
     -- there is a lane from each port to each other
     pub lanes_are : map (λ left. (left.from, left.to)) report.report.lanes.items ≡ lanes_between limits.ports

@@ -30,31 +30,31 @@ ends_on_more limits frames more outcomes (Some FramesSpent) begins whole ends =
 ends_on_more limits frames more outcomes (Some NoReading) begins whole ends =
     let longer = prefix_length frames more begins in omega arith
 
-no_copies : (source destination : ℕ) (frames : List (List ℕ)) → copies_to source destination frames [] ≡ []
-no_copies source destination [] = refl
-no_copies source destination (f ∷ frames) = refl
+no_copies : (ingress egress : ℕ) (frames : List (List ℕ)) → copies_to ingress egress frames [] ≡ []
+no_copies ingress egress [] = refl
+no_copies ingress egress (f ∷ frames) = refl
 
 same_copies : (limits : Bounds) (first : List Pair) (inputs more : List (List (List ℕ))) (batches : List (List Pair))
     (report : RunReport) → IsReport limits first inputs batches report
     → ((port : ℕ) → port < limits.ports → IsPrefix (frames_of inputs port) (frames_of more port)
     × (stop_of report port ≡ None → frames_of inputs port ≡ frames_of more port))
-    → (source destination : ℕ) → copies_to source destination (frames_of inputs source) (outcomes_of report source)
-    ≡ copies_to source destination (frames_of more source) (outcomes_of report source)
-same_copies limits first inputs more batches report is longer source destination = ⊎_elim
-    (λ (inner : source < limits.ports).
-    let begins = (longer source inner).0 in
-    sym (copies_of_more source destination (frames_of inputs source) begins.0 (outcomes_of report source)
-    (is.judged source inner).few)
-    ∙ ap (λ (l : List (List ℕ)). copies_to source destination l (outcomes_of report source)) begins.1)
-    (λ (outer : limits.ports ≤ source).
-    let none : outcomes_of report source ≡ [] =
-    get_or_past (map (λ (v : Vec Outcome Global). v.items) report.outcomes.items) source []
+    → (ingress egress : ℕ) → copies_to ingress egress (frames_of inputs ingress) (outcomes_of report ingress)
+    ≡ copies_to ingress egress (frames_of more ingress) (outcomes_of report ingress)
+same_copies limits first inputs more batches report is longer ingress egress = ⊎_elim
+    (λ (inner : ingress < limits.ports).
+    let begins = (longer ingress inner).0 in
+    sym (copies_of_more ingress egress (frames_of inputs ingress) begins.0 (outcomes_of report ingress)
+    (is.judged ingress inner).few)
+    ∙ ap (λ (l : List (List ℕ)). copies_to ingress egress l (outcomes_of report ingress)) begins.1)
+    (λ (outer : limits.ports ≤ ingress).
+    let none : outcomes_of report ingress ≡ [] =
+    get_or_past (map (λ (v : Vec Outcome Global). v.items) report.outcomes.items) ingress []
     (let n = is.ports.0 in let m = length-map report.outcomes.items (λ (v : Vec Outcome Global). v.items) in omega arith) in
-    ap (λ (l : List Outcome). copies_to source destination (frames_of inputs source) l) none
-    ∙ no_copies source destination (frames_of inputs source)
-    ∙ sym (no_copies source destination (frames_of more source))
-    ∙ ap (λ (l : List Outcome). copies_to source destination (frames_of more source) l) (sym none))
-    (cases_lt source limits.ports)
+    ap (λ (l : List Outcome). copies_to ingress egress (frames_of inputs ingress) l) none
+    ∙ no_copies ingress egress (frames_of inputs ingress)
+    ∙ sym (no_copies ingress egress (frames_of more ingress))
+    ∙ ap (λ (l : List Outcome). copies_to ingress egress (frames_of more ingress) l) (sym none))
+    (cases_lt ingress limits.ports)
 
 pub reported_of_more : (limits : Bounds) (first : List Pair) (inputs more : List (List (List ℕ))) (batches : List (List Pair))
     (report : RunReport) → IsReport limits first inputs batches report

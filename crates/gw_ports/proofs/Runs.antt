@@ -44,12 +44,12 @@ yields_more steps s [] now item new same step =
 yields_more steps s (first ∷ items) now item new yields step =
     (yields.0, yields.1, yields_more steps yields.0 items now item new yields.2 step)
 
-pub takes_more : (old : Egress) (copies : List FrameCopy) (now : Egress) (copy : FrameCopy) (source : ℕ) (new : Egress)
-    → Takes old copies now → Sends source now copy new → Takes old (copies ++ copy ∷ []) new
-takes_more old [] now copy source new same sends =
-    (source, new, subst (λ (e : Egress). Sends source e copy new) same sends, refl)
-takes_more old (first ∷ copies) now copy source new takes sends =
-    (takes.0, takes.1, takes.2, takes_more takes.1 copies now copy source new takes.3 sends)
+pub takes_more : (old : Egress) (copies : List FrameCopy) (now : Egress) (copy : FrameCopy) (ingress : ℕ) (new : Egress)
+    → Takes old copies now → Sends ingress now copy new → Takes old (copies ++ copy ∷ []) new
+takes_more old [] now copy ingress new same sends =
+    (ingress, new, subst (λ (e : Egress). Sends ingress e copy new) same sends, refl)
+takes_more old (first ∷ copies) now copy ingress new takes sends =
+    (takes.0, takes.1, takes.2, takes_more takes.1 copies now copy ingress new takes.3 sends)
 
 pub pairwise_more : {A B : Type 0} (R : A → B → Type 0) (xs : List A) (ys : List B) (x : A) (y : B) → Pairwise R xs ys → R x y
     → Pairwise R (xs ++ x ∷ []) (ys ++ y ∷ [])

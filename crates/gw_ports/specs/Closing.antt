@@ -12,7 +12,8 @@ use Rattle.gw_ports.specs.declared.parts.Parts.{Parts}
 use Rattle.gw_ports.specs.declared.closing.CloseRefusal.{CloseRefusal}
 use Rattle.gw_ports.specs.declared.closing.CloseRefusal.TheVariants.{OutOfMemory, NoReading}
 
--- the lanes of all ports in, by source: of each by destination; and those of all ports out, by destination: of each by source
+-- the lanes of all ports in, by ingress port and then egress port; and those of all ports out, by egress port and then ingress
+-- port
 abbrev pub rows_of : List Ingress → List (List (Option Inlet))
 rows_of ins = map (λ ingress. ingress.lanes) ins
 
@@ -21,7 +22,7 @@ columns_of outs = map (λ egress. egress.lanes) outs
 
 -- the lanes from one port, as all ports out have them
 abbrev pub column_at : ℕ → List Egress → List (Option Outlet)
-column_at source outs = map (λ egress. lane_at egress.lanes source) outs
+column_at ingress outs = map (λ egress. lane_at egress.lanes ingress) outs
 
 -- the first lane of each column, and the others
 abbrev pub heads : List (List (Option Outlet)) → List (Option Outlet)
@@ -37,29 +38,29 @@ Match (row ∷ rows) columns = (map ring_to row ≡ map ring_from (heads columns
 
 -- a lane, by its ports and its ends
 pub record Lane : Type 0 where
-  pub source : ℕ
-  pub destination : ℕ
+  pub ingress : ℕ
+  pub egress : ℕ
   pub inlet : Inlet
   pub outlet : Outlet
 
 -- the lane of which these are the ends, if there is one
 abbrev pub lane_of : ℕ → ℕ → Option Inlet → Option Outlet → List Lane
-lane_of source destination (Some inlet) (Some outlet) =
-    record { source = source; destination = destination; inlet = inlet; outlet = outlet } ∷ []
-lane_of source destination (Some inlet) None = []
-lane_of source destination None outlet = []
+lane_of ingress egress (Some inlet) (Some outlet) =
+    record { ingress = ingress; egress = egress; inlet = inlet; outlet = outlet } ∷ []
+lane_of ingress egress (Some inlet) None = []
+lane_of ingress egress None outlet = []
 
--- the lanes from a port to the destinations from a number on
+-- the lanes from an ingress port to the egress ports from a number on
 abbrev pub lanes_to : ℕ → ℕ → List (Option Inlet) → List (Option Outlet) → List Lane
-lanes_to source destination [] outlets = []
-lanes_to source destination (inlet ∷ inlets) [] = []
-lanes_to source destination (inlet ∷ inlets) (outlet ∷ outlets) =
-    lane_of source destination inlet outlet ++ lanes_to source (suc destination) inlets outlets
+lanes_to ingress egress [] outlets = []
+lanes_to ingress egress (inlet ∷ inlets) [] = []
+lanes_to ingress egress (inlet ∷ inlets) (outlet ∷ outlets) =
+    lane_of ingress egress inlet outlet ++ lanes_to ingress (suc egress) inlets outlets
 
--- the lanes from the ports from a number on, by source and then destination
+-- the lanes from the ingress ports from a number on, by ingress port and then egress port
 abbrev pub lanes_of : ℕ → List (List (Option Inlet)) → List (List (Option Outlet)) → List Lane
-lanes_of source [] columns = []
-lanes_of source (row ∷ rows) columns = lanes_to source 0 row (heads columns) ++ lanes_of (suc source) rows (tails columns)
+lanes_of ingress [] columns = []
+lanes_of ingress (row ∷ rows) columns = lanes_to ingress 0 row (heads columns) ++ lanes_of (suc ingress) rows (tails columns)
 
 -- a relation holds of each lane and what stands at its place in the other list
 abbrev pub EachOf : (Lane → LaneLeft → Type 0) → List Lane → List LaneLeft → Type 0
@@ -70,8 +71,8 @@ EachOf R (lane ∷ lanes) (left ∷ lefts) = R lane left × EachOf R lanes lefts
 
 -- what is left of a lane is what was placed on it behind what was taken from it
 pub record IsLeft (lane : Lane) (left : LaneLeft) : Type 0 where
-  pub source : left.from ≡ lane.source
-  pub destination : left.to ≡ lane.destination
+  pub ingress : left.from ≡ lane.ingress
+  pub egress : left.to ≡ lane.egress
   pub copies : lane.outlet.taken ++ left.left.items ≡ lane.inlet.placed
 
 abbrev pub AreLeft : List Lane → List LaneLeft → Type 0
@@ -79,8 +80,8 @@ AreLeft = EachOf IsLeft
 
 -- room for what is left of a lane
 pub record IsRoomOf (lane : Lane) (room : LaneLeft) : Type 0 where
-  pub source : room.from ≡ lane.source
-  pub destination : room.to ≡ lane.destination
+  pub ingress : room.from ≡ lane.ingress
+  pub egress : room.to ≡ lane.egress
   pub empty : room.left.items ≡ []
   pub enough : length lane.inlet.placed ≤ vec_capacity room.left + length lane.outlet.taken
 

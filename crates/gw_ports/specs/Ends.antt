@@ -8,7 +8,7 @@ use Rattle.gw_ledger.specs.declared.ledger.InLedger.{InLedger}
 use Rattle.gw_ledger.specs.declared.ledger.OutLedger.{OutLedger}
 
 -- the end at which a port takes frames: its number, its board and the batches that it knows, oldest first, who holds which
--- address of its segment, the most frames that it may take, its lanes by destination, and its ledger
+-- address of its segment, the most frames that it may take, its lanes by egress port, and its ledger
 pub record Ingress : Type 0 where
   pub port : ℕ
   pub board : Board
@@ -18,7 +18,7 @@ pub record Ingress : Type 0 where
   pub lanes : List (Option Inlet)
   pub ledger : InLedger
 
--- the end at which copies leave at a port: its number, its lanes by source, and its ledger
+-- the end at which copies leave at a port: its number, its lanes by ingress port, and its ledger
 pub record Egress : Type 0 where
   pub port : ℕ
   pub lanes : List (Option Outlet)
@@ -84,10 +84,10 @@ CountsPlaced ledger lanes = ledger.placed ≡ sum_by placed_on lanes
 abbrev pub count_of : ℕ → ℕ
 count_of copies = min copies (2 ^ 64 - 1)
 
--- the copies counted as sent are those taken from the lane of each source
+-- the copies counted as sent are those taken from the lane of each ingress port
 pub record CountsSent (ledger : OutLedger) (lanes : List (Option Outlet)) : Type 0 where
-  pub sources : length ledger.sent ≡ 16
-  pub sent : (source : ℕ) → source < 16 → slice_index ledger.sent source ≡ count_of (taken_from (lane_at lanes source))
+  pub ports : length ledger.sent ≡ 16
+  pub sent : (ingress : ℕ) → ingress < 16 → slice_index ledger.sent ingress ≡ count_of (taken_from (lane_at lanes ingress))
 
 -- what each end keeps of its counts
 pub record IsSoundIngress (ingress : Ingress) : Type 0 where

@@ -11,7 +11,7 @@ use Rattle.gw_ports.specs.Ends.{Ingress, Egress, EndIn, EndOut, end_in, end_out,
 abbrev pub known_at : Ingress → Known
 known_at ingress = record { board = ingress.board; batches = ingress.known }
 
--- the other ends of the lanes to a port: a column of the lanes of all sources
+-- the other ends of the lanes to a port: a column of the lanes of all ingress ports
 abbrev pub lanes_from : ℕ → List Ingress → List (Option Outlet)
 lanes_from port ins = map (λ ingress. option_map new_outlet (lane_to port ingress)) ins
 
@@ -34,7 +34,7 @@ pub record IsNewIngress (ports frames room port : ℕ) (ingress : Ingress) : Typ
 abbrev pub new_egress : ℕ → List (Option Outlet) → Egress
 new_egress port lanes = record { port = port; lanes = lanes; ledger = record { sent = replicate 16 0 } }
 
--- the end with the lane of one more source
+-- the end with the lane of one more ingress port
 abbrev pub egress_with : Egress → Option Outlet → Egress
 egress_with egress lane = record egress { lanes = egress.lanes ++ lane ∷ [] }
 

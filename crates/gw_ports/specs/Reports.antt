@@ -33,28 +33,28 @@ outcomes_of report port = slice_index_or (map (λ outcomes. outcomes.items) repo
 abbrev pub stop_of : RunReport → ℕ → Option OfferRefusal
 stop_of report port = slice_index_or report.stops.items port None
 
--- the copies that were taken out at a port, and those of them that are from one source
+-- the copies that were taken out at a port, and those of them that are from one ingress port
 abbrev pub copies_of : RunReport → ℕ → List FrameCopy
 copies_of report port = slice_index_or (map (λ copies. copies.items) report.out.items) port []
 
 abbrev pub from_port : ℕ → List FrameCopy → List FrameCopy
-from_port source copies = filter (λ copy. copy.from == source) copies
+from_port ingress copies = filter (λ copy. copy.from == ingress) copies
 
--- the copies that the outcomes of a port's frames placed for a destination, in order and each once
+-- the copies that the outcomes of a port's frames placed for an egress port, in order and each once
 abbrev pub placed_copy : ℕ → ℕ → List ℕ → Outcome → List FrameCopy
-placed_copy source destination octets outcome =
-    if has_port destination outcome.placed then record { from = source; number = outcome.number; frame = octets } ∷ [] else []
+placed_copy ingress egress octets outcome =
+    if has_port egress outcome.placed then record { from = ingress; number = outcome.number; frame = octets } ∷ [] else []
 
 abbrev pub copies_to : ℕ → ℕ → List (List ℕ) → List Outcome → List FrameCopy
-copies_to source destination [] outcomes = []
-copies_to source destination (octets ∷ frames) [] = []
-copies_to source destination (octets ∷ frames) (outcome ∷ outcomes) =
-    placed_copy source destination octets outcome ++ copies_to source destination frames outcomes
+copies_to ingress egress [] outcomes = []
+copies_to ingress egress (octets ∷ frames) [] = []
+copies_to ingress egress (octets ∷ frames) (outcome ∷ outcomes) =
+    placed_copy ingress egress octets outcome ++ copies_to ingress egress frames outcomes
 
--- the lanes of a gateway, by source and then destination: one from each port to each other
+-- the lanes of a gateway, by ingress port and then egress port: one from each port to each other
 abbrev pub lanes_between : ℕ → List (ℕ × ℕ)
 lanes_between ports = flat_map
-    (λ source. map (λ to. (source, to)) (filter (λ to. not (to == source)) (range_with_len 0 ports)))
+    (λ ingress. map (λ egress. (ingress, egress)) (filter (λ egress. not (egress == ingress)) (range_with_len 0 ports)))
     (range_with_len 0 ports)
 
 -- the counts of the copies that were taken out at a port

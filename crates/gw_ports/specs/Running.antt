@@ -49,7 +49,7 @@ pub record IsDone {S : Type 0} (steps : S → Option (List ℕ) → S → Type 0
 -- the copies left the port one after another
 abbrev pub Takes : Egress → List FrameCopy → Egress → Type 0
 Takes old [] new = new ≡ old
-Takes old (copy ∷ copies) new = (source : ℕ) × (next : Egress) × Sends source old copy next × Takes next copies new
+Takes old (copy ∷ copies) new = (ingress : ℕ) × (next : Egress) × Sends ingress old copy next × Takes next copies new
 
 -- the port took these copies out
 pub record HasTaken (port : Egress) (taking : Taking) : Type 0 where

@@ -12,18 +12,18 @@ pub record Pops (old : Option Outlet) (copy : FrameCopy) (new : Option Outlet) :
   pub was : old ≡ Some before
   pub is : new ≡ Some (record before { taken = before.taken ++ copy ∷ [] })
 
--- the copy was taken from the lane of this source, and nothing from any other
-pub record PopsFrom (source : ℕ) (old : List (Option Outlet)) (copy : FrameCopy) (new : List (Option Outlet)) : Type 0 where
-  pub there : source < length old
-  pub lane : Pops (lane_at old source) copy (lane_at new source)
-  pub others : new ≡ slice_set old source (lane_at new source)
+-- the copy was taken from the lane of this ingress port, and nothing from any other
+pub record PopsFrom (ingress : ℕ) (old : List (Option Outlet)) (copy : FrameCopy) (new : List (Option Outlet)) : Type 0 where
+  pub there : ingress < length old
+  pub lane : Pops (lane_at old ingress) copy (lane_at new ingress)
+  pub others : new ≡ slice_set old ingress (lane_at new ingress)
 
--- the ledger with one more copy of a source
+-- the ledger with one more copy of an ingress port
 abbrev pub sent_with : OutLedger → ℕ → OutLedger
-sent_with ledger source = record { sent = slice_set ledger.sent source (count_after (slice_index ledger.sent source)) }
+sent_with ledger ingress = record { sent = slice_set ledger.sent ingress (count_after (slice_index ledger.sent ingress)) }
 
--- a copy from this source left at the port, and was counted there
-pub record Sends (source : ℕ) (old : Egress) (copy : FrameCopy) (new : Egress) : Type 0 where
+-- a copy from this ingress port left at the port, and was counted there
+pub record Sends (ingress : ℕ) (old : Egress) (copy : FrameCopy) (new : Egress) : Type 0 where
   pub port : new.port ≡ old.port
-  pub lanes : PopsFrom source old.lanes copy new.lanes
-  pub ledger : new.ledger ≡ sent_with old.ledger source
+  pub lanes : PopsFrom ingress old.lanes copy new.lanes
+  pub ledger : new.ledger ≡ sent_with old.ledger ingress

@@ -45,7 +45,7 @@ pub struct Report {
     pub ins: Vec<InLedger>,
     /// By port.
     pub outs: Vec<OutLedger>,
-    /// By source and then destination.
+    /// By ingress port and then egress port.
     pub lanes: Vec<LaneLeft>,
     /// How many batches were published.
     pub front: u32,

@@ -22,7 +22,7 @@ pub struct PortIn {
     frames: u32,
     watch: Watch,
     claims: Claims,
-    // By destination, so a lane's index is its port. There is none at the port's own number.
+    // By egress port, so a lane's index is its port. There is none at the port's own number.
     pub(crate) lanes: Vec<Option<LaneIn>>,
     ledger: InLedger,
 }
@@ -115,7 +115,7 @@ impl PortIn {
         Ok(())
     }
 
-    // Its lanes, by destination.
+    // Its lanes, by egress port.
     pub(crate) fn into_lanes(self) -> Vec<Option<LaneIn>>
         ensures { result.items ≡ self.lanes }
     {

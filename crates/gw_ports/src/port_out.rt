@@ -15,9 +15,9 @@ use std::marker::Model;
 #[derive(Drop)]
 pub struct PortOut {
     port: u8,
-    // By source, so a lane's index is its port. There is none at the port's own number.
+    // By ingress port, so a lane's index is its port. There is none at the port's own number.
     lanes: Vec<Option<LaneOut>>,
-    // The source that `next` looks at first.
+    // The ingress port that `next` looks at first.
     turn: usize,
     ledger: OutLedger,
 }
@@ -52,7 +52,7 @@ impl PortOut {
         }
     }
 
-    // The lane of the next source, none for the port itself.
+    // The lane of the next ingress port, none for the port itself.
     pub(crate) fn add(&mut self, lane: Option<LaneOut>) -> Result<(), AllocError>
         requires few { length self.old.lanes < 16 }
         requires none { length self.old.lanes ≡ self.old.port → lane ≡ None }
@@ -72,53 +72,58 @@ impl PortOut {
         &self.ledger
     }
 
-    /// The oldest copy that waits on the lane of the first source that has one, in a circle that begins after the source that
-    /// it gave last, at first with port 0.
+    /// The oldest copy that waits on a lane, round robin by ingress port: the round begins after the port that gave the last
+    /// copy, at first with port 0.
     pub fn next(&mut self) -> Option<FrameCopy>
         ensures end { end_out self.new ≡ end_out self.old }
-        ensures sent { MatchOption result (self.new ≡ self.old) (λ copy. (source : ℕ) × Sends source self.old copy self.new) }
+        ensures sent { MatchOption result (self.new ≡ self.old) (λ copy. (ingress : ℕ) × Sends ingress self.old copy self.new) }
     {
         let ports = self.lanes.len();
-        let mut source = self.turn;
+        let mut ingress = self.turn;
         'round: for _ in 0..ports {
-            if source >= ports {
-                source = 0;
+            if ingress >= ports {
+                ingress = 0;
             }
-            if let Some(copy) = self.next_from(source as u8) {
-                self.turn = source + 1;
+            if let Some(copy) = self.next_from(ingress as u8) {
+                self.turn = ingress + 1;
                 return Some(copy);
             }
-            source += 1;
+            ingress += 1;
         }
         None
     }
 
-    /// The oldest copy that waits on the lane of a source. There is none for a number that is no other port.
-    pub fn next_from(&mut self, port: u8) -> Option<FrameCopy>
+    /// The oldest copy that waits on the lane from an ingress port. There is none for a number that is no other port.
+    pub fn next_from(&mut self, ingress: u8) -> Option<FrameCopy>
         ensures end { end_out self.new ≡ end_out self.old }
-        ensures sent { MatchOption result (self.new ≡ self.old) (λ copy. Sends port self.old copy self.new) }
-        ensures other { IfSome result (λ _. (port ≢ self.old.port) × (port < length self.old.lanes)) }
+        ensures sent { MatchOption result (self.new ≡ self.old) (λ copy. Sends ingress self.old copy self.new) }
+        ensures other { IfSome result (λ _. (ingress ≢ self.old.port) × (ingress < length self.old.lanes)) }
     {
-        let copy = take(&mut self.lanes, usize::from(port))?;
-        self.ledger.add_sent(port);
+        let copy = take(&mut self.lanes, usize::from(ingress))?;
+        self.ledger.add_sent(ingress);
         Some(copy)
     }
 
-    // How many copies wait on the lane from another port, if there is one.
-    pub(crate) fn waiting_from(&mut self, source: u8, from: &mut PortIn, to: u8) -> Option<usize>
-        requires { ring_to (lane_at from.old.lanes to) ≡ ring_from (lane_at self.old.lanes source) }
+    // How many copies wait on the lane from an ingress port, whose end is `from`, if there is such a lane.
+    pub(crate) fn waiting_from(
+        &mut self,
+        ingress: u8,
+        from: &mut PortIn,
+        egress: u8,
+    ) -> Option<usize>
+        requires { ring_to (lane_at from.old.lanes egress) ≡ ring_from (lane_at self.old.lanes ingress) }
         ensures same { (self.new ≡ self.old) × (from.new ≡ from.old) }
-        ensures waiting { IsWaiting (lane_at from.old.lanes to) (lane_at self.old.lanes source) result }
+        ensures waiting { IsWaiting (lane_at from.old.lanes egress) (lane_at self.old.lanes ingress) result }
     {
         waiting_at(
             &mut from.lanes,
-            usize::from(to),
+            usize::from(egress),
             &mut self.lanes,
-            usize::from(source),
+            usize::from(ingress),
         )
     }
 
-    // Its lanes, by source.
+    // Its lanes, by ingress port.
     pub(crate) fn into_lanes(self) -> Vec<Option<LaneOut>>
         ensures { result.items ≡ self.lanes }
     {
@@ -127,13 +132,13 @@ impl PortOut {
 }
 
 // The oldest copy of a lane, if there is such a lane.
-fn take(lanes: &mut [Option<LaneOut>], source: usize) -> Option<FrameCopy>
-    ensures { MatchOption result (lanes.new ≡ lanes.old) (λ copy. PopsFrom source lanes.old copy lanes.new) }
+fn take(lanes: &mut [Option<LaneOut>], ingress: usize) -> Option<FrameCopy>
+    ensures { MatchOption result (lanes.new ≡ lanes.old) (λ copy. PopsFrom ingress lanes.old copy lanes.new) }
 {
-    if source >= lanes.len() {
+    if ingress >= lanes.len() {
         return None;
     }
-    take_from(&mut lanes[source])
+    take_from(&mut lanes[ingress])
 }
 
 fn take_from(lane: &mut Option<LaneOut>) -> Option<FrameCopy>
@@ -148,18 +153,18 @@ fn take_from(lane: &mut Option<LaneOut>) -> Option<FrameCopy>
 // How many copies wait between two ends, if both are there.
 fn waiting_at(
     inlets: &mut [Option<LaneIn>],
-    to: usize,
+    egress: usize,
     outlets: &mut [Option<LaneOut>],
-    source: usize,
+    ingress: usize,
 ) -> Option<usize>
-    requires { ring_to (lane_at inlets.old to) ≡ ring_from (lane_at outlets.old source) }
+    requires { ring_to (lane_at inlets.old egress) ≡ ring_from (lane_at outlets.old ingress) }
     ensures same { (inlets.new ≡ inlets.old) × (outlets.new ≡ outlets.old) }
-    ensures waiting { IsWaiting (lane_at inlets.old to) (lane_at outlets.old source) result }
+    ensures waiting { IsWaiting (lane_at inlets.old egress) (lane_at outlets.old ingress) result }
 {
-    if to >= inlets.len() || source >= outlets.len() {
+    if egress >= inlets.len() || ingress >= outlets.len() {
         return None;
     }
-    waiting_between(&mut inlets[to], &mut outlets[source])
+    waiting_between(&mut inlets[egress], &mut outlets[ingress])
 }
 
 fn waiting_between(inlet: &mut Option<LaneIn>, outlet: &mut Option<LaneOut>) -> Option<usize>

@@ -196,8 +196,8 @@ pub fn run_from<R: Threads + Wait + Sync, G: Gate, I: Iterator<Item = Frame> + S
         taken,
         offerings,
         done,
-        sources,
-        sinks,
+        ingress,
+        egress,
         fronts,
     } = prepared;
     let feeding = Feeding {
@@ -219,22 +219,22 @@ pub fn run_from<R: Threads + Wait + Sync, G: Gate, I: Iterator<Item = Frame> + S
     ) else {
         return Err(RunRefusal::NoThread);
     };
-    let sources = sources.gather(done);
-    let sinks = sinks.gather(taken);
+    let ingress = ingress.gather(done);
+    let egress = egress.gather(taken);
     let parts = Parts {
         operator: published.operator,
-        ins: sources.ports,
-        outs: sinks.ports,
+        ins: ingress.ports,
+        outs: egress.ports,
     };
     match close_ends(alloc, parts) {
         Ok((report, operator)) => {
             operator.end(rt);
             Ok(RunReport {
-                outcomes: sources.outcomes,
-                stops: sources.stops,
+                outcomes: ingress.outcomes,
+                stops: ingress.stops,
                 fronts: published.fronts,
                 refused: published.refused,
-                out: sinks.out,
+                out: egress.out,
                 report,
             })
         }

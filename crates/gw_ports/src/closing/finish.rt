@@ -38,7 +38,7 @@ use crate::{PortIn, PortOut};
 use gw_lanes::{LaneIn, LaneOut, finish};
 use std::vec::IntoIter;
 
-// The lanes of each port out, by source.
+// The lanes of each port out, by ingress port.
 pub(super) fn take_columns(
     outs: Vec<PortOut>,
     mut columns: Vec<IntoIter<Option<LaneOut>>>,
@@ -53,7 +53,7 @@ pub(super) fn take_columns(
     columns
 }
 
-// What is left of each lane, by source and then destination.
+// What is left of each lane, by ingress port and then egress port.
 pub(super) fn finish_all(
     ins: Vec<PortIn>,
     mut columns: Vec<IntoIter<Option<LaneOut>>>,
@@ -73,7 +73,7 @@ pub(super) fn finish_all(
     lanes
 }
 
-// The lanes from one port, by destination: from each of the columns comes its next lane.
+// The lanes from one port, by egress port: from each of the columns comes its next lane.
 fn finish_from(
     row: Vec<Option<LaneIn>>,
     columns: &mut [IntoIter<Option<LaneOut>>],
@@ -81,19 +81,20 @@ fn finish_from(
     lanes: &mut Vec<LaneLeft>,
 )
     requires pairs { map ring_to row.items ≡ map ring_from (heads (map into_iter_items columns.old)) }
-    requires rooms { (source : ℕ) × (others : List Lane)
-        × AreRooms (lanes_to source 0 row.items (heads (map into_iter_items columns.old)) ++ others) (into_iter_items rooms.old) }
+    requires rooms { (ingress : ℕ) × (others : List Lane)
+        × AreRooms (lanes_to ingress 0 row.items (heads (map into_iter_items columns.old)) ++ others)
+        (into_iter_items rooms.old) }
     requires enough { vec_len lanes.old + length (into_iter_items rooms.old) ≤ vec_capacity lanes.old }
     ensures columns { map into_iter_items columns.new ≡ tails (map into_iter_items columns.old) }
-    ensures left { (source : ℕ) → Finishes (lanes_to source 0 row.items (heads (map into_iter_items columns.old)))
+    ensures left { (ingress : ℕ) → Finishes (lanes_to ingress 0 row.items (heads (map into_iter_items columns.old)))
         (into_iter_items rooms.old) (into_iter_items rooms.new) lanes.old.items lanes.new.items }
     ensures enough { vec_len lanes.new + length (into_iter_items rooms.new) ≤ vec_capacity lanes.new }
 {
-    let mut destination = 0;
+    let mut egress = 0;
     for from in row {
-        let to = next_lane(&mut columns[destination]);
+        let to = next_lane(&mut columns[egress]);
         finish_one(from, to, rooms, lanes);
-        destination += 1;
+        egress += 1;
     }
 }
 
@@ -115,10 +116,10 @@ fn finish_one(
     lanes: &mut Vec<LaneLeft>,
 )
     requires pair { ring_to from ≡ ring_from to }
-    requires rooms { (source : ℕ) × (destination : ℕ) × (others : List Lane)
-        × AreRooms (lane_of source destination from to ++ others) (into_iter_items rooms.old) }
+    requires rooms { (ingress : ℕ) × (egress : ℕ) × (others : List Lane)
+        × AreRooms (lane_of ingress egress from to ++ others) (into_iter_items rooms.old) }
     requires enough { vec_len lanes.old + length (into_iter_items rooms.old) ≤ vec_capacity lanes.old }
-    ensures left { (source destination : ℕ) → Finishes (lane_of source destination from to)
+    ensures left { (ingress egress : ℕ) → Finishes (lane_of ingress egress from to)
         (into_iter_items rooms.old) (into_iter_items rooms.new) lanes.old.items lanes.new.items }
     ensures enough { vec_len lanes.new + length (into_iter_items rooms.new) ≤ vec_capacity lanes.new }
 {

@@ -17,7 +17,7 @@ use super::LaneLeft;
 use crate::{PortIn, PortOut};
 use std::alloc::{AllocError, Global};
 
-// Room for what waits on each lane, by source and then destination. The ends stay as they are.
+// Room for what waits on each lane, by ingress port and then egress port. The ends stay as they are.
 pub(super) fn rooms(
     alloc: Global,
     ins: &mut [PortIn],
@@ -29,8 +29,8 @@ pub(super) fn rooms(
     ensures rooms { IfOk result (λ rooms. AreRooms (lanes_of 0 (rows_of ins.old) (columns_of outs.old)) rooms.items) }
 {
     let mut rooms = Vec::new(alloc);
-    for source in 0..ins.len() {
-        rooms_from(alloc, source as u8, &mut ins[source], outs, &mut rooms)?;
+    for ingress in 0..ins.len() {
+        rooms_from(alloc, ingress as u8, &mut ins[ingress], outs, &mut rooms)?;
     }
     Ok(rooms)
 }
@@ -38,26 +38,19 @@ pub(super) fn rooms(
 // The same for the lanes from one port, behind what there is.
 fn rooms_from(
     alloc: Global,
-    source: u8,
+    ingress: u8,
     from: &mut PortIn,
     outs: &mut [PortOut],
     rooms: &mut Vec<LaneLeft>,
 ) -> Result<(), AllocError>
     requires few { length outs.old ≤ 16 }
-    requires lanes { map ring_to from.old.lanes ≡ map ring_from (column_at source outs.old) }
+    requires lanes { map ring_to from.old.lanes ≡ map ring_from (column_at ingress outs.old) }
     ensures same { (from.new ≡ from.old) × (outs.new ≡ outs.old) }
     ensures rooms { OnOk result ((new : List LaneLeft) × (rooms.new.items ≡ rooms.old.items ++ new)
-        × AreRooms (lanes_to source 0 from.old.lanes (column_at source outs.old)) new) }
+        × AreRooms (lanes_to ingress 0 from.old.lanes (column_at ingress outs.old)) new) }
 {
-    for destination in 0..outs.len() {
-        room_for(
-            alloc,
-            source,
-            from,
-            destination as u8,
-            &mut outs[destination],
-            rooms,
-        )?;
+    for egress in 0..outs.len() {
+        room_for(alloc, ingress, from, egress as u8, &mut outs[egress], rooms)?;
     }
     Ok(())
 }
@@ -65,24 +58,24 @@ fn rooms_from(
 // The same for the lane between two ports, if there is one.
 fn room_for(
     alloc: Global,
-    source: u8,
+    ingress: u8,
     from: &mut PortIn,
-    destination: u8,
+    egress: u8,
     to: &mut PortOut,
     rooms: &mut Vec<LaneLeft>,
 ) -> Result<(), AllocError>
-    requires { ring_to (lane_at from.old.lanes destination) ≡ ring_from (lane_at to.old.lanes source) }
+    requires { ring_to (lane_at from.old.lanes egress) ≡ ring_from (lane_at to.old.lanes ingress) }
     ensures same { (from.new ≡ from.old) × (to.new ≡ to.old) }
     ensures room { OnOk result ((one : List LaneLeft) × (rooms.new.items ≡ rooms.old.items ++ one)
-        × AreRooms (lane_of source destination (lane_at from.old.lanes destination) (lane_at to.old.lanes source)) one) }
+        × AreRooms (lane_of ingress egress (lane_at from.old.lanes egress) (lane_at to.old.lanes ingress)) one) }
 {
-    let Some(waiting) = to.waiting_from(source, from, destination) else {
+    let Some(waiting) = to.waiting_from(ingress, from, egress) else {
         return Ok(());
     };
     let left = Vec::with_capacity(alloc, waiting)?;
     rooms.push(LaneLeft {
-        from: source,
-        to: destination,
+        from: ingress,
+        to: egress,
         left,
     })?;
     Ok(())

@@ -34,7 +34,7 @@ use gw_ledger::Limits;
 use std::alloc::{AllocError, Global};
 use std::vec::IntoIter;
 
-// The ends of the ports, of these watches and lanes. Both lists of lanes are walked once, side by side, source by source.
+// The ends of the ports, of these watches and lanes. Both lists of lanes are walked once, side by side, by ingress port.
 pub(super) fn deal(
     alloc: Global,
     limits: Limits,
@@ -75,21 +75,20 @@ fn without_lanes(alloc: Global, ports: u8) -> Result<Vec<PortOut>, AllocError>
     Ok(outs)
 }
 
-// Deals out the lanes from a port. The answer has the ends on which it places copies, by destination; the other end of each
-// goes to its destination.
+// Deals out the lanes from an ingress port. The answer has its ends of them, by egress port; each egress port gets the other end.
 fn deal_from(
     alloc: Global,
-    port: u8,
+    ingress: u8,
     froms: &mut IntoIter<LaneIn>,
     tos: &mut IntoIter<LaneOut>,
     outs: &mut [PortOut],
 ) -> Result<Vec<Option<LaneIn>>, AllocError>
-    requires few { (port < length outs.old) × (length outs.old ≤ 16) }
+    requires few { (ingress < length outs.old) × (length outs.old ≤ 16) }
     requires count { length outs.old ≤ length (into_iter_items froms.old) + 1 }
     requires paired { into_iter_items tos.old ≡ map new_outlet (into_iter_items froms.old) }
     requires outs { (k : ℕ) (d : Egress) → k < length outs.old
-        → ((slice_index_or outs.old k d).port ≡ k) × (length (slice_index_or outs.old k d).lanes ≡ port) }
-    ensures lanes { IfOk result (λ lanes. (vec_len lanes ≡ length outs.old) × HasLanes port lanes.items) }
+        → ((slice_index_or outs.old k d).port ≡ k) × (length (slice_index_or outs.old k d).lanes ≡ ingress) }
+    ensures lanes { IfOk result (λ lanes. (vec_len lanes ≡ length outs.old) × HasLanes ingress lanes.items) }
     ensures taken { IfOk result (λ lanes. (room : ℕ)
         → All (λ inlet. inlet ≡ new_inlet inlet.ring room) (into_iter_items froms.old)
         → All (IsNewLane room) lanes.items × All (λ inlet. inlet ≡ new_inlet inlet.ring room) (into_iter_items froms.new)) }
@@ -100,14 +99,14 @@ fn deal_from(
         ≡ egress_with (slice_index_or outs.old k d) (option_map new_outlet (lane_at lanes.items k))) }
 {
     let mut lanes = Vec::new(alloc);
-    for destination in 0..outs.len() {
-        if destination == usize::from(port) {
+    for egress in 0..outs.len() {
+        if egress == usize::from(ingress) {
             lanes.push(None)?;
-            outs[destination].add(None)?;
+            outs[egress].add(None)?;
         } else {
             let (from, to) = next_lane(froms, tos);
             lanes.push(Some(from))?;
-            outs[destination].add(Some(to))?;
+            outs[egress].add(Some(to))?;
         }
     }
     Ok(lanes)

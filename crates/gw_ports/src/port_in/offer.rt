@@ -81,7 +81,7 @@ impl PortIn {
 fn judge(
     watch: &mut Watch,
     ports: u8,
-    own: u8,
+    ingress: u8,
     local: bool,
     frame: &Frame,
 ) -> Result<PortSet, NoReading>
@@ -89,34 +89,33 @@ fn judge(
     ensures board { watch.new.board ≡ watch.old.board }
     ensures judged { MatchResult result
         (λ allowed. IsPrefix watch.old.batches watch.new.batches
-        × (allowed ≡ allowed_ports ports local (reverse watch.new.batches) own frame.now))
+        × (allowed ≡ allowed_ports ports local (reverse watch.new.batches) ingress frame.now))
         (λ _. watch.new ≡ watch.old) }
 {
-    watch.with(|set| allowed(set, ports, own, local, frame))
+    watch.with(|set| allowed(set, ports, ingress, local, frame))
 }
 
-fn allowed(set: &PolicySet, ports: u8, own: u8, local: bool, frame: &Frame) -> PortSet
+fn allowed(set: &PolicySet, ports: u8, ingress: u8, local: bool, frame: &Frame) -> PortSet
     requires { ports ≤ 16 }
     ensures { result ≡ (if local then [] else
-        ports_below ports (λ port. not (port == own) && passes (policy_at port set.now) frame.now own)) }
+        ports_below ports (λ egress. not (egress == ingress) && passes (policy_at egress set.now) frame.now ingress)) }
 {
     let mut allowed = PortSet::new();
     if local {
         return allowed;
     }
-    for port in 0..ports {
-        if may_leave(set, port, own, frame) {
-            allowed.add(port);
+    for egress in 0..ports {
+        if may_leave(set, egress, ingress, frame) {
+            allowed.add(egress);
         }
     }
     allowed
 }
 
-// Whether a frame that was taken at the port `own` may leave at another.
-fn may_leave(set: &PolicySet, port: u8, own: u8, frame: &Frame) -> bool
-    ensures { result ≡ (not (port == own) && passes (policy_at port set.now) frame.now own) }
+fn may_leave(set: &PolicySet, egress: u8, ingress: u8, frame: &Frame) -> bool
+    ensures { result ≡ (not (egress == ingress) && passes (policy_at egress set.now) frame.now ingress) }
 {
-    port != own && set.verdict(port, frame, own)
+    egress != ingress && set.verdict(egress, frame, ingress)
 }
 
 // Counts a frame that was taken and is finished.

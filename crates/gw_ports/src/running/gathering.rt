@@ -7,16 +7,16 @@ use gw_ledger::{FrameCopy, Outcome};
 
 /// The ports in with what became of their frames, by port.
 #[derive(Drop)]
-pub(super) struct Sources {
+pub(super) struct IngressPorts {
     pub ports: Vec<PortIn>,
     pub outcomes: Vec<Vec<Outcome>>,
     pub stops: Vec<Option<OfferRefusal>>,
 }
 
-impl Sources {
+impl IngressPorts {
     ghost use Rattle.std.specs.Prelude.{◌≡◌, ◌≤◌, [], map, vec_capacity, vec_len};
 
-    pub fn gather(self, done: Vec<Done>) -> Sources
+    pub fn gather(self, done: Vec<Done>) -> IngressPorts
         requires empty { (self.ports.items ≡ []) × (self.outcomes.items ≡ []) × (self.stops.items ≡ []) }
         requires room { (vec_len done ≤ vec_capacity self.ports) × (vec_len done ≤ vec_capacity self.outcomes)
             × (vec_len done ≤ vec_capacity self.stops) }
@@ -24,7 +24,7 @@ impl Sources {
         ensures outcomes { result.outcomes.items ≡ map (λ one. one.outcomes) done.items }
         ensures stops { result.stops.items ≡ map (λ one. one.stop) done.items }
     {
-        let Sources {
+        let IngressPorts {
             mut ports,
             mut outcomes,
             mut stops,
@@ -34,7 +34,7 @@ impl Sources {
             outcomes.push_reserved(one.outcomes);
             stops.push_reserved(one.stop);
         }
-        Sources {
+        IngressPorts {
             ports,
             outcomes,
             stops,
@@ -44,25 +44,25 @@ impl Sources {
 
 /// The ports out with the copies that were taken there, by port.
 #[derive(Drop)]
-pub(super) struct Sinks {
+pub(super) struct EgressPorts {
     pub ports: Vec<PortOut>,
     pub out: Vec<Vec<FrameCopy>>,
 }
 
-impl Sinks {
+impl EgressPorts {
     ghost use Rattle.std.specs.Prelude.{◌≡◌, ◌≤◌, [], map, vec_capacity, vec_len};
 
-    pub fn gather(self, taken: Vec<Taking>) -> Sinks
+    pub fn gather(self, taken: Vec<Taking>) -> EgressPorts
         requires empty { (self.ports.items ≡ []) × (self.out.items ≡ []) }
         requires room { (vec_len taken ≤ vec_capacity self.ports) × (vec_len taken ≤ vec_capacity self.out) }
         ensures ports { result.ports.items ≡ map (λ one. one.port) taken.items }
         ensures out { result.out.items ≡ map (λ one. one.out) taken.items }
     {
-        let Sinks { mut ports, mut out } = self;
+        let EgressPorts { mut ports, mut out } = self;
         for one in taken {
             ports.push_reserved(one.port);
             out.push_reserved(one.out);
         }
-        Sinks { ports, out }
+        EgressPorts { ports, out }
     }
 }

@@ -3,7 +3,7 @@
 ghost use Rattle.std.specs.Prelude.{◌≡◌, ◌<◌, ◌≤◌, ℕ, [], All, IfOk, length, map, min, slice_index, slice_index_or};
 ghost use Rattle.std.specs.Prelude.{vec_capacity, vec_len};
 
-use super::gathering::{Sinks, Sources};
+use super::gathering::{EgressPorts, IngressPorts};
 use super::offering::{Done, Offering};
 use super::taking::Taking;
 use crate::{PortIn, PortOut};
@@ -17,8 +17,8 @@ pub(super) struct Prepared<I> {
     pub taken: Vec<Taking>,
     pub offerings: Vec<Offering<I>>,
     pub done: Vec<Done>,
-    pub sources: Sources,
-    pub sinks: Sinks,
+    pub ingress: IngressPorts,
+    pub egress: EgressPorts,
     pub fronts: Vec<u32>,
 }
 
@@ -42,11 +42,11 @@ pub(super) fn prepare<I: Iterator>(
     ensures done { IfOk result (λ p. (p.done.items ≡ []) × (vec_len ins ≤ vec_capacity p.done)) }
     ensures taken { IfOk result (λ p. (p.taken.items ≡ []) × (vec_len ins ≤ vec_capacity p.taken)) }
     ensures fronts { IfOk result (λ p. (p.fronts.items ≡ []) × (batches ≤ vec_capacity p.fronts)) }
-    ensures sources { IfOk result (λ p. (p.sources.ports.items ≡ []) × (p.sources.outcomes.items ≡ [])
-        × (p.sources.stops.items ≡ []) × (vec_len ins ≤ vec_capacity p.sources.ports)
-        × (vec_len ins ≤ vec_capacity p.sources.outcomes) × (vec_len ins ≤ vec_capacity p.sources.stops)) }
-    ensures sinks { IfOk result (λ p. (p.sinks.ports.items ≡ []) × (p.sinks.out.items ≡ [])
-        × (vec_len ins ≤ vec_capacity p.sinks.ports) × (vec_len ins ≤ vec_capacity p.sinks.out)) }
+    ensures ingress { IfOk result (λ p. (p.ingress.ports.items ≡ []) × (p.ingress.outcomes.items ≡ [])
+        × (p.ingress.stops.items ≡ []) × (vec_len ins ≤ vec_capacity p.ingress.ports)
+        × (vec_len ins ≤ vec_capacity p.ingress.outcomes) × (vec_len ins ≤ vec_capacity p.ingress.stops)) }
+    ensures egress { IfOk result (λ p. (p.egress.ports.items ≡ []) × (p.egress.out.items ≡ [])
+        × (vec_len ins ≤ vec_capacity p.egress.ports) × (vec_len ins ≤ vec_capacity p.egress.out)) }
 {
     let ports = ins.len();
     Ok(Prepared {
@@ -54,12 +54,12 @@ pub(super) fn prepare<I: Iterator>(
         taken: Vec::with_capacity(alloc, ports)?,
         offerings: offerings(alloc, limits, ins, inputs, sizes)?,
         done: Vec::with_capacity(alloc, ports)?,
-        sources: Sources {
+        ingress: IngressPorts {
             ports: Vec::with_capacity(alloc, ports)?,
             outcomes: Vec::with_capacity(alloc, ports)?,
             stops: Vec::with_capacity(alloc, ports)?,
         },
-        sinks: Sinks {
+        egress: EgressPorts {
             ports: Vec::with_capacity(alloc, ports)?,
             out: Vec::with_capacity(alloc, ports)?,
         },
@@ -125,10 +125,10 @@ fn most_taken(limits: Limits, size: usize) -> usize
 }
 
 /// How many copies the other ports place for a port at most.
-fn most_copies(limits: Limits, sizes: &[usize], own: usize) -> usize {
+fn most_copies(limits: Limits, sizes: &[usize], egress: usize) -> usize {
     let mut copies: usize = 0;
     for (port, size) in sizes.iter().enumerate() {
-        if port != own {
+        if port != egress {
             copies = copies.saturating_add(most_taken(limits, *size));
         }
     }

@@ -61,7 +61,7 @@ fn pause(lane: u32) {
 fn take_one(port: &mut PortOut, out: &mut Vec<FrameCopy>) -> bool
     ensures end { end_out port.new ≡ end_out port.old }
     ensures taken { MatchBool result
-        ((copy : FrameCopy) × (source : ℕ) × Sends source port.old copy port.new × (out.new.items ≡ out.old.items ++ copy ∷ []))
+        ((copy : FrameCopy) × (ingress : ℕ) × Sends ingress port.old copy port.new × (out.new.items ≡ out.old.items ++ copy ∷ []))
         ((port.new ≡ port.old) × (out.new.items ≡ out.old.items)) }
 {
     if out.len() >= out.capacity() {

@@ -43,8 +43,8 @@ start_taking-requires-clause-new g c κs within = λ k d below.
     c.in-Ok.ensures.opened.ends c.in-Ok-prepare.ensures.ports k d below in
     (ready.0, c.in-Ok-prepare.ensures.empty k d below)
 
-pub gather-sources-requires-clause-room : goal.gather-sources-requires-clause-room
-gather-sources-requires-clause-room g c =
+pub gather-ingress-requires-clause-room : goal.gather-ingress-requires-clause-room
+gather-ingress-requires-clause-room g c =
     let R : Offering g.row.I.Denot → Done → Type 0 = λ o one. IsDone g.I.Iterator.next_gives o.port o.input one in
     let offerings = c.in-Ok-prepare.prepared.offerings.items in
     let many = pairwise_length R offerings c.in-Some.done.items c.in-Some.ensures.done in
@@ -52,14 +52,14 @@ gather-sources-requires-clause-room g c =
     let ports = length-map offerings (λ (o : Offering g.row.I.Denot). o.port) in
     let ins = ap length c.in-Ok-prepare.ensures.ports in
     let size = c.in-Ok.parts.ins.ok.0 in
-    let room = c.in-Ok-prepare.ensures.sources in
+    let room = c.in-Ok-prepare.ensures.ingress in
     let first = room.3 in
     let second = room.4 in
     let third = room.5 in
     (omega arith, omega arith, omega arith)
 
-pub gather-sinks-requires-clause-room : goal.gather-sinks-requires-clause-room
-gather-sinks-requires-clause-room g c =
+pub gather-egress-requires-clause-room : goal.gather-egress-requires-clause-room
+gather-egress-requires-clause-room g c =
     let R : Taking → Taking → Type 0 = λ t one. HasTaken t.port one in
     let takings = c.in-Ok-prepare.prepared.takings.items in
     let many = pairwise_length R takings c.in-Some.taken.items c.in-Some.ensures.taken in
@@ -70,7 +70,7 @@ gather-sinks-requires-clause-room g c =
     let ins_many = ends.enough_ins in
     let outs_many = ends.enough_outs in
     let size = c.in-Ok.parts.ins.ok.0 in
-    let room = c.in-Ok-prepare.ensures.sinks in
+    let room = c.in-Ok-prepare.ensures.egress in
     let first = room.2 in
     let second = room.3 in
     (omega arith, omega arith)
@@ -80,12 +80,12 @@ pub close_ends-requires : goal.close_ends-requires
 close_ends-requires g c =
     let parts = c.in-Ok.parts in
     let prepared = c.in-Ok-prepare.prepared in
-    same_gateway parts.operator c.in-Some.published.operator parts.ins.items c.gather-sources.result.ports.items parts.outs.items
-    c.gather-sinks.result.ports.items c.in-Ok.ensures.opened.one c.in-Some.ensures.published.same
-    (ap (λ (l : List Ingress). map end_in l) c.gather-sources.ensures.ports
+    same_gateway parts.operator c.in-Some.published.operator parts.ins.items c.gather-ingress.result.ports.items parts.outs.items
+    c.gather-egress.result.ports.items c.in-Ok.ensures.opened.one c.in-Some.ensures.published.same
+    (ap (λ (l : List Ingress). map end_in l) c.gather-ingress.ensures.ports
     ∙ ends_after_offers g.I.Iterator.next_gives prepared.offerings.items c.in-Some.done.items c.in-Some.ensures.done
     ∙ ap (λ (l : List Ingress). map end_in l) c.in-Ok-prepare.ensures.ports)
-    (ap (λ (l : List Egress). map end_out l) c.gather-sinks.ensures.ports
+    (ap (λ (l : List Egress). map end_out l) c.gather-egress.ensures.ports
     ∙ ends_after_takes prepared.takings.items c.in-Some.taken.items c.in-Some.ensures.taken
     ∙ ap (λ (l : List Egress). map end_out l) c.in-Ok-prepare.ensures.outs)
 
@@ -98,11 +98,11 @@ returns-in-Ok-close_ends-clause-reported g c =
     let closing = some.published.operator in
     let report = c.in-Ok-close_ends.report in
     reported g.I.Iterator.next_gives c.args.limits c.args.first c.args.inputs.items c.args.batches.items (record {
-      outcomes = c.gather-sources.result.outcomes;
-      stops = c.gather-sources.result.stops;
+      outcomes = c.gather-ingress.result.outcomes;
+      stops = c.gather-ingress.result.stops;
       fronts = some.published.fronts;
       refused = some.published.refused;
-      out = c.gather-sinks.result.out;
+      out = c.gather-egress.result.out;
       report = report;
     }) (record {
       operator = parts.operator;
@@ -120,12 +120,12 @@ returns-in-Ok-close_ends-clause-reported g c =
       took = some.ensures.taken;
       closing = closing;
       published = some.ensures.published;
-      outcomes_are = c.gather-sources.ensures.outcomes;
-      stops_are = c.gather-sources.ensures.stops;
-      out_is = c.gather-sinks.ensures.out;
+      outcomes_are = c.gather-ingress.ensures.outcomes;
+      stops_are = c.gather-ingress.ensures.stops;
+      out_is = c.gather-egress.ensures.out;
       closed =
           subst (λ (l : List Ingress). Closes closing l (map (λ (t : Taking). t.port) some.taken.items) report)
-          c.gather-sources.ensures.ports
-          (subst (λ (l : List Egress). Closes closing c.gather-sources.result.ports.items l report) c.gather-sinks.ensures.ports
+          c.gather-ingress.ensures.ports
+          (subst (λ (l : List Egress). Closes closing c.gather-ingress.result.ports.items l report) c.gather-egress.ensures.ports
           c.in-Ok-close_ends.ensures.closed);
     })

@@ -12,7 +12,7 @@ pub loop-port-preserved : goal.loop-port-preserved
 loop-port-preserved c =
     let at = c.loop-port in
     let inv = at.invariant in
-    let source = inv.0 in
+    let ingress = inv.0 in
     let row = c.in-Some.port.lanes in
     let rows = rows_of (into_iter_items c.next.new.self) in
     let old = at.columns.items in
@@ -33,23 +33,25 @@ loop-port-preserved c =
     with_items_is at.columns new (size ∙ sym at.columns.ok.0) in
     let now : map into_iter_items (take at.columns.len (new ++ drop (length new) old)) ≡ tails columns =
     ap (λ l. map into_iter_items l) items ∙ tail in
-    let one : Finishes (lanes_to source 0 row (heads columns)) rooms rooms' lefts lefts' =
-    subst (λ (r : List (Option Inlet)). Finishes (lanes_to source 0 r (heads columns)) rooms rooms' lefts lefts')
+    let one : Finishes (lanes_to ingress 0 row (heads columns)) rooms rooms' lefts lefts' =
+    subst (λ (r : List (Option Inlet)). Finishes (lanes_to ingress 0 r (heads columns)) rooms rooms' lefts lefts')
     c.into_lanes.ensures
-    (subst (λ l. Finishes (lanes_to source 0 c.into_lanes.result.items (heads (map into_iter_items l))) rooms rooms' lefts lefts')
+    (subst (λ l. Finishes (lanes_to ingress 0 c.into_lanes.result.items (heads (map into_iter_items l))) rooms rooms' lefts
+    lefts')
     value
-    (c.finish_from.ensures.left source)) in
+    (c.finish_from.ensures.left ingress)) in
     let match = subst (λ (r : List (List (Option Inlet))). Match r columns) next inv.1 in
-    let are = subst (λ (r : List (List (Option Inlet))). AreRooms (lanes_of source r columns) rooms) next inv.2 in
+    let are = subst (λ (r : List (List (Option Inlet))). AreRooms (lanes_of ingress r columns) rooms) next inv.2 in
     let goes =
-    port_goes_on source row rows columns (map into_iter_items (take at.columns.len (new ++ drop (length new) old))) rooms rooms'
+    port_goes_on ingress row rows columns (map into_iter_items (take at.columns.len (new ++ drop (length new) old))) rooms rooms'
     lefts lefts' match are one now in (
-      suc source,
+      suc ingress,
       goes.0,
       goes.1,
       (λ rooms'' lefts'' others.
           inv.3 rooms'' lefts''
-          (subst (λ (r : List (List (Option Inlet))). Finishes (lanes_of source r columns) rooms rooms'' lefts lefts'') (sym next)
+          (subst (λ (r : List (List (Option Inlet))). Finishes (lanes_of ingress r columns) rooms rooms'' lefts lefts'')
+          (sym next)
           (goes.2 rooms'' lefts'' others))),
       c.finish_from.ensures.enough,
     )

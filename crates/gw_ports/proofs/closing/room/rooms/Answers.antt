@@ -7,8 +7,8 @@ use Rattle.gw_ports.specs.declared.closing.LaneLeft.{LaneLeft}
 use Rattle.gw_ports.proofs.Rooms.{AllDone, all_end, columns_from, columns_from_first, no_rows, rooms_go_on, row_pairs}
 use Rattle.gw_ports.proofs.closing.room.rooms.Goals as goal
 
-pub loop-source-init : goal.loop-source-init
-loop-source-init c =
+pub loop-ingress-init : goal.loop-ingress-init
+loop-ingress-init c =
     let rows = rows_of c.args.ins.now in
     let outs = c.args.outs.now in
     let first : columns_of outs ≡ columns_from 0 outs = sym (columns_from_first outs) in
@@ -25,26 +25,27 @@ loop-source-init c =
 
 pub rooms_from-requires-clause-lanes : goal.rooms_from-requires-clause-lanes
 rooms_from-requires-clause-lanes c =
-    let at = c.loop-source in
-    let inside : at.source < length c.args.ins.now = let s = at.auto.ins in let t = c.loop-source-test.true in omega arith in
+    let at = c.loop-ingress in
+    let inside : at.ingress < length c.args.ins.now = let s = at.auto.ins in let t = c.loop-ingress-test.true in omega arith in
     rw (at.invariant.0, at.invariant.1)
-    (row_pairs at.source c.args.ins.now c.args.outs.now c.index-ins-source.result inside at.invariant.2)
+    (row_pairs at.ingress c.args.ins.now c.args.outs.now c.index-ins-ingress.result inside at.invariant.2)
 
-pub loop-source-preserved : goal.loop-source-preserved
-loop-source-preserved c =
-    let at = c.loop-source in
+pub loop-ingress-preserved : goal.loop-ingress-preserved
+loop-ingress-preserved c =
+    let at = c.loop-ingress in
     let ins = c.args.ins.now in
     let outs = c.args.outs.now in
-    let d = c.index-ins-source.result in
-    let inside : at.source < length ins = let s = at.auto.ins in let t = c.loop-source-test.true in omega arith in
+    let d = c.index-ins-ingress.result in
+    let inside : at.ingress < length ins = let s = at.auto.ins in let t = c.loop-ingress-test.true in omega arith in
     let all = lanes_of 0 (rows_of ins) (columns_of outs) in
     let rooms = c.in_ok-rooms_from.ensures.rooms in
-    let each : EachOf IsRoomOf (lanes_to at.source 0 (slice_index_or ins at.source d).lanes (column_at at.source outs)) rooms.0 =
+    let each : EachOf IsRoomOf (lanes_to at.ingress 0 (slice_index_or ins at.ingress d).lanes (column_at at.ingress outs))
+    rooms.0 =
     rw (sym at.invariant.0, sym at.invariant.1) rooms.2 in
     let goes =
-    rooms_go_on at.source ins outs d all at.rooms.items rooms.0 c.rooms_from.new.rooms.items inside at.invariant.2 at.invariant.3
+    rooms_go_on at.ingress ins outs d all at.rooms.items rooms.0 c.rooms_from.new.rooms.items inside at.invariant.2 at.invariant.3
     each rooms.1 in (
-      ap (λ x. slice_set at.ins at.source x) c.rooms_from.ensures.same.0 ∙ set-get_or at.ins at.source d ∙ at.invariant.0,
+      ap (λ x. slice_set at.ins at.ingress x) c.rooms_from.ensures.same.0 ∙ set-get_or at.ins at.ingress d ∙ at.invariant.0,
       c.rooms_from.ensures.same.1 ∙ at.invariant.1,
       goes.0,
       goes.1,
@@ -52,11 +53,11 @@ loop-source-preserved c =
 
 pub returns-clause-rooms : goal.returns-clause-rooms
 returns-clause-rooms c =
-    let at = c.loop-source in
+    let at = c.loop-ingress in
     let ins = c.args.ins.now in
     let outs = c.args.outs.now in
-    let past : length ins ≤ at.source = let s = at.auto.ins in let t = c.loop-source-test.false in omega arith in
-    all_end IsRoomOf at.source (lanes_of 0 (rows_of ins) (columns_of outs)) (columns_from at.source outs) at.rooms.items
-    (subst (λ r. AllDone IsRoomOf at.source (lanes_of 0 (rows_of ins) (columns_of outs)) r (columns_from at.source outs)
+    let past : length ins ≤ at.ingress = let s = at.auto.ins in let t = c.loop-ingress-test.false in omega arith in
+    all_end IsRoomOf at.ingress (lanes_of 0 (rows_of ins) (columns_of outs)) (columns_from at.ingress outs) at.rooms.items
+    (subst (λ r. AllDone IsRoomOf at.ingress (lanes_of 0 (rows_of ins) (columns_of outs)) r (columns_from at.ingress outs)
     at.rooms.items)
-    (no_rows at.source ins past) at.invariant.3)
+    (no_rows at.ingress ins past) at.invariant.3)

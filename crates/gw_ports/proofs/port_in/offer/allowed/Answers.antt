@@ -5,17 +5,18 @@ use Rattle.gw_ports.proofs.Judging.{none_yet, one_more_passes, one_more_blocked}
 use Rattle.gw_ports.proofs.port_in.offer.allowed.Goals as goal
 use Rattle.gw_ports.proofs.port_in.offer.allowed.Goals.{then-may_leave, else-may_leave}
 
-pub loop-port-init : goal.loop-port-init
-loop-port-init c = c.new-allowed.ensures
-    ∙ none_yet (λ port. not (port == c.args.own) && passes (policy_at port c.args.set.now) c.args.frame.now c.args.own)
+pub loop-egress-init : goal.loop-egress-init
+loop-egress-init c = c.new-allowed.ensures
+    ∙ none_yet (λ egress. not (egress == c.args.ingress) && passes (policy_at egress c.args.set.now) c.args.frame.now
+    c.args.ingress)
 
-pub loop-port-preserved : goal.loop-port-preserved
-loop-port-preserved c =
-    let test : ℕ → Bool = λ port. not (port == c.args.own) && passes (policy_at port c.args.set.now) c.args.frame.now
-    c.args.own in
+pub loop-egress-preserved : goal.loop-egress-preserved
+loop-egress-preserved c =
+    let test : ℕ → Bool = λ egress. not (egress == c.args.ingress) && passes (policy_at egress c.args.set.now) c.args.frame.now
+    c.args.ingress in
     elim c.if-may_leave.branch [
-      | then-may_leave w ↦ w.allowed-is ∙ one_more_passes c.loop-port.port test c.loop-port.allowed w.add.new.self
-          c.loop-port.invariant (sym c.may_leave.ensures ∙ w.if-may_leave.true) w.add.ensures.greatest
-      | else-may_leave w ↦ w.allowed-is ∙ one_more_blocked c.loop-port.port test c.loop-port.allowed c.loop-port.invariant
+      | then-may_leave w ↦ w.allowed-is ∙ one_more_passes c.loop-egress.egress test c.loop-egress.allowed w.add.new.self
+          c.loop-egress.invariant (sym c.may_leave.ensures ∙ w.if-may_leave.true) w.add.ensures.greatest
+      | else-may_leave w ↦ w.allowed-is ∙ one_more_blocked c.loop-egress.egress test c.loop-egress.allowed c.loop-egress.invariant
           (sym c.may_leave.ensures ∙ w.if-may_leave.false)
     ]

@@ -2,7 +2,7 @@ use Rattle.std.proofs.Common.{◌≡◌, ◌++◌, ◌∷◌, ◌<◌, [], List,
 use Rattle.gw_lanes.specs.Ends.{Outlet}
 use Rattle.gw_ports.specs.Ends.{HasLanes, CountsSent}
 use Rattle.gw_ports.proofs.Placing.{has_one_more}
-use Rattle.gw_ports.proofs.Counting.{one_more_source}
+use Rattle.gw_ports.proofs.Counting.{one_more_ingress}
 use Rattle.gw_ports.proofs.port_out.PortOut.add.Goals as goal
 
 pub invariant_of-self-2 : goal.invariant_of-self-2
@@ -18,6 +18,6 @@ invariant_of-self-2 c =
           (λ last. c.requires.none (sym size ∙ last ∙ port))
           (λ apart. c.requires.there (λ last. apart (size ∙ last ∙ sym port)))),
       subst (λ (l : List (Option Outlet)). CountsSent inside.ledger l) (sym items)
-          (one_more_source inside.ledger inside.lanes.items lane c.self.invariant.1 c.requires.new),
+          (one_more_ingress inside.ledger inside.lanes.items lane c.self.invariant.1 c.requires.new),
       c.self.invariant.2,
     )

@@ -9,14 +9,14 @@ use Rattle.gw_ports.proofs.Counting.{one_more_sent}
 use Rattle.gw_ports.proofs.OneGateway.{rings_stay_below}
 use Rattle.gw_ports.proofs.port_out.PortOut.next_from.Goals as goal
 
--- The copy left the lane of the source that was asked for, and is counted there.
+-- The copy left the lane of the ingress port that was asked for, and is counted there.
 pub invariant_of-self-2 : goal.invariant_of-self-2
 invariant_of-self-2 c =
     let inside = c.self.inside in
     let old = inside.lanes.items in
     let new = c.take.new.lanes in
     let copy = c.in_ok-copy.copy in
-    let port = c.args.port in
+    let port = c.args.ingress in
     let pops : PopsFrom port old copy new =
     subst (λ n. PopsFrom n old copy new) c.from.ensures
     (subst (λ (l : List (Option Outlet)). PopsFrom c.from.result l copy new) c.deref_mut.ensures.value c.in_ok-copy.ensures) in
