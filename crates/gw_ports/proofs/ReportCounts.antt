@@ -13,8 +13,8 @@ use Rattle.gw_ports.specs.Making.{nothing_counted}
 use Rattle.gw_ports.specs.Runs.{IsRun}
 use Rattle.gw_ports.specs.Reports.{and_sent, frames_of, sent_by}
 use Rattle.gw_ports.specs.declared.running.RunReport.{RunReport}
-use Rattle.gw_ports.specs.declared.running.offering.Done.{Done}
-use Rattle.gw_ports.specs.declared.running.taking.Taking.{Taking}
+use Rattle.gw_ports.specs.declared.running.feed.Done.{Done}
+use Rattle.gw_ports.specs.declared.running.drain.Drain.{Drain}
 use Rattle.gw_ports.proofs.Copied.{AreOwn, sent_counted}
 use Rattle.gw_ports.proofs.Elementwise.{maps_agree}
 use Rattle.gw_ports.proofs.Judged.{outcomes_counted}
@@ -39,7 +39,7 @@ module _ {S : Type 0} {steps : S → Option (List ℕ) → S → Type 0} {limits
       let it = port_in k (omega arith) in
       let same = sym (is x) ∙ it.one_is x in
       ap (λ (d : Done). d.port.ledger) same
-      ∙ outcomes_counted [] it.offering.port it.did.frames it.one.outcomes.items it.one.port it.did.done
+      ∙ outcomes_counted [] it.feed.port it.did.frames it.one.outcomes.items it.one.port it.did.done
       ∙ ap (λ (l : InLedger). fold ledger_with l it.one.outcomes.items) it.new.ledger
       ∙ ap (λ (d : Done). counts_of d.outcomes) (sym same))
       ∙ ap (λ (l : List (Vec Outcome Global)). map counts_of l) (sym run.outcomes_are)
@@ -49,14 +49,14 @@ module _ {S : Type 0} {steps : S → Option (List ℕ) → S → Type 0} {limits
       → report.report.outs.items ≡ map (λ copies. sent_by copies.items) report.out.items
   sent port_out own =
       run.closed.sent
-      ∙ maps_agree (λ (x : Taking). x.port) (λ (e : Egress). e.ledger) (λ (x : Taking). x.out) sent_of run.taken
+      ∙ maps_agree (λ (x : Drain). x.port) (λ (e : Egress). e.ledger) (λ (x : Drain). x.out) sent_of run.drained
       (λ k x below is.
       let n = (many_outs run).1 in
       let inside : k < limits.ports = omega arith in
       let it = port_out k inside in
       let same = sym (is x) ∙ it.after_is x in
-      ap (λ (t : Taking). t.port.ledger) same
+      ap (λ (t : Drain). t.port.ledger) same
       ∙ sent_counted it.before.port it.after.out.items it.after.port it.took.takes (own k inside)
       ∙ ap (λ (l : OutLedger). fold and_sent l it.after.out.items) (ap (λ (e : Egress). e.ledger) it.new)
-      ∙ ap (λ (t : Taking). sent_of t.out) (sym same))
+      ∙ ap (λ (t : Drain). sent_of t.out) (sym same))
       ∙ ap (λ (l : List (Vec FrameCopy Global)). map sent_of l) (sym run.out_is)

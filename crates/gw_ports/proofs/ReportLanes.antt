@@ -19,8 +19,8 @@ use Rattle.gw_ports.specs.Runs.{IsRun}
 use Rattle.gw_ports.specs.Reports.{copies_of, copies_to, frames_of, from_port, lanes_between, outcomes_of}
 use Rattle.gw_ports.specs.declared.closing.LaneLeft.{LaneLeft}
 use Rattle.gw_ports.specs.declared.running.RunReport.{RunReport}
-use Rattle.gw_ports.specs.declared.running.offering.Done.{Done}
-use Rattle.gw_ports.specs.declared.running.taking.Taking.{Taking}
+use Rattle.gw_ports.specs.declared.running.feed.Done.{Done}
+use Rattle.gw_ports.specs.declared.running.drain.Drain.{Drain}
 use Rattle.gw_ports.proofs.Copied.{AreOwn, copies_of_more, placed_from, placed_list, placed_to, taken_from_port, taken_list}
 use Rattle.gw_ports.proofs.Elementwise.{pairwise_at, there}
 use Rattle.gw_ports.proofs.Judged.{as_many_outcomes}
@@ -37,21 +37,21 @@ module _ {S : Type 0} {steps : S → Option (List ℕ) → S → Type 0} {limits
     {batches : List (List Pair)} {report : RunReport} (run : IsRun steps limits first inputs batches report) where
   -- the ports out
 
-  pub many_outs : (length run.takings ≡ limits.ports) × (length run.taken ≡ limits.ports)
+  pub many_outs : (length run.drains ≡ limits.ports) × (length run.drained ≡ limits.ports)
   many_outs =
-      let ports = length-map run.takings (λ (t : Taking). t.port) in
+      let ports = length-map run.drains (λ (t : Drain). t.port) in
       let all = ap length run.outs_are in
       let outs = run.opened.ends.enough_outs in
-      let taken = pairwise_length (λ (t one : Taking). HasTaken t.port one) run.takings run.taken run.took in
+      let drained = pairwise_length (λ (t one : Drain). HasTaken t.port one) run.drains run.drained run.took in
       (omega arith, omega arith)
 
   -- a port out, before the run and after it: it was new, and nothing was taken from its lanes
   pub record PortOutOf (port : ℕ) : Type 0 where
-    pub before : Taking
-    pub before_is : (d : Taking) → get_or run.takings port d ≡ before
+    pub before : Drain
+    pub before_is : (d : Drain) → get_or run.drains port d ≡ before
     pub new : before.port ≡ new_egress port (lanes_from port run.ins)
-    pub after : Taking
-    pub after_is : (d : Taking) → get_or run.taken port d ≡ after
+    pub after : Drain
+    pub after_is : (d : Drain) → get_or run.drained port d ≡ after
     pub took : HasTaken before.port after
     pub copies_are : copies_of report port ≡ after.out.items
 
@@ -60,27 +60,27 @@ module _ {S : Type 0} {steps : S → Option (List ℕ) → S → Type 0} {limits
       let n = many_outs.0 in
       let m = many_outs.1 in
       let many = run.opened.ends.enough_outs in
-      let outs = length-map run.taken (λ (x : Taking). x.out) in
-      let t = there run.takings port (omega arith) in
-      let w = there run.taken port (omega arith) in
+      let outs = length-map run.drained (λ (x : Drain). x.out) in
+      let t = there run.drains port (omega arith) in
+      let w = there run.drained port (omega arith) in
       record {
         before = t.0;
         before_is = t.1;
         new =
             sym (ap (λ (l : List Egress). get_or l port t.0.port) (sym run.outs_are)
-            ∙ get_or-map (λ (x : Taking). x.port) run.takings port t.0 t.0.port (omega arith)
-            ∙ ap (λ (x : Taking). x.port) (t.1 t.0))
+            ∙ get_or-map (λ (x : Drain). x.port) run.drains port t.0 t.0.port (omega arith)
+            ∙ ap (λ (x : Drain). x.port) (t.1 t.0))
             ∙ run.opened.ends.egress port t.0.port (omega arith);
         after = w.0;
         after_is = w.1;
         took =
-            pairwise_at (λ (x one : Taking). HasTaken x.port one) run.takings run.taken port t.0 w.0 run.took (omega arith)
+            pairwise_at (λ (x one : Drain). HasTaken x.port one) run.drains run.drained port t.0 w.0 run.took (omega arith)
             t.1 w.1;
         copies_are =
             ap (λ (l : List (Vec FrameCopy Global)). get_or (map copy_list l) port []) run.out_is
-            ∙ get_or-map copy_list (map (λ (x : Taking). x.out) run.taken) port w.0.out [] (omega arith)
-            ∙ ap copy_list (get_or-map (λ (x : Taking). x.out) run.taken port w.0 w.0.out (omega arith)
-            ∙ ap (λ (x : Taking). x.out) (w.1 w.0));
+            ∙ get_or-map copy_list (map (λ (x : Drain). x.out) run.drained) port w.0.out [] (omega arith)
+            ∙ ap copy_list (get_or-map (λ (x : Drain). x.out) run.drained port w.0 w.0.out (omega arith)
+            ∙ ap (λ (x : Drain). x.out) (w.1 w.0));
       }
 
   out_is : (q : ℕ) (below : q < limits.ports)
@@ -89,8 +89,8 @@ module _ {S : Type 0} {steps : S → Option (List ℕ) → S → Type 0} {limits
       let n = many_outs.0 in
       let it = port_out q below in
       ap (λ (l : List Egress). get_or l q it.before.port) (sym run.outs_are)
-      ∙ get_or-map (λ (x : Taking). x.port) run.takings q it.before it.before.port (omega arith)
-      ∙ ap (λ (x : Taking). x.port) (it.before_is it.before)
+      ∙ get_or-map (λ (x : Drain). x.port) run.drains q it.before it.before.port (omega arith)
+      ∙ ap (λ (x : Drain). x.port) (it.before_is it.before)
 
   nothing_taken : (q : ℕ) (below : q < limits.ports) (s : ℕ)
       → taken_list (lane_at (port_out q below).before.port.lanes s) ≡ []
@@ -103,17 +103,17 @@ module _ {S : Type 0} {steps : S → Option (List ℕ) → S → Type 0} {limits
   rows = rows_of (map (λ (x : Done). x.port) run.done)
 
   columns : List (List (Option Outlet))
-  columns = columns_of (map (λ (x : Taking). x.port) run.taken)
+  columns = columns_of (map (λ (x : Drain). x.port) run.drained)
 
   column_is : (q : ℕ) (below : q < limits.ports) → get_or columns q [] ≡ (port_out q below).after.port.lanes
   unfolding columns
   column_is q below =
       let n = many_outs.1 in
-      let ports = length-map run.taken (λ (x : Taking). x.port) in
+      let ports = length-map run.drained (λ (x : Drain). x.port) in
       let it = port_out q below in
-      get_or-map (λ (e : Egress). e.lanes) (map (λ (x : Taking). x.port) run.taken) q it.after.port [] (omega arith)
-      ∙ ap (λ (e : Egress). e.lanes) (get_or-map (λ (x : Taking). x.port) run.taken q it.after it.after.port (omega arith)
-      ∙ ap (λ (x : Taking). x.port) (it.after_is it.after))
+      get_or-map (λ (e : Egress). e.lanes) (map (λ (x : Drain). x.port) run.drained) q it.after.port [] (omega arith)
+      ∙ ap (λ (e : Egress). e.lanes) (get_or-map (λ (x : Drain). x.port) run.drained q it.after it.after.port (omega arith)
+      ∙ ap (λ (x : Drain). x.port) (it.after_is it.after))
 
   column_width : (q : ℕ) (below : q < limits.ports) → length (port_out q below).after.port.lanes ≡ limits.ports
   column_width q below =
@@ -133,8 +133,8 @@ module _ {S : Type 0} {steps : S → Option (List ℕ) → S → Type 0} {limits
   enough_columns : length columns ≡ limits.ports
   unfolding columns
   enough_columns =
-      length-map (map (λ (x : Taking). x.port) run.taken) (λ (e : Egress). e.lanes)
-      ∙ length-map run.taken (λ (x : Taking). x.port) ∙ many_outs.1
+      length-map (map (λ (x : Drain). x.port) run.drained) (λ (e : Egress). e.lanes)
+      ∙ length-map run.drained (λ (x : Drain). x.port) ∙ many_outs.1
 
   lefts_are : AreLeft (lanes_of 0 rows columns) report.report.lanes.items
   unfolding rows columns
@@ -156,7 +156,7 @@ module _ {S : Type 0} {steps : S → Option (List ℕ) → S → Type 0} {limits
         let it = port_in p below in
         sym (length-map it.one.port.lanes ring_to)
         ∙ ap (λ (x : EndIn). length x.rings) it.did.same
-        ∙ length-map it.offering.port.lanes ring_to ∙ it.new.lanes.0
+        ∙ length-map it.feed.port.lanes ring_to ∙ it.new.lanes.0
 
     -- what was placed on the lane between two ports
     placed_is : (p : ℕ) (below : p < limits.ports) (q : ℕ) → placed_list (lane_at (port_in p below).one.port.lanes q)
@@ -164,9 +164,9 @@ module _ {S : Type 0} {steps : S → Option (List ℕ) → S → Type 0} {limits
     placed_is p below q =
         let it = port_in p below in
         let given = it.did.frames in
-        placed_to q [] it.offering.port given it.one.outcomes.items it.one.port it.did.done
-        ∙ ap (λ (l : List FrameCopy). l ++ copies_to it.offering.port.port q given it.one.outcomes.items)
-        (none_placed limits.lane it.offering.port.lanes it.new.empty q)
+        placed_to q [] it.feed.port given it.one.outcomes.items it.one.port it.did.done
+        ∙ ap (λ (l : List FrameCopy). l ++ copies_to it.feed.port.port q given it.one.outcomes.items)
+        (none_placed limits.lane it.feed.port.lanes it.new.empty q)
         ∙ ap (λ n. copies_to n q given it.one.outcomes.items) it.new.number
 
     -- both ends of a lane are of one ring
@@ -175,7 +175,7 @@ module _ {S : Type 0} {steps : S → Option (List ℕ) → S → Type 0} {limits
     rings_match p q below below' =
         let it = port_in p below in
         let to = port_out q below' in
-        let i = it.offering.port in
+        let i = it.feed.port in
         let e = to.before.port in
         let ins = run.opened.ends.enough_ins in
         let outs = run.opened.ends.enough_outs in
@@ -198,14 +198,14 @@ module _ {S : Type 0} {steps : S → Option (List ℕ) → S → Type 0} {limits
         let has = it.new.lanes in
         let size = has.0 in
         let x = lane_at it.one.port.lanes q in
-        let y = lane_at it.offering.port.lanes q in
+        let y = lane_at it.feed.port.lanes q in
         let z = lane_at (port_out q below').after.port.lanes p in
         let ring : ring_to x ≡ ring_from z = rings_match p q below below' in
         let kept : ring_to x ≡ ring_to y =
         sym (ring_at ring_to refl it.one.port.lanes q) ∙ ap (λ (e : EndIn). lane_at e.rings q) it.did.same
-        ∙ ring_at ring_to refl it.offering.port.lanes q in
+        ∙ ring_at ring_to refl it.feed.port.lanes q in
         record {
-          none = λ same. no_inlet x (kept ∙ ap ring_to (ap (λ n. lane_at it.offering.port.lanes n) same ∙ has.1.none));
+          none = λ same. no_inlet x (kept ∙ ap ring_to (ap (λ n. lane_at it.feed.port.lanes n) same ∙ has.1.none));
           inlets = λ apart. an_inlet x y kept (has.1.others q (omega arith) apart);
           outlets = λ apart. an_outlet z y (sym ring ∙ kept) (has.1.others q (omega arith) apart);
         }
@@ -245,7 +245,7 @@ module _ {S : Type 0} {steps : S → Option (List ℕ) → S → Type 0} {limits
     copied_between p q below below' inlet outlet left is is' copies =
         let it = port_in p below in
         let given = it.did.frames in
-        let many = as_many_outcomes [] it.offering.port given it.one.outcomes.items it.one.port it.did.done in
+        let many = as_many_outcomes [] it.feed.port given it.one.outcomes.items it.one.port it.did.done in
         ap (λ (l : List FrameCopy). l ++ left) (sym (sym (ap taken_list is') ∙ taken_are q below' p))
         ∙ copies ∙ sym (ap placed_list is) ∙ placed_is p below q
         ∙ sym (copies_of_more p q given it.did.whole.0.0 it.one.outcomes.items (omega arith))

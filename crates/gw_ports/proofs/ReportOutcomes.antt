@@ -16,8 +16,8 @@ use Rattle.gw_ports.specs.Reports.{AreJudged, Asks, EndsAt, batches_of, frames_o
 use Rattle.gw_ports.specs.declared.refusals.OfferRefusal.{OfferRefusal}
 use Rattle.gw_ports.specs.declared.refusals.OfferRefusal.TheVariants.{FramesSpent, NoReading}
 use Rattle.gw_ports.specs.declared.running.RunReport.{RunReport}
-use Rattle.gw_ports.specs.declared.running.offering.Done.{Done}
-use Rattle.gw_ports.specs.declared.running.offering.Offering.{Offering}
+use Rattle.gw_ports.specs.declared.running.feed.Done.{Done}
+use Rattle.gw_ports.specs.declared.running.feed.Feed.{Feed}
 use Rattle.gw_ports.proofs.Elementwise.{Chosen, choose, there}
 use Rattle.gw_ports.proofs.Judged.{are_judged, as_many_outcomes, frames_taken, judged_of_more}
 use Rattle.gw_ports.proofs.ReportPublishing.{published_is}
@@ -28,7 +28,7 @@ abbrev pub OffersOf : List (List ℕ) → List (List ℕ) → Option OfferRefusa
 OffersOf frames asked stop =
     IsPrefix frames asked × MatchOption stop (length asked ≡ length frames) (λ why. length asked ≡ length frames + 1)
 
-pub record Did {S : Type 0} (steps : S → Option (List ℕ) → S → Type 0) (o : Offering S) (one : Done) (asked : List (List ℕ))
+pub record Did {S : Type 0} (steps : S → Option (List ℕ) → S → Type 0) (o : Feed S) (one : Done) (asked : List (List ℕ))
     : Type 0 where
   pub asks : Asks steps o.input one.stop asked
   pub frames : List (List ℕ)
@@ -44,7 +44,7 @@ asked_for steps input frames None gave = (frames, gave, (prefix_self frames, ref
 asked_for steps input frames (Some why) gave =
     (frames ++ gave.0 ∷ [], (gave.1, gave.2), ((gave.0 ∷ [], refl), length-append frames (gave.0 ∷ [])))
 
-did_one : {S : Type 0} (steps : S → Option (List ℕ) → S → Type 0) (o : Offering S) (one : Done)
+did_one : {S : Type 0} (steps : S → Option (List ℕ) → S → Type 0) (o : Feed S) (one : Done)
     → IsDone steps o.port o.input one → (asked : List (List ℕ)) × Did steps o one asked
 did_one steps o one is =
     let asked = asked_for steps o.input is.frames one.stop is.gave in (
@@ -66,20 +66,20 @@ items_of v = v.items
 
 module _ {S : Type 0} {steps : S → Option (List ℕ) → S → Type 0} {limits : Bounds} {first : List Pair} {inputs : List S}
     {batches : List (List Pair)} {report : RunReport} (run : IsRun steps limits first inputs batches report) where
-  abbrev IsOne : Offering S → Done → Type 0
+  abbrev IsOne : Feed S → Done → Type 0
   IsOne o one = IsDone steps o.port o.input one
 
   -- there is an end for each port, before the run and after it
-  pub many_ins : (length run.offerings ≡ limits.ports) × (length run.done ≡ limits.ports)
+  pub many_ins : (length run.feeds ≡ limits.ports) × (length run.done ≡ limits.ports)
   many_ins =
-      let ports = length-map run.offerings (λ (o : Offering S). o.port) in
+      let ports = length-map run.feeds (λ (o : Feed S). o.port) in
       let all = ap length run.ports_are in
       let ins = run.opened.ends.enough_ins in
-      let done = pairwise_length IsOne run.offerings run.done run.offered in
+      let done = pairwise_length IsOne run.feeds run.done run.offered in
       (omega arith, omega arith)
 
-  chosen : (cs : List (List (List ℕ))) × (length cs ≡ length run.offerings) × Chosen (Did steps) run.offerings run.done cs
-  chosen = choose IsOne (Did steps) run.offerings run.done (did_one steps) run.offered
+  chosen : (cs : List (List (List ℕ))) × (length cs ≡ length run.feeds) × Chosen (Did steps) run.feeds run.done cs
+  chosen = choose IsOne (Did steps) run.feeds run.done (did_one steps) run.offered
 
   -- by port, the frames that were asked for
   pub asked_frames : List (List (List ℕ))
@@ -87,20 +87,20 @@ module _ {S : Type 0} {steps : S → Option (List ℕ) → S → Type 0} {limits
 
   -- a port in, before the run and after it, and what it reports
   pub record PortInOf (port : ℕ) (asked : List (List ℕ)) : Type 0 where
-    pub offering : Offering S
-    pub port_is : (d : Ingress) → get_or run.ins port d ≡ offering.port
-    pub new : IsNewIngress limits.ports limits.frames limits.lane port offering.port
+    pub feed : Feed S
+    pub port_is : (d : Ingress) → get_or run.ins port d ≡ feed.port
+    pub new : IsNewIngress limits.ports limits.frames limits.lane port feed.port
     pub one : Done
     pub one_is : (d : Done) → get_or run.done port d ≡ one
-    pub did : Did steps offering one asked
+    pub did : Did steps feed one asked
     pub outcomes_are : outcomes_of report port ≡ one.outcomes.items
     pub judged : AreJudged limits.ports port (batches_of first batches report) asked (outcomes_of report port)
     pub stopped : EndsAt limits asked (outcomes_of report port) (stop_of report port)
     pub asks : (d : S) → Asks steps (get_or inputs port d) (stop_of report port) asked
 
   module _ (port : ℕ) (below : port < limits.ports) where
-    o : (x : Offering S) × ((d : Offering S) → get_or run.offerings port d ≡ x)
-    o = there run.offerings port (let n = many_ins.0 in omega arith)
+    o : (x : Feed S) × ((d : Feed S) → get_or run.feeds port d ≡ x)
+    o = there run.feeds port (let n = many_ins.0 in omega arith)
 
     one_at : (x : Done) × ((d : Done) → get_or run.done port d ≡ x)
     one_at = there run.done port (let n = many_ins.1 in omega arith)
@@ -115,14 +115,14 @@ module _ {S : Type 0} {steps : S → Option (List ℕ) → S → Type 0} {limits
     ingress_is : (d : Ingress) → get_or run.ins port d ≡ o.0.port
     ingress_is d =
         ap (λ (l : List Ingress). get_or l port d) (sym run.ports_are)
-        ∙ get_or-map (λ (x : Offering S). x.port) run.offerings port o.0 d (let n = many_ins.0 in omega arith)
-        ∙ ap (λ (x : Offering S). x.port) (o.1 o.0)
+        ∙ get_or-map (λ (x : Feed S). x.port) run.feeds port o.0 d (let n = many_ins.0 in omega arith)
+        ∙ ap (λ (x : Feed S). x.port) (o.1 o.0)
 
     input_is : (d : S) → get_or inputs port d ≡ o.0.input
     input_is d =
         ap (λ (l : List S). get_or l port d) (sym run.inputs_are)
-        ∙ get_or-map (λ (x : Offering S). x.input) run.offerings port o.0 d (let n = many_ins.0 in omega arith)
-        ∙ ap (λ (x : Offering S). x.input) (o.1 o.0)
+        ∙ get_or-map (λ (x : Feed S). x.input) run.feeds port o.0 d (let n = many_ins.0 in omega arith)
+        ∙ ap (λ (x : Feed S). x.input) (o.1 o.0)
 
     new_at : IsNewIngress limits.ports limits.frames limits.lane port o.0.port
     new_at =
@@ -196,7 +196,7 @@ module _ {S : Type 0} {steps : S → Option (List ℕ) → S → Type 0} {limits
     pub port_in : PortInOf port (frames_of asked_frames port)
     unfolding asked
     port_in = record {
-      offering = o.0;
+      feed = o.0;
       port_is = ingress_is;
       new = new_at;
       one = one_at.0;

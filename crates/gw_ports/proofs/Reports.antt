@@ -6,7 +6,7 @@ use Rattle.gw_policy.specs.Batches.{Pair}
 use Rattle.gw_ports.specs.Runs.{IsRun}
 use Rattle.gw_ports.specs.Reports.{IsReportOf}
 use Rattle.gw_ports.specs.declared.running.RunReport.{RunReport}
-use Rattle.gw_ports.specs.declared.running.offering.Done.{Done}
+use Rattle.gw_ports.specs.declared.running.feed.Done.{Done}
 use Rattle.gw_ports.proofs.ReportCounts.{counted, sent}
 use Rattle.gw_ports.proofs.ReportLanes.{copied, lanes_are, own, port_out}
 use Rattle.gw_ports.proofs.ReportOutcomes.{asked_frames, many_ins, port_in}

@@ -16,8 +16,8 @@ use Rattle.gw_ports.specs.Offers.{Offered}
 use Rattle.gw_ports.specs.Sending.{Sends}
 use Rattle.gw_ports.specs.declared.refusals.OfferRefusal.{OfferRefusal}
 use Rattle.gw_ports.specs.declared.refusals.OfferRefusal.TheVariants.{FramesSpent}
-use Rattle.gw_ports.specs.declared.running.offering.Done.{Done}
-use Rattle.gw_ports.specs.declared.running.taking.Taking.{Taking}
+use Rattle.gw_ports.specs.declared.running.feed.Done.{Done}
+use Rattle.gw_ports.specs.declared.running.drain.Drain.{Drain}
 
 -- the frames were offered one after another, each where the one before left the port, and these are their outcomes; `heard` is
 -- what was heard before, newest first
@@ -52,9 +52,9 @@ Takes old [] new = new ≡ old
 Takes old (copy ∷ copies) new = (ingress : ℕ) × (next : Egress) × Sends ingress old copy next × Takes next copies new
 
 -- the port took these copies out
-pub record HasTaken (port : Egress) (taking : Taking) : Type 0 where
-  pub takes : Takes port taking.out.items taking.port
-  pub same : end_out taking.port ≡ end_out port
+pub record HasTaken (port : Egress) (drain : Drain) : Type 0 where
+  pub takes : Takes port drain.out.items drain.port
+  pub same : end_out drain.port ≡ end_out port
 
 -- the operator with more batches published
 abbrev pub with_batches : Publishing → List (List Pair) → Publishing

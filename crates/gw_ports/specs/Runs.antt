@@ -13,9 +13,9 @@ use Rattle.gw_ports.specs.declared.running.RunRefusal.{RunRefusal}
 use Rattle.gw_ports.specs.declared.running.RunRefusal.TheVariants.{NotMade, NoSuchPort, NotPublished, OutOfMemory, NoThread}
 use Rattle.gw_ports.specs.declared.running.RunRefusal.TheVariants.{NoReading}
 use Rattle.gw_ports.specs.declared.running.RunReport.{RunReport}
-use Rattle.gw_ports.specs.declared.running.offering.Done.{Done}
-use Rattle.gw_ports.specs.declared.running.offering.Offering.{Offering}
-use Rattle.gw_ports.specs.declared.running.taking.Taking.{Taking}
+use Rattle.gw_ports.specs.declared.running.feed.Done.{Done}
+use Rattle.gw_ports.specs.declared.running.feed.Feed.{Feed}
+use Rattle.gw_ports.specs.declared.running.drain.Drain.{Drain}
 
 -- the parts of a new gateway of which the first batch is published, and known to each port
 pub record IsOpened (limits : Bounds) (first : List Pair) (operator : Publishing) (ins : List Ingress) (outs : List Egress)
@@ -33,21 +33,21 @@ pub record IsRun {S : Type 0} (steps : S → Option (List ℕ) → S → Type 0)
   pub ins : List Ingress
   pub outs : List Egress
   pub opened : IsOpened limits first operator ins outs
-  pub offerings : List (Offering S)
-  pub ports_are : map (λ offering. offering.port) offerings ≡ ins
-  pub inputs_are : map (λ offering. offering.input) offerings ≡ inputs
+  pub feeds : List (Feed S)
+  pub ports_are : map (λ feed. feed.port) feeds ≡ ins
+  pub inputs_are : map (λ feed. feed.input) feeds ≡ inputs
   pub done : List Done
-  pub offered : Pairwise (λ offering one. IsDone steps offering.port offering.input one) offerings done
-  pub takings : List Taking
-  pub outs_are : map (λ taking. taking.port) takings ≡ outs
-  pub taken : List Taking
-  pub took : Pairwise (λ taking one. HasTaken taking.port one) takings taken
+  pub offered : Pairwise (λ feed one. IsDone steps feed.port feed.input one) feeds done
+  pub drains : List Drain
+  pub outs_are : map (λ drain. drain.port) drains ≡ outs
+  pub drained : List Drain
+  pub took : Pairwise (λ drain one. HasTaken drain.port one) drains drained
   pub closing : Publishing
   pub published : Publishes operator batches report.fronts.items report.refused closing
   pub outcomes_are : report.outcomes.items ≡ map (λ one. one.outcomes) done
   pub stops_are : report.stops.items ≡ map (λ one. one.stop) done
-  pub out_is : report.out.items ≡ map (λ one. one.out) taken
-  pub closed : Closes closing (map (λ one. one.port) done) (map (λ one. one.port) taken) report.report
+  pub out_is : report.out.items ≡ map (λ one. one.out) drained
+  pub closed : Closes closing (map (λ one. one.port) done) (map (λ one. one.port) drained) report.report
 
 -- why there was no run, or no report of one. Whether the first batch names a port that is not there is seen once the gateway is
 -- made, and before all else. 82 is want of memory alone: nothing else stands against the batch at a new operator

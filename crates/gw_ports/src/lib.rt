@@ -2,9 +2,9 @@
 #![tactic(auto)]
 
 mod closing;
+mod enqueue;
 mod gate;
 mod parts;
-mod place;
 mod port_in;
 mod port_out;
 mod refusals;

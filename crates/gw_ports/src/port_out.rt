@@ -99,7 +99,7 @@ impl PortOut {
         ensures sent { MatchOption result (self.new ≡ self.old) (λ copy. Sends ingress self.old copy self.new) }
         ensures other { IfSome result (λ _. (ingress ≢ self.old.port) × (ingress < length self.old.lanes)) }
     {
-        let copy = take(&mut self.lanes, usize::from(ingress))?;
+        let copy = dequeue(&mut self.lanes, usize::from(ingress))?;
         self.ledger.add_sent(ingress);
         Some(copy)
     }
@@ -132,16 +132,16 @@ impl PortOut {
 }
 
 // The oldest copy of a lane, if there is such a lane.
-fn take(lanes: &mut [Option<LaneOut>], ingress: usize) -> Option<FrameCopy>
+fn dequeue(lanes: &mut [Option<LaneOut>], ingress: usize) -> Option<FrameCopy>
     ensures { MatchOption result (lanes.new ≡ lanes.old) (λ copy. PopsFrom ingress lanes.old copy lanes.new) }
 {
     if ingress >= lanes.len() {
         return None;
     }
-    take_from(&mut lanes[ingress])
+    dequeue_from(&mut lanes[ingress])
 }
 
-fn take_from(lane: &mut Option<LaneOut>) -> Option<FrameCopy>
+fn dequeue_from(lane: &mut Option<LaneOut>) -> Option<FrameCopy>
     ensures { MatchOption result (lane.new ≡ lane.old) (λ copy. Pops lane.old copy lane.new) }
 {
     match lane {

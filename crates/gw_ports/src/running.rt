@@ -14,6 +14,7 @@ ghost use Rattle.gw_ports.specs.declared.running.RunRefusal.TheVariants.{OutOfMe
 
 use crate::closing::{CloseRefusal, close_ends};
 use crate::{Gate, MakeRefusal, OfferRefusal, Parts, PortIn, Report, gateway};
+use drain::{Intake, start_drains};
 use gw_board::{ReplaceRefusal, Told};
 use gw_frame::Frame;
 use gw_ledger::{FrameCopy, Limits, Outcome};
@@ -28,13 +29,12 @@ use std::marker::{Send, Sync};
 use std::sync::Wait;
 use std::thread::Threads;
 use std::vec::IntoIter;
-use taking::{Feeding, start_taking};
 
+mod drain;
+mod feed;
 mod gathering;
-mod offering;
 mod publishing;
 mod room;
-mod taking;
 
 /// What a run did.
 #[derive(Drop)]
@@ -192,35 +192,35 @@ pub fn run_from<R: Threads + Wait + Sync, G: Gate, I: Iterator<Item = Frame> + S
         return Err(RunRefusal::OutOfMemory);
     };
     let Prepared {
-        takings,
-        taken,
-        offerings,
+        drains,
+        drained,
+        feeds,
         done,
         ingress,
         egress,
         fronts,
     } = prepared;
-    let feeding = Feeding {
-        ports: offerings,
-        all: done,
+    let intake = Intake {
+        feeds,
+        done,
         publishing: Publishing {
             operator,
             batches,
             fronts,
         },
     };
-    let Some((taken, done, published)) = start_taking(
+    let Some((drained, done, published)) = start_drains(
         rt,
         gate,
         limits.lane(),
-        takings,
-        taken,
-        feeding,
+        drains,
+        drained,
+        intake,
     ) else {
         return Err(RunRefusal::NoThread);
     };
     let ingress = ingress.gather(done);
-    let egress = egress.gather(taken);
+    let egress = egress.gather(drained);
     let parts = Parts {
         operator: published.operator,
         ins: ingress.ports,

@@ -30,7 +30,7 @@ ghost use Rattle.gw_ports.specs.Offers.{Offered};
 ghost use Rattle.gw_ports.specs.declared.refusals.OfferRefusal.TheVariants.{FramesSpent, NoReading};
 
 use super::PortIn;
-use crate::place::place;
+use crate::enqueue::enqueue;
 use crate::refusals::OfferRefusal;
 use gw_board::{NoReading, Watch};
 use gw_frame::Frame;
@@ -63,7 +63,7 @@ impl PortIn {
             number,
             frame,
         };
-        let placed = place(&mut self.lanes, allowed, copy);
+        let placed = enqueue(&mut self.lanes, allowed, copy);
         let outcome = Outcome {
             number,
             front: self.watch.len() as u32,

@@ -1,11 +1,11 @@
 //! Gathers what the threads of a run did, port by port. It takes no memory.
 
-use super::offering::Done;
-use super::taking::Taking;
+use super::drain::Drain;
+use super::feed::Done;
 use crate::{OfferRefusal, PortIn, PortOut};
 use gw_ledger::{FrameCopy, Outcome};
 
-/// The ports in with what became of their frames, by port.
+/// The ingress ports with what became of their frames, by port.
 #[derive(Drop)]
 pub(super) struct IngressPorts {
     pub ports: Vec<PortIn>,
@@ -42,7 +42,7 @@ impl IngressPorts {
     }
 }
 
-/// The ports out with the copies that were taken there, by port.
+/// The egress ports with the copies that were taken out there, by port.
 #[derive(Drop)]
 pub(super) struct EgressPorts {
     pub ports: Vec<PortOut>,
@@ -52,14 +52,14 @@ pub(super) struct EgressPorts {
 impl EgressPorts {
     ghost use Rattle.std.specs.Prelude.{◌≡◌, ◌≤◌, [], map, vec_capacity, vec_len};
 
-    pub fn gather(self, taken: Vec<Taking>) -> EgressPorts
+    pub fn gather(self, drained: Vec<Drain>) -> EgressPorts
         requires empty { (self.ports.items ≡ []) × (self.out.items ≡ []) }
-        requires room { (vec_len taken ≤ vec_capacity self.ports) × (vec_len taken ≤ vec_capacity self.out) }
-        ensures ports { result.ports.items ≡ map (λ one. one.port) taken.items }
-        ensures out { result.out.items ≡ map (λ one. one.out) taken.items }
+        requires room { (vec_len drained ≤ vec_capacity self.ports) × (vec_len drained ≤ vec_capacity self.out) }
+        ensures ports { result.ports.items ≡ map (λ one. one.port) drained.items }
+        ensures out { result.out.items ≡ map (λ one. one.out) drained.items }
     {
         let EgressPorts { mut ports, mut out } = self;
-        for one in taken {
+        for one in drained {
             ports.push_reserved(one.port);
             out.push_reserved(one.out);
         }

@@ -3,9 +3,9 @@
 ghost use Rattle.std.specs.Prelude.{◌≡◌, ◌<◌, ◌≤◌, ℕ, [], All, IfOk, length, map, min, slice_index, slice_index_or};
 ghost use Rattle.std.specs.Prelude.{vec_capacity, vec_len};
 
+use super::drain::Drain;
+use super::feed::{Done, Feed};
 use super::gathering::{EgressPorts, IngressPorts};
-use super::offering::{Done, Offering};
-use super::taking::Taking;
 use crate::{PortIn, PortOut};
 use gw_ledger::Limits;
 use std::alloc::{AllocError, Global};
@@ -13,9 +13,9 @@ use std::alloc::{AllocError, Global};
 /// What the threads of a run begin with.
 #[derive(Drop)]
 pub(super) struct Prepared<I> {
-    pub takings: Vec<Taking>,
-    pub taken: Vec<Taking>,
-    pub offerings: Vec<Offering<I>>,
+    pub drains: Vec<Drain>,
+    pub drained: Vec<Drain>,
+    pub feeds: Vec<Feed<I>>,
     pub done: Vec<Done>,
     pub ingress: IngressPorts,
     pub egress: EgressPorts,
@@ -32,15 +32,15 @@ pub(super) fn prepare<I: Iterator>(
     batches: usize,
 ) -> Result<Prepared<I>, AllocError>
     requires count { (vec_len inputs ≡ vec_len ins) × (length sizes.now ≡ vec_len ins) × (vec_len outs ≡ vec_len ins) }
-    ensures ports { IfOk result (λ p. map (λ o. o.port) p.offerings.items ≡ ins.items) }
-    ensures inputs { IfOk result (λ p. map (λ o. o.input) p.offerings.items ≡ inputs.items) }
-    ensures empty { IfOk result (λ p. All (λ o. o.outcomes.items ≡ []) p.offerings.items) }
-    ensures room { IfOk result (λ p. (k : ℕ) (d : Offering I) → k < length p.offerings.items
-        → min (slice_index sizes.now k) limits.frames ≤ vec_capacity (slice_index_or p.offerings.items k d).outcomes) }
-    ensures outs { IfOk result (λ p. map (λ t. t.port) p.takings.items ≡ outs.items) }
-    ensures takings { IfOk result (λ p. All (λ t. t.out.items ≡ []) p.takings.items) }
+    ensures ports { IfOk result (λ p. map (λ o. o.port) p.feeds.items ≡ ins.items) }
+    ensures inputs { IfOk result (λ p. map (λ o. o.input) p.feeds.items ≡ inputs.items) }
+    ensures empty { IfOk result (λ p. All (λ o. o.outcomes.items ≡ []) p.feeds.items) }
+    ensures room { IfOk result (λ p. (k : ℕ) (d : Feed I) → k < length p.feeds.items
+        → min (slice_index sizes.now k) limits.frames ≤ vec_capacity (slice_index_or p.feeds.items k d).outcomes) }
+    ensures outs { IfOk result (λ p. map (λ t. t.port) p.drains.items ≡ outs.items) }
+    ensures drains { IfOk result (λ p. All (λ t. t.out.items ≡ []) p.drains.items) }
     ensures done { IfOk result (λ p. (p.done.items ≡ []) × (vec_len ins ≤ vec_capacity p.done)) }
-    ensures taken { IfOk result (λ p. (p.taken.items ≡ []) × (vec_len ins ≤ vec_capacity p.taken)) }
+    ensures drained { IfOk result (λ p. (p.drained.items ≡ []) × (vec_len ins ≤ vec_capacity p.drained)) }
     ensures fronts { IfOk result (λ p. (p.fronts.items ≡ []) × (batches ≤ vec_capacity p.fronts)) }
     ensures ingress { IfOk result (λ p. (p.ingress.ports.items ≡ []) × (p.ingress.outcomes.items ≡ [])
         × (p.ingress.stops.items ≡ []) × (vec_len ins ≤ vec_capacity p.ingress.ports)
@@ -50,9 +50,9 @@ pub(super) fn prepare<I: Iterator>(
 {
     let ports = ins.len();
     Ok(Prepared {
-        takings: takings(alloc, limits, outs, sizes)?,
-        taken: Vec::with_capacity(alloc, ports)?,
-        offerings: offerings(alloc, limits, ins, inputs, sizes)?,
+        drains: drains(alloc, limits, outs, sizes)?,
+        drained: Vec::with_capacity(alloc, ports)?,
+        feeds: feeds(alloc, limits, ins, inputs, sizes)?,
         done: Vec::with_capacity(alloc, ports)?,
         ingress: IngressPorts {
             ports: Vec::with_capacity(alloc, ports)?,
@@ -67,54 +67,54 @@ pub(super) fn prepare<I: Iterator>(
     })
 }
 
-/// The ports that are to offer, with their inputs and room for as many outcomes as there can be.
-fn offerings<I: Iterator>(
+/// The ingress ports, with their inputs and room for as many outcomes as there can be.
+fn feeds<I: Iterator>(
     alloc: Global,
     limits: Limits,
     ins: Vec<PortIn>,
     inputs: Vec<I>,
     sizes: &[usize],
-) -> Result<Vec<Offering<I>>, AllocError>
+) -> Result<Vec<Feed<I>>, AllocError>
     requires count { (vec_len inputs ≡ vec_len ins) × (length sizes.now ≡ vec_len ins) }
     ensures ports { IfOk result (λ made. map (λ o. o.port) made.items ≡ ins.items) }
     ensures inputs { IfOk result (λ made. map (λ o. o.input) made.items ≡ inputs.items) }
     ensures empty { IfOk result (λ made. All (λ o. o.outcomes.items ≡ []) made.items) }
-    ensures room { IfOk result (λ made. (k : ℕ) (d : Offering I) → k < length made.items
+    ensures room { IfOk result (λ made. (k : ℕ) (d : Feed I) → k < length made.items
         → min (slice_index sizes.now k) limits.frames ≤ vec_capacity (slice_index_or made.items k d).outcomes) }
 {
-    let mut offerings = Vec::with_capacity(alloc, ins.len())?;
+    let mut feeds = Vec::with_capacity(alloc, ins.len())?;
     let mut inputs = inputs.into_iter();
     for port in ins {
         let Some(input) = inputs.next() else {
             unreachable!()
         };
-        let size = sizes[offerings.len()];
+        let size = sizes[feeds.len()];
         let outcomes = Vec::with_capacity(alloc, most_taken(limits, size))?;
-        offerings.push(Offering {
+        feeds.push(Feed {
             port,
             input,
             outcomes,
         })?;
     }
-    Ok(offerings)
+    Ok(feeds)
 }
 
-/// The ports that are to take copies out, with room for those that the others can place.
-fn takings(
+/// The egress ports, with room for those that the others can enqueue.
+fn drains(
     alloc: Global,
     limits: Limits,
     outs: Vec<PortOut>,
     sizes: &[usize],
-) -> Result<Vec<Taking>, AllocError>
+) -> Result<Vec<Drain>, AllocError>
     ensures ports { IfOk result (λ made. map (λ t. t.port) made.items ≡ outs.items) }
     ensures empty { IfOk result (λ made. All (λ t. t.out.items ≡ []) made.items) }
 {
-    let mut takings = Vec::with_capacity(alloc, outs.len())?;
+    let mut drains = Vec::with_capacity(alloc, outs.len())?;
     for port in outs {
-        let out = Vec::with_capacity(alloc, most_copies(limits, sizes, takings.len()))?;
-        takings.push(Taking { port, out })?;
+        let out = Vec::with_capacity(alloc, most_copies(limits, sizes, drains.len()))?;
+        drains.push(Drain { port, out })?;
     }
-    Ok(takings)
+    Ok(drains)
 }
 
 /// How many of so many frames a port takes at most.
@@ -124,7 +124,7 @@ fn most_taken(limits: Limits, size: usize) -> usize
     size.min(limits.frames() as usize)
 }
 
-/// How many copies the other ports place for a port at most.
+/// How many copies the other ports enqueue for an egress port at most.
 fn most_copies(limits: Limits, sizes: &[usize], egress: usize) -> usize {
     let mut copies: usize = 0;
     for (port, size) in sizes.iter().enumerate() {

@@ -4,52 +4,52 @@ use Rattle.std.proofs.lemmas.List.{length-map}
 use Rattle.gw_ports.specs.Closing.{Closes}
 use Rattle.gw_ports.specs.Ends.{Ingress, Egress, end_in, end_out}
 use Rattle.gw_ports.specs.Running.{HasTaken, IsDone}
-use Rattle.gw_ports.specs.declared.running.offering.Done.{Done}
-use Rattle.gw_ports.specs.declared.running.offering.Offering.{Offering}
-use Rattle.gw_ports.specs.declared.running.taking.Taking.{Taking}
+use Rattle.gw_ports.specs.declared.running.feed.Done.{Done}
+use Rattle.gw_ports.specs.declared.running.feed.Feed.{Feed}
+use Rattle.gw_ports.specs.declared.running.drain.Drain.{Drain}
 use Rattle.gw_ports.proofs.Opening.{ends_after_offers, ends_after_takes, input_at, ready_ports, same_gateway}
 use Rattle.gw_ports.proofs.Reports.{reported}
 use Rattle.gw_ports.proofs.Runs.{pairwise_length}
 use Rattle.gw_ports.proofs.running.run_from.Goals as goal
 
-pub start_taking-requires-clause-inputs : goal.start_taking-requires-clause-inputs
-start_taking-requires-clause-inputs g c κs within = λ k d below.
+pub start_drains-requires-clause-inputs : goal.start_drains-requires-clause-inputs
+start_drains-requires-clause-inputs g c κs within = λ k d below.
     let P : ℕ → g.row.I.Denot → Type 0 =
     λ n s. g.I.Iterator.can_next s × UpTo (g.I.Iterator.remaining s) (slice_index c.args.sizes.items n) in
-    let it = input_at P c.args.inputs.items c.in-Ok-prepare.prepared.offerings.items c.in-Ok-prepare.ensures.inputs
+    let it = input_at P c.args.inputs.items c.in-Ok-prepare.prepared.feeds.items c.in-Ok-prepare.ensures.inputs
     c.requires.inputs k d below in
     (it.0, it.1.0)
 
-pub start_taking-requires-clause-room : goal.start_taking-requires-clause-room
-start_taking-requires-clause-room g c κs within = λ k d below.
+pub start_drains-requires-clause-room : goal.start_drains-requires-clause-room
+start_drains-requires-clause-room g c κs within = λ k d below.
     let P : ℕ → g.row.I.Denot → Type 0 =
     λ n s. g.I.Iterator.can_next s × UpTo (g.I.Iterator.remaining s) (slice_index c.args.sizes.items n) in
     let prepared = c.in-Ok-prepare.prepared in
-    let offerings = prepared.offerings.items in
-    let it = input_at P c.args.inputs.items offerings c.in-Ok-prepare.ensures.inputs c.requires.inputs k d below in
+    let feeds = prepared.feeds.items in
+    let it = input_at P c.args.inputs.items feeds c.in-Ok-prepare.ensures.inputs c.requires.inputs k d below in
     let at_most = it.1.1 in
     let ready =
-    ready_ports c.args.limits c.in-Ok.parts.ins.items c.in-Ok.parts.outs.items offerings c.in-Ok.ensures.opened.ends
+    ready_ports c.args.limits c.in-Ok.parts.ins.items c.in-Ok.parts.outs.items feeds c.in-Ok.ensures.opened.ends
     c.in-Ok-prepare.ensures.ports k d below in
     let frames = ready.1 in
     let room = c.in-Ok-prepare.ensures.room k d below in
     let sizes = ap (λ l. slice_index l k) c.deref.ensures.value in
     omega arith
 
-pub start_taking-requires-clause-new : goal.start_taking-requires-clause-new
-start_taking-requires-clause-new g c κs within = λ k d below.
+pub start_drains-requires-clause-new : goal.start_drains-requires-clause-new
+start_drains-requires-clause-new g c κs within = λ k d below.
     let ready =
-    ready_ports c.args.limits c.in-Ok.parts.ins.items c.in-Ok.parts.outs.items c.in-Ok-prepare.prepared.offerings.items
+    ready_ports c.args.limits c.in-Ok.parts.ins.items c.in-Ok.parts.outs.items c.in-Ok-prepare.prepared.feeds.items
     c.in-Ok.ensures.opened.ends c.in-Ok-prepare.ensures.ports k d below in
     (ready.0, c.in-Ok-prepare.ensures.empty k d below)
 
 pub gather-ingress-requires-clause-room : goal.gather-ingress-requires-clause-room
 gather-ingress-requires-clause-room g c =
-    let R : Offering g.row.I.Denot → Done → Type 0 = λ o one. IsDone g.I.Iterator.next_gives o.port o.input one in
-    let offerings = c.in-Ok-prepare.prepared.offerings.items in
-    let many = pairwise_length R offerings c.in-Some.done.items c.in-Some.ensures.done in
+    let R : Feed g.row.I.Denot → Done → Type 0 = λ o one. IsDone g.I.Iterator.next_gives o.port o.input one in
+    let feeds = c.in-Ok-prepare.prepared.feeds.items in
+    let many = pairwise_length R feeds c.in-Some.done.items c.in-Some.ensures.done in
     let count = c.in-Some.done.ok.0 in
-    let ports = length-map offerings (λ (o : Offering g.row.I.Denot). o.port) in
+    let ports = length-map feeds (λ (o : Feed g.row.I.Denot). o.port) in
     let ins = ap length c.in-Ok-prepare.ensures.ports in
     let size = c.in-Ok.parts.ins.ok.0 in
     let room = c.in-Ok-prepare.ensures.ingress in
@@ -60,11 +60,11 @@ gather-ingress-requires-clause-room g c =
 
 pub gather-egress-requires-clause-room : goal.gather-egress-requires-clause-room
 gather-egress-requires-clause-room g c =
-    let R : Taking → Taking → Type 0 = λ t one. HasTaken t.port one in
-    let takings = c.in-Ok-prepare.prepared.takings.items in
-    let many = pairwise_length R takings c.in-Some.taken.items c.in-Some.ensures.taken in
-    let count = c.in-Some.taken.ok.0 in
-    let ports = length-map takings (λ (t : Taking). t.port) in
+    let R : Drain → Drain → Type 0 = λ t one. HasTaken t.port one in
+    let drains = c.in-Ok-prepare.prepared.drains.items in
+    let many = pairwise_length R drains c.in-Some.drained.items c.in-Some.ensures.taken in
+    let count = c.in-Some.drained.ok.0 in
+    let ports = length-map drains (λ (t : Drain). t.port) in
     let outs = ap length c.in-Ok-prepare.ensures.outs in
     let ends = c.in-Ok.ensures.opened.ends in
     let ins_many = ends.enough_ins in
@@ -83,10 +83,10 @@ close_ends-requires g c =
     same_gateway parts.operator c.in-Some.published.operator parts.ins.items c.gather-ingress.result.ports.items parts.outs.items
     c.gather-egress.result.ports.items c.in-Ok.ensures.opened.one c.in-Some.ensures.published.same
     (ap (λ (l : List Ingress). map end_in l) c.gather-ingress.ensures.ports
-    ∙ ends_after_offers g.I.Iterator.next_gives prepared.offerings.items c.in-Some.done.items c.in-Some.ensures.done
+    ∙ ends_after_offers g.I.Iterator.next_gives prepared.feeds.items c.in-Some.done.items c.in-Some.ensures.done
     ∙ ap (λ (l : List Ingress). map end_in l) c.in-Ok-prepare.ensures.ports)
     (ap (λ (l : List Egress). map end_out l) c.gather-egress.ensures.ports
-    ∙ ends_after_takes prepared.takings.items c.in-Some.taken.items c.in-Some.ensures.taken
+    ∙ ends_after_takes prepared.drains.items c.in-Some.drained.items c.in-Some.ensures.taken
     ∙ ap (λ (l : List Egress). map end_out l) c.in-Ok-prepare.ensures.outs)
 
 -- The run is reported in plain data.
@@ -109,14 +109,14 @@ returns-in-Ok-close_ends-clause-reported g c =
       ins = parts.ins.items;
       outs = parts.outs.items;
       opened = c.in-Ok.ensures.opened;
-      offerings = prepared.offerings.items;
+      feeds = prepared.feeds.items;
       ports_are = c.in-Ok-prepare.ensures.ports;
       inputs_are = c.in-Ok-prepare.ensures.inputs;
       done = some.done.items;
       offered = some.ensures.done;
-      takings = prepared.takings.items;
+      drains = prepared.drains.items;
       outs_are = c.in-Ok-prepare.ensures.outs;
-      taken = some.taken.items;
+      drained = some.drained.items;
       took = some.ensures.taken;
       closing = closing;
       published = some.ensures.published;
@@ -124,7 +124,7 @@ returns-in-Ok-close_ends-clause-reported g c =
       stops_are = c.gather-ingress.ensures.stops;
       out_is = c.gather-egress.ensures.out;
       closed =
-          subst (λ (l : List Ingress). Closes closing l (map (λ (t : Taking). t.port) some.taken.items) report)
+          subst (λ (l : List Ingress). Closes closing l (map (λ (t : Drain). t.port) some.drained.items) report)
           c.gather-ingress.ensures.ports
           (subst (λ (l : List Egress). Closes closing c.gather-ingress.result.ports.items l report) c.gather-egress.ensures.ports
           c.in-Ok-close_ends.ensures.closed);

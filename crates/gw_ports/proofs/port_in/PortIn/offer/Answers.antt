@@ -18,8 +18,8 @@ use Rattle.gw_ports.proofs.Summing.{copies_placed}
 use Rattle.gw_ports.proofs.port_in.PortIn.offer.Goals as goal
 
 -- A port to which the frame is allowed is another port of the gateway, so it has a lane.
-pub place-placed-requires-clause-there : goal.place-placed-requires-clause-there
-place-placed-requires-clause-there c = λ port has.
+pub enqueue-placed-requires-clause-there : goal.enqueue-placed-requires-clause-there
+enqueue-placed-requires-clause-there c = λ port has.
     let inside = c.self.inside in
     let ports = c.len-ports.result in
     let local = c.is_local-local.result in
@@ -38,12 +38,12 @@ pub invariant_of-self-2 : goal.invariant_of-self-2
 invariant_of-self-2 c =
     let inside = c.self.inside in
     let old = inside.lanes.items in
-    let new = c.place-placed.new.lanes in
-    let placed = c.place-placed.result in
+    let new = c.enqueue-placed.new.lanes in
+    let placed = c.enqueue-placed.result in
     let copy : FrameCopy = record { from = inside.port; number = inside.ledger.taken; frame = c.args.frame } in
     let done =
     subst (λ (l : List (Option Inlet)). PlacesCopies c.in-Ok.allowed copy placed l new) c.deref_mut.ensures.value
-    c.place-placed.ensures in
+    c.enqueue-placed.ensures in
     let items : take inside.lanes.len (new ++ drop (length new) old) ≡ new =
     with_items_is inside.lanes new (done.size ∙ sym inside.lanes.ok.0) in
     let few : length old ≤ 16 = c.self.invariant.0.most in
@@ -71,8 +71,8 @@ pub returns-clause-offered : goal.returns-clause-offered
 returns-clause-offered c = λ heard.
     let inside = c.self.inside in
     let old = inside.lanes.items in
-    let new = c.place-placed.new.lanes in
-    let placed = c.place-placed.result in
+    let new = c.enqueue-placed.new.lanes in
+    let placed = c.enqueue-placed.result in
     let known = c.judge.new.watch.batches in
     let local = c.is_local-local.result in
     let allowed = c.in-Ok.allowed in
@@ -80,7 +80,7 @@ returns-clause-offered c = λ heard.
     let copy : FrameCopy = record { from = inside.port; number = inside.ledger.taken; frame = frame } in
     let done =
     subst (λ (l : List (Option Inlet)). PlacesCopies allowed copy placed l new) c.deref_mut.ensures.value
-    c.place-placed.ensures in
+    c.enqueue-placed.ensures in
     let items : take inside.lanes.len (new ++ drop (length new) old) ≡ new =
     with_items_is inside.lanes new (done.size ∙ sym inside.lanes.ok.0) in
     let size : c.len-ports.result ≡ length old = let e = c.len-ports.ensures in let ok = inside.lanes.ok.0 in omega arith in
@@ -117,11 +117,11 @@ pub returns-clause-end : goal.returns-clause-end
 returns-clause-end c =
     let inside = c.self.inside in
     let old = inside.lanes.items in
-    let new = c.place-placed.new.lanes in
+    let new = c.enqueue-placed.new.lanes in
     let copy : FrameCopy = record { from = inside.port; number = inside.ledger.taken; frame = c.args.frame } in
     let done =
-    subst (λ (l : List (Option Inlet)). PlacesCopies c.in-Ok.allowed copy c.place-placed.result l new)
-    c.deref_mut.ensures.value c.place-placed.ensures in
+    subst (λ (l : List (Option Inlet)). PlacesCopies c.in-Ok.allowed copy c.enqueue-placed.result l new)
+    c.deref_mut.ensures.value c.enqueue-placed.ensures in
     let items : take inside.lanes.len (new ++ drop (length new) old) ≡ new =
     with_items_is inside.lanes new (done.size ∙ sym inside.lanes.ok.0) in
     let rings = ap (λ (l : List (Option Inlet)). map ring_to l) items ∙ rings_stay _ _ _ old new done in

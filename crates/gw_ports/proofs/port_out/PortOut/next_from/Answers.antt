@@ -14,7 +14,7 @@ pub invariant_of-self-2 : goal.invariant_of-self-2
 invariant_of-self-2 c =
     let inside = c.self.inside in
     let old = inside.lanes.items in
-    let new = c.take.new.lanes in
+    let new = c.dequeue.new.lanes in
     let copy = c.in_ok-copy.copy in
     let port = c.args.ingress in
     let pops : PopsFrom port old copy new =
@@ -39,7 +39,7 @@ pub returns-clause-end : goal.returns-clause-end
 returns-clause-end c =
     let inside = c.self.inside in
     let old = inside.lanes.items in
-    let new = c.take.new.lanes in
+    let new = c.dequeue.new.lanes in
     let copy = c.in_ok-copy.copy in
     let pops : PopsFrom c.from.result old copy new =
     subst (λ (l : List (Option Outlet)). PopsFrom c.from.result l copy new) c.deref_mut.ensures.value c.in_ok-copy.ensures in

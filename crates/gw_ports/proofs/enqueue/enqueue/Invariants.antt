@@ -1,0 +1,9 @@
+use Rattle.std.proofs.Common.{◌≡◌, ℕ, ◌<◌, ◌≤◌, length, IsTrue, MatchBool}
+use Rattle.gw_ledger.specs.Ports.{has_port}
+use Rattle.gw_ports.specs.Ends.{lane_at}
+use Rattle.gw_ports.proofs.Placing.{PlacesBelow}
+use Rattle.gw_ports.proofs.enqueue.enqueue.Given as goal
+
+abbrev pub invariant-loop-index : goal.invariant-loop-index
+invariant-loop-index l = (length l.lanes ≡ length l.initial.lanes) × PlacesBelow l.index l.allowed l.copy l.placed l.initial.lanes
+    l.lanes

@@ -1,7 +1,0 @@
-use Rattle.std.proofs.Common.{◌≡◌}
-use Rattle.gw_ports.specs.Ends.{end_out}
-use Rattle.gw_ports.specs.Running.{Takes}
-use Rattle.gw_ports.proofs.running.taking.Taking.take_all.Given as goal
-
-abbrev pub invariant-loop : goal.invariant-loop
-invariant-loop g l = Takes l.initial.port l.out.items l.port × (end_out l.port ≡ end_out l.initial.port)

@@ -1,0 +1,198 @@
+//! The egress threads: one a port takes copies out.
+
+ghost use Rattle.std.specs.Prelude.{◌≡◌, ◌≤◌, ◌++◌, ◌∷◌, [], ℕ, All, IfSome, MatchBool, min, vec_capacity, vec_len};
+ghost use Rattle.std.specs.Iterator.{IsFinite, size};
+ghost use Rattle.gw_ports.specs.Running.{HasTaken, IsDone, IsReady, Pairwise, Publishes};
+ghost use Rattle.gw_ports.specs.Ends.{end_out};
+ghost use Rattle.gw_ports.specs.Sending.{Sends};
+
+use super::feed::{Done, Feed, start_feeds};
+use super::publishing::{Published, Publishing};
+use crate::{Gate, PortOut};
+use gw_frame::Frame;
+use gw_ledger::FrameCopy;
+use std::hint::spin_loop;
+use std::marker::{Send, Sync};
+use std::snapshot::Snapshot;
+use std::sync::Wait;
+use std::sync::atomic::{AtomicBool, Ordering};
+use std::thread::{Promise, Scope, Threads, scope, scope_env, yield_now};
+
+/// An egress port that takes copies out, with room for all that may come.
+#[derive(Drop)]
+pub(super) struct Drain {
+    pub port: PortOut,
+    pub out: Vec<FrameCopy>,
+}
+
+impl Drain {
+    ghost use Rattle.std.specs.Prelude.{◌≡◌, []};
+    ghost use Rattle.gw_ports.specs.Running.{HasTaken};
+
+    // Takes copies until a round over the lanes that began after the last offer gave none.
+    fn empty_lanes<R: Wait>(self, rt: &R, is_over: &AtomicBool, lane: u32) -> Drain
+        requires { self.out.items ≡ [] }
+        ensures { HasTaken self.port result }
+    {
+        let Drain { mut port, mut out } = self;
+        for _ in rt.forever() {
+            let is_last = is_over.load(Ordering::SeqCst);
+            if !dequeue(&mut port, &mut out) {
+                if is_last {
+                    break;
+                }
+                pause(lane);
+                yield_now();
+            }
+        }
+        Drain { port, out }
+    }
+}
+
+// Lets copies gather before the next look, by as many pauses of the processor as a lane has room for. At most some half of a lane
+// fills meanwhile. A look at an empty lane takes the lane's words from the thread that fills it.
+fn pause(lane: u32) {
+    for _ in 0..lane {
+        spin_loop();
+    }
+}
+
+// Takes the next copy, if there is one and room for it. There is room for all that the other ports may enqueue.
+fn dequeue(port: &mut PortOut, out: &mut Vec<FrameCopy>) -> bool
+    ensures end { end_out port.new ≡ end_out port.old }
+    ensures taken { MatchBool result
+        ((copy : FrameCopy) × (ingress : ℕ) × Sends ingress port.old copy port.new × (out.new.items ≡ out.old.items ++ copy ∷ []))
+        ((port.new ≡ port.old) × (out.new.items ≡ out.old.items)) }
+{
+    if out.len() >= out.capacity() {
+        return false;
+    }
+    match port.next() {
+        Some(copy) => {
+            out.push_reserved(copy);
+            true
+        }
+        None => false,
+    }
+}
+
+// What is known of an egress port that has taken copies out.
+#[derive(Drop)]
+struct Drained(Snapshot<Drain>);
+
+impl Promise<Drain> for Drained {
+    ghost use Rattle.gw_ports.specs.Running.{HasTaken};
+
+    ghost kept_by = { λ p drained. HasTaken p.0.value.port drained };
+}
+
+/// What the ingress ports and the operator are to do in a run.
+#[derive(Drop)]
+pub(super) struct Intake<I> {
+    pub feeds: Vec<Feed<I>>,
+    pub done: Vec<Done>,
+    pub publishing: Publishing,
+}
+
+// Starts a thread for each of the ports, from the last one down, feeds the gateway, and joins them. None where no thread could
+// be made.
+fn drain_all<'s, E, R, G, I>(
+    threads: &'s Scope<'s, E>,
+    rt: &'s R,
+    gate: &G,
+    is_over: &'s AtomicBool,
+    lane: u32,
+    mut ports: Vec<Drain>,
+    all: Vec<Drain>,
+    intake: Intake<I>,
+) -> Option<(Vec<Drain>, Vec<Done>, Published)>
+where
+    R: Threads + Wait + Sync,
+    G: Gate,
+    I: Iterator<Item = Frame> + Send,
+    requires inputs { All (λ o. I.can_next o.input × IsFinite (I.remaining o.input)) intake.feeds.items }
+    requires room { All (λ o. min (size (I.remaining o.input)) o.port.frames ≤ vec_capacity o.outcomes) intake.feeds.items }
+    requires new { All (λ o. IsReady o.port × (o.outcomes.items ≡ [])) intake.feeds.items }
+    requires gathered { (intake.done.items ≡ []) × (vec_len intake.feeds ≤ vec_capacity intake.done) }
+    requires fronts { (intake.publishing.fronts.items ≡ [])
+        × (vec_len intake.publishing.batches ≤ vec_capacity intake.publishing.fronts) }
+    requires empty { All (λ t. t.out.items ≡ []) ports.items }
+    requires drains { (all.items ≡ []) × (vec_len ports ≤ vec_capacity all) }
+    ensures taken { IfSome result (λ r. Pairwise (λ t drained. HasTaken t.port drained) ports.items r.0.items
+        × (vec_capacity r.0 ≡ vec_capacity all)) }
+    ensures done { IfSome result (λ r. Pairwise (λ o one. IsDone I.next_gives o.port o.input one)
+        intake.feeds.items r.1.items) }
+    ensures published { IfSome result (λ r. Publishes intake.publishing.operator intake.publishing.batches.items
+        r.2.fronts.items r.2.refused r.2.operator) }
+{
+    match ports.pop() {
+        None => {
+            let fed = start_feeds(rt, gate, intake.feeds, intake.done, intake.publishing);
+            is_over.store(true, Ordering::SeqCst);
+            let (done, published) = fed?;
+            Some((all, done, published))
+        }
+        Some(port) => {
+            let promise = Drained(Snapshot::of(&port));
+            let Ok(thread) = threads.spawn_with(
+                promise,
+                move || -> Drain
+                    requires { port.out.items ≡ [] }
+                { port.empty_lanes(rt, is_over, lane) },
+            ) else {
+                is_over.store(true, Ordering::SeqCst);
+                return None;
+            };
+            let others = drain_all(threads, rt, gate, is_over, lane, ports, all, intake);
+            let drained = thread.join(rt);
+            let (mut all, done, published) = others?;
+            all.push_reserved(drained);
+            Some((all, done, published))
+        }
+    }
+}
+
+/// Starts all threads of a run, whose lanes have room for so many copies, and joins them. None where no thread could be made.
+pub(super) fn start_drains<R, G, I>(
+    rt: &R,
+    gate: &G,
+    lane: u32,
+    ports: Vec<Drain>,
+    all: Vec<Drain>,
+    intake: Intake<I>,
+) -> Option<(Vec<Drain>, Vec<Done>, Published)>
+where
+    R: Threads + Wait + Sync,
+    G: Gate,
+    I: Iterator<Item = Frame> + Send,
+    requires inputs { All (λ o. I.can_next o.input × IsFinite (I.remaining o.input)) intake.feeds.items }
+    requires room { All (λ o. min (size (I.remaining o.input)) o.port.frames ≤ vec_capacity o.outcomes) intake.feeds.items }
+    requires new { All (λ o. IsReady o.port × (o.outcomes.items ≡ [])) intake.feeds.items }
+    requires gathered { (intake.done.items ≡ []) × (vec_len intake.feeds ≤ vec_capacity intake.done) }
+    requires fronts { (intake.publishing.fronts.items ≡ [])
+        × (vec_len intake.publishing.batches ≤ vec_capacity intake.publishing.fronts) }
+    requires empty { All (λ t. t.out.items ≡ []) ports.items }
+    requires drains { (all.items ≡ []) × (vec_len ports ≤ vec_capacity all) }
+    ensures taken { IfSome result (λ r. Pairwise (λ t drained. HasTaken t.port drained) ports.items r.0.items) }
+    ensures done { IfSome result (λ r. Pairwise (λ o one. IsDone I.next_gives o.port o.input one)
+        intake.feeds.items r.1.items) }
+    ensures published { IfSome result (λ r. Publishes intake.publishing.operator intake.publishing.batches.items
+        r.2.fronts.items r.2.refused r.2.operator) }
+{
+    let is_over = AtomicBool::new(false);
+    let over = &is_over;
+    scope(
+        scope_env(),
+        rt,
+        move |threads| -> Option<(Vec<Drain>, Vec<Done>, Published)>
+            requires { All (λ o. I.can_next o.input × IsFinite (I.remaining o.input)) intake.feeds.items
+                × All (λ o. min (size (I.remaining o.input)) o.port.frames ≤ vec_capacity o.outcomes) intake.feeds.items
+                × All (λ o. IsReady o.port × (o.outcomes.items ≡ [])) intake.feeds.items
+                × (intake.done.items ≡ []) × (vec_len intake.feeds ≤ vec_capacity intake.done)
+                × (intake.publishing.fronts.items ≡ [])
+                × (vec_len intake.publishing.batches ≤ vec_capacity intake.publishing.fronts)
+                × All (λ t. t.out.items ≡ []) ports.items
+                × (all.items ≡ []) × (vec_len ports ≤ vec_capacity all) }
+        { drain_all(threads, rt, gate, over, lane, ports, all, intake) },
+    )
+}
