@@ -1,8 +1,7 @@
 -- What the threads of a run do.
 use Rattle.std.specs.Prelude.{◌≡◌, ℕ, ◌+◌, ◌<◌, List, [], ◌∷◌, ◌++◌, length, take, slice_index, slice_index_or, Option, Some}
-use Rattle.std.specs.Prelude.{None}
-use Rattle.std.specs.Prelude.{MatchOption}
-use Rattle.std.specs.Iterator.{Drains, Yields}
+use Rattle.std.specs.Prelude.{None, MatchOption, All, ◌≤◌, min, vec_capacity, vec_len}
+use Rattle.std.specs.Iterator.{Count, Drains, IsFinite, Yields, size}
 use Rattle.gw_board.specs.Ends.{Publishing}
 use Rattle.gw_board.specs.Refusals.{Refuses}
 use Rattle.gw_board.specs.declared.refusals.ReplaceRefusal.{ReplaceRefusal}
@@ -17,7 +16,10 @@ use Rattle.gw_ports.specs.Sending.{Sends}
 use Rattle.gw_ports.specs.declared.refusals.OfferRefusal.{OfferRefusal}
 use Rattle.gw_ports.specs.declared.refusals.OfferRefusal.TheVariants.{FramesSpent}
 use Rattle.gw_ports.specs.declared.running.feed.Done.{Done}
+use Rattle.gw_ports.specs.declared.running.feed.Feed.{Feed}
+use Rattle.gw_ports.specs.declared.running.feed.Intake.{Intake}
 use Rattle.gw_ports.specs.declared.running.drain.Drain.{Drain}
+use Rattle.gw_ports.specs.declared.running.drain.Work.{Work}
 
 -- the frames were offered one after another, each where the one before left the port, and these are their outcomes; `heard` is
 -- what was heard before, newest first
@@ -31,6 +33,26 @@ Offers heard old (octets ∷ frames) (outcome ∷ outcomes) new =
 -- the port has taken no frame
 abbrev pub IsReady : Ingress → Type 0
 IsReady ingress = HoldsAfter ingress.claims [] × (ingress.ledger ≡ nothing_counted)
+
+-- an ingress port that may offer the frames of its input: the input ends, and there is room for the outcome of each frame that
+-- the port can take
+pub record CanOffer {S : Type 0} (can_next : S → Type 0) (remaining : S → Count) (feed : Feed S) : Type 0 where
+  pub input : can_next feed.input × IsFinite (remaining feed.input)
+  pub room : min (size (remaining feed.input)) feed.port.frames ≤ vec_capacity feed.outcomes
+  pub new : IsReady feed.port × (feed.outcomes.items ≡ [])
+
+-- each ingress port may, while batches are published, and there is room for the ports once they have and for the fronts
+pub record CanFeed {S : Type 0} (can_next : S → Type 0) (remaining : S → Count) (intake : Intake S) : Type 0 where
+  pub each : All (CanOffer can_next remaining) intake.feeds.items
+  pub gathered : (intake.done.items ≡ []) × (vec_len intake.feeds ≤ vec_capacity intake.done)
+  pub fronts : intake.publishing.fronts.items ≡ []
+  pub enough : vec_len intake.publishing.batches ≤ vec_capacity intake.publishing.fronts
+
+-- what the threads of a run begin with: the ports may offer, no copy is taken out yet, and there is room for the egress ports
+pub record CanRun {S : Type 0} (can_next : S → Type 0) (remaining : S → Count) (work : Work S) : Type 0 where
+  pub feeds : CanFeed can_next remaining work.intake
+  pub empty : All (λ drain. drain.out.items ≡ []) work.drains.items
+  pub gathered : (work.drained.items ≡ []) × (vec_len work.drains ≤ vec_capacity work.drained)
 
 -- an input gave these frames and ended; or, where the port stopped, it gave one more
 abbrev pub Gives : {S : Type 0} → (S → Option (List ℕ) → S → Type 0) → S → List (List ℕ) → Option OfferRefusal → Type 0

@@ -14,7 +14,8 @@ ghost use Rattle.gw_ports.specs.declared.running.RunRefusal.TheVariants.{OutOfMe
 
 use crate::closing::{CloseRefusal, close_ends};
 use crate::{Gate, MakeRefusal, OfferRefusal, Parts, PortIn, Report, gateway};
-use drain::{Intake, start_drains};
+use drain::{Work, start_drains};
+use feed::Intake;
 use gw_board::{ReplaceRefusal, Told};
 use gw_frame::Frame;
 use gw_ledger::{FrameCopy, Limits, Outcome};
@@ -200,23 +201,20 @@ pub fn run_from<R: Threads + Wait + Sync, G: Gate, I: Iterator<Item = Frame> + S
         egress,
         fronts,
     } = prepared;
-    let intake = Intake {
-        feeds,
-        done,
-        publishing: Publishing {
-            operator,
-            batches,
-            fronts,
-        },
-    };
-    let Some((drained, done, published)) = start_drains(
-        rt,
-        gate,
-        limits.lane(),
+    let work = Work {
         drains,
         drained,
-        intake,
-    ) else {
+        intake: Intake {
+            feeds,
+            done,
+            publishing: Publishing {
+                operator,
+                batches,
+                fronts,
+            },
+        },
+    };
+    let Some((drained, done, published)) = start_drains(rt, gate, limits.lane(), work) else {
         return Err(RunRefusal::NoThread);
     };
     let ingress = ingress.gather(done);

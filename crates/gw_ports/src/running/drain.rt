@@ -1,13 +1,12 @@
 //! The egress threads: one a port takes copies out.
 
-ghost use Rattle.std.specs.Prelude.{◌≡◌, ◌≤◌, ◌++◌, ◌∷◌, [], ℕ, All, IfSome, MatchBool, min, vec_capacity, vec_len};
-ghost use Rattle.std.specs.Iterator.{IsFinite, size};
-ghost use Rattle.gw_ports.specs.Running.{HasTaken, IsDone, IsReady, Pairwise, Publishes};
+ghost use Rattle.std.specs.Prelude.{◌≡◌, ◌++◌, ◌∷◌, [], ℕ, IfSome, MatchBool, vec_capacity};
+ghost use Rattle.gw_ports.specs.Running.{CanRun, HasTaken, IsDone, Pairwise, Publishes};
 ghost use Rattle.gw_ports.specs.Ends.{end_out};
 ghost use Rattle.gw_ports.specs.Sending.{Sends};
 
-use super::feed::{Done, Feed, start_feeds};
-use super::publishing::{Published, Publishing};
+use super::feed::{Done, Intake, start_feeds};
+use super::publishing::Published;
 use crate::{Gate, PortOut};
 use gw_frame::Frame;
 use gw_ledger::FrameCopy;
@@ -78,20 +77,21 @@ fn dequeue(port: &mut PortOut, out: &mut Vec<FrameCopy>) -> bool
 
 // What is known of an egress port that has taken copies out.
 #[derive(Drop)]
-struct Drained(Snapshot<Drain>);
+struct DrainPromise(Snapshot<Drain>);
 
-impl Promise<Drain> for Drained {
+impl Promise<Drain> for DrainPromise {
     ghost use Rattle.gw_ports.specs.Running.{HasTaken};
 
     ghost kept_by = { λ p drained. HasTaken p.0.value.port drained };
 }
 
-/// What the ingress ports and the operator are to do in a run.
+/// What the threads of a run begin with.
 #[derive(Drop)]
-pub(super) struct Intake<I> {
-    pub feeds: Vec<Feed<I>>,
-    pub done: Vec<Done>,
-    pub publishing: Publishing,
+pub(super) struct Work<I> {
+    pub drains: Vec<Drain>,
+    /// Empty, with room for as many.
+    pub drained: Vec<Drain>,
+    pub intake: Intake<I>,
 }
 
 // Starts a thread for each of the ports, from the last one down, feeds the gateway, and joins them. None where no thread could
@@ -102,52 +102,43 @@ fn drain_all<'s, E, R, G, I>(
     gate: &G,
     is_over: &'s AtomicBool,
     lane: u32,
-    mut ports: Vec<Drain>,
-    all: Vec<Drain>,
-    intake: Intake<I>,
+    mut work: Work<I>,
 ) -> Option<(Vec<Drain>, Vec<Done>, Published)>
 where
     R: Threads + Wait + Sync,
     G: Gate,
     I: Iterator<Item = Frame> + Send,
-    requires inputs { All (λ o. I.can_next o.input × IsFinite (I.remaining o.input)) intake.feeds.items }
-    requires room { All (λ o. min (size (I.remaining o.input)) o.port.frames ≤ vec_capacity o.outcomes) intake.feeds.items }
-    requires new { All (λ o. IsReady o.port × (o.outcomes.items ≡ [])) intake.feeds.items }
-    requires gathered { (intake.done.items ≡ []) × (vec_len intake.feeds ≤ vec_capacity intake.done) }
-    requires fronts { (intake.publishing.fronts.items ≡ [])
-        × (vec_len intake.publishing.batches ≤ vec_capacity intake.publishing.fronts) }
-    requires empty { All (λ t. t.out.items ≡ []) ports.items }
-    requires drains { (all.items ≡ []) × (vec_len ports ≤ vec_capacity all) }
-    ensures taken { IfSome result (λ r. Pairwise (λ t drained. HasTaken t.port drained) ports.items r.0.items
-        × (vec_capacity r.0 ≡ vec_capacity all)) }
+    requires ready { CanRun I.can_next I.remaining work }
+    ensures taken { IfSome result (λ r. Pairwise (λ t one. HasTaken t.port one) work.drains.items r.0.items
+        × (vec_capacity r.0 ≡ vec_capacity work.drained)) }
     ensures done { IfSome result (λ r. Pairwise (λ o one. IsDone I.next_gives o.port o.input one)
-        intake.feeds.items r.1.items) }
-    ensures published { IfSome result (λ r. Publishes intake.publishing.operator intake.publishing.batches.items
+        work.intake.feeds.items r.1.items) }
+    ensures published { IfSome result (λ r. Publishes work.intake.publishing.operator work.intake.publishing.batches.items
         r.2.fronts.items r.2.refused r.2.operator) }
 {
-    match ports.pop() {
+    match work.drains.pop() {
         None => {
-            let fed = start_feeds(rt, gate, intake.feeds, intake.done, intake.publishing);
+            let fed = start_feeds(rt, gate, work.intake);
             is_over.store(true, Ordering::SeqCst);
             let (done, published) = fed?;
-            Some((all, done, published))
+            Some((work.drained, done, published))
         }
-        Some(port) => {
-            let promise = Drained(Snapshot::of(&port));
+        Some(drain) => {
+            let promise = DrainPromise(Snapshot::of(&drain));
             let Ok(thread) = threads.spawn_with(
                 promise,
                 move || -> Drain
-                    requires { port.out.items ≡ [] }
-                { port.empty_lanes(rt, is_over, lane) },
+                    requires { drain.out.items ≡ [] }
+                { drain.empty_lanes(rt, is_over, lane) },
             ) else {
                 is_over.store(true, Ordering::SeqCst);
                 return None;
             };
-            let others = drain_all(threads, rt, gate, is_over, lane, ports, all, intake);
-            let drained = thread.join(rt);
-            let (mut all, done, published) = others?;
-            all.push_reserved(drained);
-            Some((all, done, published))
+            let others = drain_all(threads, rt, gate, is_over, lane, work);
+            let one = thread.join(rt);
+            let (mut drained, done, published) = others?;
+            drained.push_reserved(one);
+            Some((drained, done, published))
         }
     }
 }
@@ -157,26 +148,17 @@ pub(super) fn start_drains<R, G, I>(
     rt: &R,
     gate: &G,
     lane: u32,
-    ports: Vec<Drain>,
-    all: Vec<Drain>,
-    intake: Intake<I>,
+    work: Work<I>,
 ) -> Option<(Vec<Drain>, Vec<Done>, Published)>
 where
     R: Threads + Wait + Sync,
     G: Gate,
     I: Iterator<Item = Frame> + Send,
-    requires inputs { All (λ o. I.can_next o.input × IsFinite (I.remaining o.input)) intake.feeds.items }
-    requires room { All (λ o. min (size (I.remaining o.input)) o.port.frames ≤ vec_capacity o.outcomes) intake.feeds.items }
-    requires new { All (λ o. IsReady o.port × (o.outcomes.items ≡ [])) intake.feeds.items }
-    requires gathered { (intake.done.items ≡ []) × (vec_len intake.feeds ≤ vec_capacity intake.done) }
-    requires fronts { (intake.publishing.fronts.items ≡ [])
-        × (vec_len intake.publishing.batches ≤ vec_capacity intake.publishing.fronts) }
-    requires empty { All (λ t. t.out.items ≡ []) ports.items }
-    requires drains { (all.items ≡ []) × (vec_len ports ≤ vec_capacity all) }
-    ensures taken { IfSome result (λ r. Pairwise (λ t drained. HasTaken t.port drained) ports.items r.0.items) }
+    requires ready { CanRun I.can_next I.remaining work }
+    ensures taken { IfSome result (λ r. Pairwise (λ t one. HasTaken t.port one) work.drains.items r.0.items) }
     ensures done { IfSome result (λ r. Pairwise (λ o one. IsDone I.next_gives o.port o.input one)
-        intake.feeds.items r.1.items) }
-    ensures published { IfSome result (λ r. Publishes intake.publishing.operator intake.publishing.batches.items
+        work.intake.feeds.items r.1.items) }
+    ensures published { IfSome result (λ r. Publishes work.intake.publishing.operator work.intake.publishing.batches.items
         r.2.fronts.items r.2.refused r.2.operator) }
 {
     let is_over = AtomicBool::new(false);
@@ -185,14 +167,7 @@ where
         scope_env(),
         rt,
         move |threads| -> Option<(Vec<Drain>, Vec<Done>, Published)>
-            requires { All (λ o. I.can_next o.input × IsFinite (I.remaining o.input)) intake.feeds.items
-                × All (λ o. min (size (I.remaining o.input)) o.port.frames ≤ vec_capacity o.outcomes) intake.feeds.items
-                × All (λ o. IsReady o.port × (o.outcomes.items ≡ [])) intake.feeds.items
-                × (intake.done.items ≡ []) × (vec_len intake.feeds ≤ vec_capacity intake.done)
-                × (intake.publishing.fronts.items ≡ [])
-                × (vec_len intake.publishing.batches ≤ vec_capacity intake.publishing.fronts)
-                × All (λ t. t.out.items ≡ []) ports.items
-                × (all.items ≡ []) × (vec_len ports ≤ vec_capacity all) }
-        { drain_all(threads, rt, gate, over, lane, ports, all, intake) },
+            requires { CanRun I.can_next I.remaining work }
+        { drain_all(threads, rt, gate, over, lane, work) },
     )
 }

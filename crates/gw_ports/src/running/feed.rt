@@ -1,8 +1,7 @@
 //! The ingress threads: one a port offers its frames, while the calling thread publishes.
 
-ghost use Rattle.std.specs.Prelude.{◌≡◌, ◌≤◌, [], All, min, vec_capacity, vec_len, IfSome};
-ghost use Rattle.std.specs.Iterator.{IsFinite, size};
-ghost use Rattle.gw_ports.specs.Running.{IsDone, IsReady, Pairwise, Publishes};
+ghost use Rattle.std.specs.Prelude.{◌≡◌, vec_capacity, IfSome};
+ghost use Rattle.gw_ports.specs.Running.{CanFeed, CanOffer, IsDone, Pairwise, Publishes};
 
 use super::publishing::{Published, Publishing};
 use crate::{Gate, OfferRefusal, PortIn};
@@ -21,6 +20,15 @@ pub(super) struct Feed<I> {
     pub outcomes: Vec<Outcome>,
 }
 
+/// What the ingress threads of a run begin with, and the thread that publishes.
+#[derive(Drop)]
+pub(super) struct Intake<I> {
+    pub feeds: Vec<Feed<I>>,
+    /// Empty, with room for as many.
+    pub done: Vec<Done>,
+    pub publishing: Publishing,
+}
+
 /// An ingress port that has offered its frames, up to the one that was refused.
 #[derive(Drop)]
 pub(super) struct Done {
@@ -31,9 +39,9 @@ pub(super) struct Done {
 
 // What is known of an ingress port that has offered its frames.
 #[derive(Drop)]
-struct Fed<I>(Snapshot<Feed<I>>);
+struct FeedPromise<I>(Snapshot<Feed<I>>);
 
-impl<I: Iterator<Item = Frame>> Promise<Done> for Fed<I> {
+impl<I: Iterator<Item = Frame>> Promise<Done> for FeedPromise<I> {
     ghost use Rattle.gw_ports.specs.Running.{IsDone};
 
     ghost kept_by = { λ p done. IsDone I.next_gives p.0.value.port p.0.value.input done };
@@ -41,9 +49,7 @@ impl<I: Iterator<Item = Frame>> Promise<Done> for Fed<I> {
 
 // Offers the frames of a port, until one is refused.
 fn offer_frames<I: Iterator<Item = Frame>, G: Gate>(feed: Feed<I>, gate: &G) -> Done
-    requires input { I.can_next feed.input × IsFinite (I.remaining feed.input) }
-    requires room { min (size (I.remaining feed.input)) feed.port.frames ≤ vec_capacity feed.outcomes }
-    requires new { IsReady feed.port × (feed.outcomes.items ≡ []) }
+    requires { CanOffer I.can_next I.remaining feed }
     ensures { IsDone I.next_gives feed.port feed.input result }
 {
     let Feed {
@@ -80,43 +86,35 @@ fn feed_all<'s, E, R, G, I>(
     threads: &'s Scope<'s, E>,
     rt: &R,
     gate: &'s G,
-    mut ports: Vec<Feed<I>>,
-    all: Vec<Done>,
-    publishing: Publishing,
+    mut intake: Intake<I>,
 ) -> Option<(Vec<Done>, Published)>
 where
     R: Threads + Wait,
     G: Gate,
     I: Iterator<Item = Frame> + Send + 's,
-    requires inputs { All (λ o. I.can_next o.input × IsFinite (I.remaining o.input)) ports.items }
-    requires room { All (λ o. min (size (I.remaining o.input)) o.port.frames ≤ vec_capacity o.outcomes) ports.items }
-    requires new { All (λ o. IsReady o.port × (o.outcomes.items ≡ [])) ports.items }
-    requires gathered { (all.items ≡ []) × (vec_len ports ≤ vec_capacity all) }
-    requires fronts { (publishing.fronts.items ≡ []) × (vec_len publishing.batches ≤ vec_capacity publishing.fronts) }
-    ensures done { IfSome result (λ r. Pairwise (λ o done. IsDone I.next_gives o.port o.input done) ports.items r.0.items
-        × (vec_capacity r.0 ≡ vec_capacity all)) }
-    ensures published { IfSome result (λ r. Publishes publishing.operator publishing.batches.items
+    requires ready { CanFeed I.can_next I.remaining intake }
+    ensures done { IfSome result (λ r. Pairwise (λ o one. IsDone I.next_gives o.port o.input one) intake.feeds.items r.0.items
+        × (vec_capacity r.0 ≡ vec_capacity intake.done)) }
+    ensures published { IfSome result (λ r. Publishes intake.publishing.operator intake.publishing.batches.items
         r.1.fronts.items r.1.refused r.1.operator) }
 {
-    match ports.pop() {
-        None => Some((all, publishing.publish(rt, gate))),
-        Some(port) => {
-            let promise = Fed(Snapshot::of(&port));
+    match intake.feeds.pop() {
+        None => Some((intake.done, intake.publishing.publish(rt, gate))),
+        Some(feed) => {
+            let promise = FeedPromise(Snapshot::of(&feed));
             let Ok(thread) = threads.spawn_with(
                 promise,
                 move || -> Done
-                    requires { I.can_next port.input × IsFinite (I.remaining port.input)
-                        × (min (size (I.remaining port.input)) port.port.frames ≤ vec_capacity port.outcomes)
-                        × IsReady port.port × (port.outcomes.items ≡ []) }
-                { offer_frames(port, gate) },
+                    requires { CanOffer I.can_next I.remaining feed }
+                { offer_frames(feed, gate) },
             ) else {
                 return None;
             };
-            let others = feed_all(threads, rt, gate, ports, all, publishing);
-            let done = thread.join(rt);
-            let (mut all, published) = others?;
-            all.push_reserved(done);
-            Some((all, published))
+            let others = feed_all(threads, rt, gate, intake);
+            let one = thread.join(rt);
+            let (mut done, published) = others?;
+            done.push_reserved(one);
+            Some((done, published))
         }
     }
 }
@@ -125,32 +123,22 @@ where
 pub(super) fn start_feeds<R, G, I>(
     rt: &R,
     gate: &G,
-    ports: Vec<Feed<I>>,
-    all: Vec<Done>,
-    publishing: Publishing,
+    intake: Intake<I>,
 ) -> Option<(Vec<Done>, Published)>
 where
     R: Threads + Wait,
     G: Gate,
     I: Iterator<Item = Frame> + Send,
-    requires inputs { All (λ o. I.can_next o.input × IsFinite (I.remaining o.input)) ports.items }
-    requires room { All (λ o. min (size (I.remaining o.input)) o.port.frames ≤ vec_capacity o.outcomes) ports.items }
-    requires new { All (λ o. IsReady o.port × (o.outcomes.items ≡ [])) ports.items }
-    requires gathered { (all.items ≡ []) × (vec_len ports ≤ vec_capacity all) }
-    requires fronts { (publishing.fronts.items ≡ []) × (vec_len publishing.batches ≤ vec_capacity publishing.fronts) }
-    ensures done { IfSome result (λ r. Pairwise (λ o done. IsDone I.next_gives o.port o.input done) ports.items r.0.items) }
-    ensures published { IfSome result (λ r. Publishes publishing.operator publishing.batches.items
+    requires ready { CanFeed I.can_next I.remaining intake }
+    ensures done { IfSome result (λ r. Pairwise (λ o one. IsDone I.next_gives o.port o.input one) intake.feeds.items r.0.items) }
+    ensures published { IfSome result (λ r. Publishes intake.publishing.operator intake.publishing.batches.items
         r.1.fronts.items r.1.refused r.1.operator) }
 {
     scope(
         scope_env(),
         rt,
         move |threads| -> Option<(Vec<Done>, Published)>
-            requires { All (λ o. I.can_next o.input × IsFinite (I.remaining o.input)) ports.items
-                × All (λ o. min (size (I.remaining o.input)) o.port.frames ≤ vec_capacity o.outcomes) ports.items
-                × All (λ o. IsReady o.port × (o.outcomes.items ≡ [])) ports.items
-                × (all.items ≡ []) × (vec_len ports ≤ vec_capacity all)
-                × (publishing.fronts.items ≡ []) × (vec_len publishing.batches ≤ vec_capacity publishing.fronts) }
-        { feed_all(threads, rt, gate, ports, all, publishing) },
+            requires { CanFeed I.can_next I.remaining intake }
+        { feed_all(threads, rt, gate, intake) },
     )
 }

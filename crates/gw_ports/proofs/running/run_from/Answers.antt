@@ -12,36 +12,43 @@ use Rattle.gw_ports.proofs.Reports.{reported}
 use Rattle.gw_ports.proofs.Runs.{pairwise_length}
 use Rattle.gw_ports.proofs.running.run_from.Goals as goal
 
-pub start_drains-requires-clause-inputs : goal.start_drains-requires-clause-inputs
-start_drains-requires-clause-inputs g c κs within = λ k d below.
+pub start_drains-requires-clause-ready : goal.start_drains-requires-clause-ready
+start_drains-requires-clause-ready g c κs within =
     let P : ℕ → g.row.I.Denot → Type 0 =
     λ n s. g.I.Iterator.can_next s × UpTo (g.I.Iterator.remaining s) (slice_index c.args.sizes.items n) in
-    let it = input_at P c.args.inputs.items c.in-Ok-prepare.prepared.feeds.items c.in-Ok-prepare.ensures.inputs
-    c.requires.inputs k d below in
-    (it.0, it.1.0)
-
-pub start_drains-requires-clause-room : goal.start_drains-requires-clause-room
-start_drains-requires-clause-room g c κs within = λ k d below.
-    let P : ℕ → g.row.I.Denot → Type 0 =
-    λ n s. g.I.Iterator.can_next s × UpTo (g.I.Iterator.remaining s) (slice_index c.args.sizes.items n) in
+    let parts = c.in-Ok.parts in
     let prepared = c.in-Ok-prepare.prepared in
+    let made = c.in-Ok-prepare.ensures in
+    let ends = c.in-Ok.ensures.opened.ends in
     let feeds = prepared.feeds.items in
-    let it = input_at P c.args.inputs.items feeds c.in-Ok-prepare.ensures.inputs c.requires.inputs k d below in
-    let at_most = it.1.1 in
-    let ready =
-    ready_ports c.args.limits c.in-Ok.parts.ins.items c.in-Ok.parts.outs.items feeds c.in-Ok.ensures.opened.ends
-    c.in-Ok-prepare.ensures.ports k d below in
-    let frames = ready.1 in
-    let room = c.in-Ok-prepare.ensures.room k d below in
-    let sizes = ap (λ l. slice_index l k) c.deref.ensures.value in
-    omega arith
-
-pub start_drains-requires-clause-new : goal.start_drains-requires-clause-new
-start_drains-requires-clause-new g c κs within = λ k d below.
-    let ready =
-    ready_ports c.args.limits c.in-Ok.parts.ins.items c.in-Ok.parts.outs.items c.in-Ok-prepare.prepared.feeds.items
-    c.in-Ok.ensures.opened.ends c.in-Ok-prepare.ensures.ports k d below in
-    (ready.0, c.in-Ok-prepare.ensures.empty k d below)
+    let count = prepared.feeds.ok.0 in
+    let ports = length-map feeds (λ (o : Feed g.row.I.Denot). o.port) in
+    let ins = ap length made.ports in
+    let size = parts.ins.ok.0 in
+    let done = made.done.1 in
+    let count' = prepared.drains.ok.0 in
+    let ports' = length-map prepared.drains.items (λ (t : Drain). t.port) in
+    let outs = ap length made.outs in
+    let ins_many = ends.enough_ins in
+    let outs_many = ends.enough_outs in
+    let drained = made.drained.1 in
+    record {
+      feeds = record {
+        each = λ k d below.
+            let it = input_at P c.args.inputs.items feeds made.inputs c.requires.inputs k d below in
+            let ready = ready_ports c.args.limits parts.ins.items parts.outs.items feeds ends made.ports k d below in
+            let at_most = it.1.1 in
+            let frames = ready.1 in
+            let room = made.room k d below in
+            let sizes = ap (λ l. slice_index l k) c.deref.ensures.value in
+            record { input = (it.0, it.1.0); room = omega arith; new = (ready.0, made.empty k d below) };
+        gathered = (made.done.0, omega arith);
+        fronts = made.fronts.0;
+        enough = grind arith;
+      };
+      empty = made.drains;
+      gathered = (made.drained.0, omega arith);
+    }
 
 pub gather-ingress-requires-clause-room : goal.gather-ingress-requires-clause-room
 gather-ingress-requires-clause-room g c =

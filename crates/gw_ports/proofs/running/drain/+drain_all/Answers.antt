@@ -1,37 +1,46 @@
-use Rattle.std.proofs.Common.{◌≡◌, ◌∙◌, [], List, arith, ap, refl, subst}
-use Rattle.std.proofs.lemmas.List.{nil_from_length}
-use Rattle.gw_ports.specs.Running.{HasTaken, Pairwise}
+use Rattle.std.proofs.Common.{◌≡◌, ◌∙◌, [], arith, ap, subst}
+use Rattle.gw_ports.specs.Running.{HasTaken}
 use Rattle.gw_ports.specs.declared.running.drain.Drain.{Drain}
-use Rattle.gw_ports.proofs.Runs.{all_last, pairwise_length, pairwise_none, pairwise_push}
+use Rattle.gw_ports.proofs.Runs.{all_last, pairwise_length, pairwise_push}
 use Rattle.gw_ports.proofs.running.drain.+drain_all.Goals as goal
 
 abbrev Took : Drain → Drain → Type 0
-Took drain drained = HasTaken drain.port drained
+Took drain one = HasTaken drain.port one
 
-pub drain_all-others-requires-clause-empty : goal.drain_all-others-requires-clause-empty
-drain_all-others-requires-clause-empty g t c κs within =
-    (all_last (λ (t' : Drain). t'.out.items ≡ []) c.pop.new.self.items c.args.ports.items c.in-Some.port c.in-Some.ensures.items
-    c.requires.empty).0
+pub drain_all-others-requires-clause-ready : goal.drain_all-others-requires-clause-ready
+drain_all-others-requires-clause-ready g t c κs within =
+    let asks = c.requires.ready in
+    let size = c.args.work.drains.ok.0 in
+    let rest = c.pop.new.self.ok.0 in
+    let less = c.in-Some.ensures.len in
+    let enough = asks.gathered.1 in
+    record {
+      feeds = asks.feeds;
+      empty =
+          (all_last (λ (t' : Drain). t'.out.items ≡ []) c.pop.new.self.items c.args.work.drains.items c.in-Some.drain
+          c.in-Some.ensures.items asks.empty).0;
+      gathered = (asks.gathered.0, omega arith);
+    }
 
 pub push_reserved-requires : goal.push_reserved-requires
 push_reserved-requires g t c =
-    let others = c.in_ok-all-in-Some.ensures.taken in
-    let many = pairwise_length Took c.pop.new.self.items c.in_ok-all-in-Some.all.items others.0 in
+    let others = c.in_ok-drained-in-Some.ensures.taken in
+    let many = pairwise_length Took c.pop.new.self.items c.in_ok-drained-in-Some.drained.items others.0 in
     let room = others.1 in
-    let size = c.in_ok-all-in-Some.all.ok.0 in
+    let size = c.in_ok-drained-in-Some.drained.ok.0 in
     let rest = c.pop.new.self.ok.0 in
     let less = c.in-Some.ensures.len in
-    let enough = c.requires.drains.1 in
+    let enough = c.requires.ready.gathered.1 in
     omega arith
 
-pub returns-in_ok-all-in-Some-clause-taken : goal.returns-in_ok-all-in-Some-clause-taken
-returns-in_ok-all-in-Some-clause-taken g t c =
-    let others = c.in_ok-all-in-Some.ensures.taken in
+pub returns-in_ok-drained-in-Some-clause-taken : goal.returns-in_ok-drained-in-Some-clause-taken
+returns-in_ok-drained-in-Some-clause-taken g t c =
+    let others = c.in_ok-drained-in-Some.ensures.taken in
     let value = ap (λ p. p.0.value) c.in-Ok.ensures.ok ∙ c.of.ensures in
-    let own : Took c.in-Some.port c.join-drained.result =
-    subst (λ (o : Drain). Took o c.join-drained.result) value c.join-drained.ensures in (
-      pairwise_push Took c.pop.new.self.items c.args.ports.items c.in_ok-all-in-Some.all.items c.push_reserved.new.self.items
-          c.in-Some.port
-          c.join-drained.result c.in-Some.ensures.items c.push_reserved.ensures.items others.0 own,
+    let own : Took c.in-Some.drain c.join-one.result =
+    subst (λ (o : Drain). Took o c.join-one.result) value c.join-one.ensures in (
+      pairwise_push Took c.pop.new.self.items c.args.work.drains.items c.in_ok-drained-in-Some.drained.items
+          c.push_reserved.new.self.items c.in-Some.drain c.join-one.result c.in-Some.ensures.items
+          c.push_reserved.ensures.items others.0 own,
       c.push_reserved.ensures.capacity ∙ others.1,
     )
