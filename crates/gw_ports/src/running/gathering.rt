@@ -4,6 +4,7 @@ use super::drain::Drain;
 use super::feed::Done;
 use crate::{OfferRefusal, PortIn, PortOut};
 use gw_ledger::{FrameCopy, Outcome};
+use std::alloc::{AllocError, Global};
 
 /// The ingress ports with what became of their frames, by port.
 #[derive(Drop)]
@@ -14,7 +15,20 @@ pub(super) struct IngressPorts {
 }
 
 impl IngressPorts {
-    ghost use Rattle.std.specs.Prelude.{◌≡◌, ◌≤◌, [], map, vec_capacity, vec_len};
+    ghost use Rattle.std.specs.Prelude.{◌≡◌, ◌≤◌, [], IfOk, map, vec_capacity, vec_len};
+
+    /// None yet, and room for so many.
+    pub fn with_room(alloc: Global, ports: usize) -> Result<IngressPorts, AllocError>
+        ensures empty { IfOk result (λ made. (made.ports.items ≡ []) × (made.outcomes.items ≡ []) × (made.stops.items ≡ [])) }
+        ensures room { IfOk result (λ made. (ports ≤ vec_capacity made.ports) × (ports ≤ vec_capacity made.outcomes)
+            × (ports ≤ vec_capacity made.stops)) }
+    {
+        Ok(IngressPorts {
+            ports: Vec::with_capacity(alloc, ports)?,
+            outcomes: Vec::with_capacity(alloc, ports)?,
+            stops: Vec::with_capacity(alloc, ports)?,
+        })
+    }
 
     pub fn gather(self, done: Vec<Done>) -> IngressPorts
         requires empty { (self.ports.items ≡ []) × (self.outcomes.items ≡ []) × (self.stops.items ≡ []) }
@@ -50,7 +64,18 @@ pub(super) struct EgressPorts {
 }
 
 impl EgressPorts {
-    ghost use Rattle.std.specs.Prelude.{◌≡◌, ◌≤◌, [], map, vec_capacity, vec_len};
+    ghost use Rattle.std.specs.Prelude.{◌≡◌, ◌≤◌, [], IfOk, map, vec_capacity, vec_len};
+
+    /// None yet, and room for so many.
+    pub fn with_room(alloc: Global, ports: usize) -> Result<EgressPorts, AllocError>
+        ensures empty { IfOk result (λ made. (made.ports.items ≡ []) × (made.out.items ≡ [])) }
+        ensures room { IfOk result (λ made. (ports ≤ vec_capacity made.ports) × (ports ≤ vec_capacity made.out)) }
+    {
+        Ok(EgressPorts {
+            ports: Vec::with_capacity(alloc, ports)?,
+            out: Vec::with_capacity(alloc, ports)?,
+        })
+    }
 
     pub fn gather(self, drained: Vec<Drain>) -> EgressPorts
         requires empty { (self.ports.items ≡ []) × (self.out.items ≡ []) }

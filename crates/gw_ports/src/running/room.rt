@@ -54,15 +54,8 @@ pub(super) fn prepare<I: Iterator>(
         drained: Vec::with_capacity(alloc, ports)?,
         feeds: feeds(alloc, limits, ins, inputs, sizes)?,
         done: Vec::with_capacity(alloc, ports)?,
-        ingress: IngressPorts {
-            ports: Vec::with_capacity(alloc, ports)?,
-            outcomes: Vec::with_capacity(alloc, ports)?,
-            stops: Vec::with_capacity(alloc, ports)?,
-        },
-        egress: EgressPorts {
-            ports: Vec::with_capacity(alloc, ports)?,
-            out: Vec::with_capacity(alloc, ports)?,
-        },
+        ingress: IngressPorts::with_room(alloc, ports)?,
+        egress: EgressPorts::with_room(alloc, ports)?,
         fronts: Vec::with_capacity(alloc, batches)?,
     })
 }

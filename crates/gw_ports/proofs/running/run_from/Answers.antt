@@ -96,22 +96,14 @@ close_ends-requires g c =
     ∙ ends_after_takes prepared.drains.items c.in-Some.drained.items c.in-Some.ensures.taken
     ∙ ap (λ (l : List Egress). map end_out l) c.in-Ok-prepare.ensures.outs)
 
--- The run is reported in plain data.
-pub returns-in-Ok-close_ends-clause-reported : goal.returns-in-Ok-close_ends-clause-reported
-returns-in-Ok-close_ends-clause-reported g c =
+pub returns-in-Ok-close_ends-clause-ran : goal.returns-in-Ok-close_ends-clause-ran
+returns-in-Ok-close_ends-clause-ran g c =
     let parts = c.in-Ok.parts in
     let prepared = c.in-Ok-prepare.prepared in
     let some = c.in-Some in
     let closing = some.published.operator in
     let report = c.in-Ok-close_ends.report in
-    reported g.I.Iterator.next_gives c.args.limits c.args.first c.args.inputs.items c.args.batches.items (record {
-      outcomes = c.gather-ingress.result.outcomes;
-      stops = c.gather-ingress.result.stops;
-      fronts = some.published.fronts;
-      refused = some.published.refused;
-      out = c.gather-egress.result.out;
-      report = report;
-    }) (record {
+    record {
       operator = parts.operator;
       ins = parts.ins.items;
       outs = parts.outs.items;
@@ -135,4 +127,16 @@ returns-in-Ok-close_ends-clause-reported g c =
           c.gather-ingress.ensures.ports
           (subst (λ (l : List Egress). Closes closing c.gather-ingress.result.ports.items l report) c.gather-egress.ensures.ports
           c.in-Ok-close_ends.ensures.closed);
-    })
+    }
+
+-- The run is reported in plain data.
+pub returns-in-Ok-close_ends-clause-reported : goal.returns-in-Ok-close_ends-clause-reported
+returns-in-Ok-close_ends-clause-reported g c =
+    reported g.I.Iterator.next_gives c.args.limits c.args.first c.args.inputs.items c.args.batches.items (record {
+      outcomes = c.gather-ingress.result.outcomes;
+      stops = c.gather-ingress.result.stops;
+      fronts = c.in-Some.published.fronts;
+      refused = c.in-Some.published.refused;
+      out = c.gather-egress.result.out;
+      report = c.in-Ok-close_ends.report;
+    }) (returns-in-Ok-close_ends-clause-ran g c)
