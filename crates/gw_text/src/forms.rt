@@ -25,7 +25,7 @@ pub enum Piece {
 }
 
 /// Where the labels of a jump lead.
-#[derive(Clone, Copy, PartialEq, Eq, Debug)]
+#[derive(Clone, Copy)]
 pub enum Jump {
     /// There are none.
     NoJump,

@@ -7,7 +7,7 @@ use crate::lines::line_end;
 use crate::tokens::{is_name, is_token, is_word, name_end};
 
 /// What a token is on its line.
-#[derive(Clone, Copy, PartialEq, Eq, Debug)]
+#[derive(Clone, Copy, PartialEq, Eq)]
 pub enum Kind {
     /// The name of a label.
     Label,
