@@ -22,18 +22,29 @@ pub struct Explained<'a> {
 
 impl Display for Explained<'_> {
     fn fmt<W: fmt::Write>(&self, f: &mut Formatter<W>) -> fmt::Result {
-        let text = self.text.as_bytes();
-        match self.refusal {
-            AsmRefusal::BadToken { line } => tell_character(f, text, line),
-            AsmRefusal::UnknownWord { line } => tell_word(f, text, line),
-            AsmRefusal::BadOperand { line } => tell_operands(f, text, line),
-            AsmRefusal::BadNumber { line } => tell_number(f, text, line),
-            AsmRefusal::LabelTwice { line } => tell_label(f, text, line),
-            AsmRefusal::NoSuchLabel { line } => tell_unknown(f, text, line),
-            AsmRefusal::Backward { line } => tell_backward(f, text, line),
-            AsmRefusal::TooFar { line } => tell_far(f, text, line),
-            AsmRefusal::TooMany { .. } | AsmRefusal::OutOfMemory => write!(f, "{}", self.refusal),
+        match tell(f, self.text.as_bytes(), &self.refusal) {
+            Some(told) => told,
+            None => write!(f, "{}", self.refusal),
         }
+    }
+}
+
+// Tells of a refusal with what it is about, where that is found.
+fn tell<W: fmt::Write>(
+    f: &mut Formatter<W>,
+    text: &[u8],
+    refusal: &AsmRefusal,
+) -> Option<fmt::Result> {
+    match *refusal {
+        AsmRefusal::BadToken { line } => tell_character(f, text, line),
+        AsmRefusal::UnknownWord { line } => tell_word(f, text, line),
+        AsmRefusal::BadOperand { line } => tell_operands(f, text, line),
+        AsmRefusal::BadNumber { line } => Some(tell_number(f, text, line)),
+        AsmRefusal::LabelTwice { line } => tell_label(f, text, line),
+        AsmRefusal::NoSuchLabel { line } => tell_unknown(f, text, line),
+        AsmRefusal::Backward { line } => tell_backward(f, text, line),
+        AsmRefusal::TooFar { line } => tell_far(f, text, line),
+        AsmRefusal::TooMany { .. } | AsmRefusal::OutOfMemory => None,
     }
 }
 
@@ -50,18 +61,23 @@ impl Display for Quoted<'_> {
     }
 }
 
-fn tell_character<W: fmt::Write>(f: &mut Formatter<W>, text: &[u8], line: usize) -> fmt::Result {
-    match bad_character(text, line) {
-        Some(b"/*") => write!(
+fn tell_character<W: fmt::Write>(
+    f: &mut Formatter<W>,
+    text: &[u8],
+    line: usize,
+) -> Option<fmt::Result> {
+    let character = bad_character(text, line)?;
+    if character == b"/*".as_slice() {
+        Some(write!(
             f,
             "line {line}: the comment that \"/*\" begins is never closed; \"*/\" closes it"
-        ),
-        Some(character) => write!(
+        ))
+    } else {
+        Some(write!(
             f,
             "line {line}: {} has no meaning outside a comment; a comment is written behind ; or between /* and */",
             Quoted(character)
-        ),
-        None => write!(f, "{}", AsmRefusal::BadToken { line }),
+        ))
     }
 }
 
@@ -77,15 +93,12 @@ fn bad_character(text: &[u8], line: usize) -> Option<&[u8]> {
     None
 }
 
-fn tell_word<W: fmt::Write>(f: &mut Formatter<W>, text: &[u8], line: usize) -> fmt::Result {
-    match word_on(text, line) {
-        Some(word) => write!(
-            f,
-            "line {line}: {} is no instruction; there are {WORDS}",
-            Quoted(word.token)
-        ),
-        None => write!(f, "{}", AsmRefusal::UnknownWord { line }),
-    }
+fn tell_word<W: fmt::Write>(f: &mut Formatter<W>, text: &[u8], line: usize) -> Option<fmt::Result> {
+    let word = Quoted(word_on(text, line)?.token);
+    Some(write!(
+        f,
+        "line {line}: {word} is no instruction; there are {WORDS}"
+    ))
 }
 
 // The word of the instruction on a line.
@@ -100,26 +113,23 @@ fn word_on(text: &[u8], line: usize) -> Option<Part> {
     None
 }
 
-fn tell_operands<W: fmt::Write>(f: &mut Formatter<W>, text: &[u8], line: usize) -> fmt::Result {
-    let Some(word) = word_on(text, line) else {
-        return write!(f, "{}", AsmRefusal::BadOperand { line });
-    };
-    let takes = operands_of(word.token);
+fn tell_operands<W: fmt::Write>(
+    f: &mut Formatter<W>,
+    text: &[u8],
+    line: usize,
+) -> Option<fmt::Result> {
+    let word = word_on(text, line)?.token;
+    let takes = operands_of(word);
     let operands = operands_on(text, line);
+    let word = Quoted(word);
     if operands.is_empty() {
-        write!(
-            f,
-            "line {line}: nothing follows {}; it takes {takes}",
-            Quoted(word.token)
-        )
-    } else {
-        write!(
-            f,
-            "line {line}: {} does not take {}; it takes {takes}",
-            Quoted(word.token),
-            Quoted(operands)
-        )
+        return Some(write!(f, "line {line}: nothing follows {word}; it takes {takes}"));
     }
+    let operands = Quoted(operands);
+    Some(write!(
+        f,
+        "line {line}: {word} does not take {operands}; it takes {takes}"
+    ))
 }
 
 // How the operands of a word are written.
@@ -201,15 +211,17 @@ fn is_in_range(number: &[u8], is_negative: bool) -> bool {
     }
 }
 
-fn tell_label<W: fmt::Write>(f: &mut Formatter<W>, text: &[u8], line: usize) -> fmt::Result {
-    match label_again(text, line) {
-        Some((label, first)) => write!(
-            f,
-            "line {line}: label {} is defined on line {first} already",
-            Quoted(label)
-        ),
-        None => write!(f, "{}", AsmRefusal::LabelTwice { line }),
-    }
+fn tell_label<W: fmt::Write>(
+    f: &mut Formatter<W>,
+    text: &[u8],
+    line: usize,
+) -> Option<fmt::Result> {
+    let (label, first) = label_again(text, line)?;
+    let label = Quoted(label);
+    Some(write!(
+        f,
+        "line {line}: label {label} is defined on line {first} already"
+    ))
 }
 
 // The first label of a line that is defined before, and on which line.
@@ -239,54 +251,61 @@ fn definition_of<'a>(text: &'a [u8], name: &[u8]) -> Option<Part<'a>> {
     None
 }
 
-fn tell_unknown<W: fmt::Write>(f: &mut Formatter<W>, text: &[u8], line: usize) -> fmt::Result {
-    match bad_target(text, line, AsmRefusal::NoSuchLabel { line }) {
-        Some(target) => write!(
-            f,
-            "line {line}: no line defines the label {}; a label is written with : behind it, in front of its instruction",
-            Quoted(target.name)
-        ),
-        None => write!(f, "{}", AsmRefusal::NoSuchLabel { line }),
-    }
-}
-
-fn tell_backward<W: fmt::Write>(f: &mut Formatter<W>, text: &[u8], line: usize) -> fmt::Result {
-    match bad_target(text, line, AsmRefusal::Backward { line }) {
-        Some(target) => write!(
-            f,
-            "line {line}: the jump to {} leads back to line {}; a jump leads to a later instruction",
-            Quoted(target.name),
-            target.line
-        ),
-        None => write!(f, "{}", AsmRefusal::Backward { line }),
-    }
-}
-
-fn tell_far<W: fmt::Write>(f: &mut Formatter<W>, text: &[u8], line: usize) -> fmt::Result {
-    match bad_target(text, line, AsmRefusal::TooFar { line }) {
-        Some(target) => write!(
-            f,
-            "line {line}: the jump to {} passes {} instructions; at most 255 fit",
-            Quoted(target.name),
-            target.passed
-        ),
-        None => write!(f, "{}", AsmRefusal::TooFar { line }),
-    }
-}
-
-/// A label that a jump names: the line that defines it, and how many instructions stand between. Both are 0 where none does,
-/// and instructions are counted ahead alone.
-#[derive(Clone, Copy)]
-struct Target<'a> {
-    name: &'a [u8],
+fn tell_unknown<W: fmt::Write>(
+    f: &mut Formatter<W>,
+    text: &[u8],
     line: usize,
-    passed: usize,
+) -> Option<fmt::Result> {
+    let (label, Unreached::NoLabel) = bad_target(text, line)? else {
+        return None;
+    };
+    let label = Quoted(label);
+    Some(write!(
+        f,
+        "line {line}: no line defines the label {label}; a label is written with : behind it, in front of its instruction"
+    ))
 }
 
-// The first label of the jump on a line for which it is refused so.
-fn bad_target(text: &[u8], line: usize, refusal: AsmRefusal) -> Option<Target> {
-    let word = word_on(text, line)?;
-    let mut is_label_next = word.token == b"jmp".as_slice() || word.token == b"ja".as_slice();
+fn tell_backward<W: fmt::Write>(
+    f: &mut Formatter<W>,
+    text: &[u8],
+    line: usize,
+) -> Option<fmt::Result> {
+    let (label, Unreached::Backward { to }) = bad_target(text, line)? else {
+        return None;
+    };
+    let label = Quoted(label);
+    Some(write!(
+        f,
+        "line {line}: the jump to {label} leads back to line {to}; a jump leads to a later instruction"
+    ))
+}
+
+fn tell_far<W: fmt::Write>(f: &mut Formatter<W>, text: &[u8], line: usize) -> Option<fmt::Result> {
+    let (label, Unreached::Far { passed }) = bad_target(text, line)? else {
+        return None;
+    };
+    let label = Quoted(label);
+    Some(write!(
+        f,
+        "line {line}: the jump to {label} passes {passed} instructions; at most 255 fit"
+    ))
+}
+
+/// Why a conditional jump can't reach a label.
+#[derive(Clone, Copy)]
+enum Unreached {
+    NoLabel,
+    /// The line that defines it.
+    Backward { to: usize },
+    /// How many instructions stand between.
+    Far { passed: usize },
+}
+
+// The first label of the jump on a line that it can't reach, and why.
+fn bad_target(text: &[u8], line: usize) -> Option<(&[u8], Unreached)> {
+    let jump = word_on(text, line)?;
+    let mut is_label_next = jump.token == b"jmp".as_slice() || jump.token == b"ja".as_slice();
     let mut parts = Parts::of(text);
     for _part in 0..text.len() {
         let part = parts.next_part()?;
@@ -294,9 +313,8 @@ fn bad_target(text: &[u8], line: usize, refusal: AsmRefusal) -> Option<Target> {
             continue;
         }
         if is_label_next && is_word(part.token) {
-            let (target, met) = target_of(text, word, part.token);
-            if met == Some(refusal) {
-                return Some(target);
+            if let Some(why) = why_unreached(text, jump.left, part.token) {
+                return Some((part.token, why));
             }
         }
         is_label_next = part.token == b",".as_slice();
@@ -304,33 +322,19 @@ fn bad_target(text: &[u8], line: usize, refusal: AsmRefusal) -> Option<Target> {
     None
 }
 
-// A label that the jump of this word names, and why it can't be reached.
-fn target_of<'a>(text: &'a [u8], word: Part, name: &'a [u8]) -> (Target<'a>, Option<AsmRefusal>) {
-    let at = word.line;
-    match definition_of(text, name) {
-        None => (
-            Target {
-                name,
-                line: 0,
-                passed: 0,
-            },
-            Some(AsmRefusal::NoSuchLabel { line: at }),
-        ),
-        Some(label) => {
-            let passed = words_between(text, word.left, label.left);
-            let target = Target {
-                name,
-                line: label.line,
-                passed,
-            };
-            if label.left > word.left {
-                (target, Some(AsmRefusal::Backward { line: at }))
-            } else if passed > 255 {
-                (target, Some(AsmRefusal::TooFar { line: at }))
-            } else {
-                (target, None)
-            }
-        }
+// Why the jump at a place can't reach the label of a name.
+fn why_unreached(text: &[u8], from: usize, name: &[u8]) -> Option<Unreached> {
+    let Some(label) = definition_of(text, name) else {
+        return Some(Unreached::NoLabel);
+    };
+    if label.left > from {
+        return Some(Unreached::Backward { to: label.line });
+    }
+    let passed = words_between(text, from, label.left);
+    if passed > 255 {
+        Some(Unreached::Far { passed })
+    } else {
+        None
     }
 }
 

@@ -58,7 +58,14 @@ impl AsmRefusal {
     pub fn line(self) -> Option<usize>
         ensures { result ≡ refusal_line self }
     {
-        match self {
+        self.place()
+    }
+
+    // By reference, since a proof pays for each variant of a copy.
+    fn place(&self) -> Option<usize>
+        ensures { result ≡ refusal_line self.now }
+    {
+        match *self {
             AsmRefusal::BadToken { line }
             | AsmRefusal::UnknownWord { line }
             | AsmRefusal::BadOperand { line }
@@ -71,49 +78,33 @@ impl AsmRefusal {
             AsmRefusal::OutOfMemory => None,
         }
     }
+
+    /// What is told of the refusal behind the line.
+    fn text(&self) -> &'static str {
+        match self {
+            AsmRefusal::BadToken { .. } =>
+                "a character that is no part of a token, or a comment without its */",
+            AsmRefusal::UnknownWord { .. } => "no instruction has this word",
+            AsmRefusal::BadOperand { .. } => "the instruction does not take these operands",
+            AsmRefusal::BadNumber { .. } => "a number that is malformed or out of range",
+            AsmRefusal::LabelTwice { .. } => "a label that is defined on an earlier line already",
+            AsmRefusal::NoSuchLabel { .. } => "a jump to a label that is not defined",
+            AsmRefusal::Backward { .. } =>
+                "a jump to its own place or backwards; only jumps ahead are read",
+            AsmRefusal::TooFar { .. } =>
+                "a conditional jump that passes more than 255 instructions",
+            AsmRefusal::TooMany { .. } => "instruction 4097; at most 4096 fit",
+            AsmRefusal::OutOfMemory => "memory was refused",
+        }
+    }
 }
 
 impl Display for AsmRefusal {
     fn fmt<W: fmt::Write>(&self, f: &mut Formatter<W>) -> fmt::Result {
-        match self {
-            AsmRefusal::BadToken { line } => write!(
-                f,
-                "line {line}: a character that is no part of a token, or a comment without its */"
-            ),
-            AsmRefusal::UnknownWord { line } => write!(
-                f,
-                "line {line}: no instruction has this word"
-            ),
-            AsmRefusal::BadOperand { line } => write!(
-                f,
-                "line {line}: the instruction does not take these operands"
-            ),
-            AsmRefusal::BadNumber { line } => write!(
-                f,
-                "line {line}: a number that is malformed or out of range"
-            ),
-            AsmRefusal::LabelTwice { line } => write!(
-                f,
-                "line {line}: a label that is defined on an earlier line already"
-            ),
-            AsmRefusal::NoSuchLabel { line } => write!(
-                f,
-                "line {line}: a jump to a label that is not defined"
-            ),
-            AsmRefusal::Backward { line } => write!(
-                f,
-                "line {line}: a jump to its own place or backwards; only jumps ahead are read"
-            ),
-            AsmRefusal::TooFar { line } => write!(
-                f,
-                "line {line}: a conditional jump that passes more than 255 instructions"
-            ),
-            AsmRefusal::TooMany { line } => write!(
-                f,
-                "line {line}: instruction 4097; at most 4096 fit"
-            ),
-            AsmRefusal::OutOfMemory => f.write_str("memory was refused"),
+        if let Some(line) = self.place() {
+            write!(f, "line {line}: ")?;
         }
+        f.write_str(self.text())
     }
 }
 
