@@ -56,25 +56,33 @@ fn not_toml<W: fmt::Write>(f: &mut Formatter<W>, error: &toml::de::Error) -> fmt
 /// A key is quoted as in TOML, since it may be any text.
 fn unknown_key<W: fmt::Write>(f: &mut Formatter<W>, place: Place, key: &str) -> fmt::Result {
     match place {
-        Place::Top if RULE_KEYS.contains(&key) => write!(
+        Place::Top => unknown_at_top(f, key),
+        Place::Rule(rule) => unknown_in_rule(f, rule, key),
+    }
+}
+
+fn unknown_at_top<W: fmt::Write>(f: &mut Formatter<W>, key: &str) -> fmt::Result {
+    if RULE_KEYS.contains(&key) {
+        return write!(
             f,
             "{key:?} stands above the first `[[rule]]`; write it below the `[[rule]]` that it belongs to"
-        ),
-        Place::Top => {
-            write!(f, "the key {key:?} is unknown")?;
-            guess(f, nearest(key, &DOCUMENT_KEYS))?;
-            f.write_str("; a table has `default`, `other` and `[[rule]]`")
-        }
-        Place::Rule(rule) if matches!(key, "default" | "other") => write!(
+        );
+    }
+    write!(f, "the key {key:?} is unknown")?;
+    guess(f, nearest(key, &DOCUMENT_KEYS))?;
+    f.write_str("; a table has `default`, `other` and `[[rule]]`")
+}
+
+fn unknown_in_rule<W: fmt::Write>(f: &mut Formatter<W>, rule: usize, key: &str) -> fmt::Result {
+    if matches!(key, "default" | "other") {
+        return write!(
             f,
             "rule {rule} has {key:?}: behind a `[[rule]]` TOML puts it into that rule; write it above the first `[[rule]]`"
-        ),
-        Place::Rule(rule) => {
-            write!(f, "rule {rule} has the unknown key {key:?}")?;
-            guess(f, nearest(key, &RULE_KEYS))?;
-            f.write_str("; a rule has `action`, `pgn`, `source`, `destination` and `from`")
-        }
+        );
     }
+    write!(f, "rule {rule} has the unknown key {key:?}")?;
+    guess(f, nearest(key, &RULE_KEYS))?;
+    f.write_str("; a rule has `action`, `pgn`, `source`, `destination` and `from`")
 }
 
 fn guess<W: fmt::Write>(f: &mut Formatter<W>, key: Option<&str>) -> fmt::Result {
