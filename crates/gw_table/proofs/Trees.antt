@@ -1,10 +1,12 @@
 -- What the tree of a document has, beside the values of the program that it stands for.
 use Rattle.std.proofs.Common.{◌≡◌, ◌≢◌, ℕ, Bool, true, false, not, List, [], ◌∷◌, length, map, Option, Some, None, Err}
-use Rattle.std.proofs.Common.{option_map, string_bytes, refl, ap, ◌∙◌}
+use Rattle.std.proofs.Common.{zero, suc, ◌<◌, arith, option_map, string_bytes, refl, sym, ap, ◌∙◌}
+use Rattle.std.proofs.lemmas.Bool.{lt-ltb, le-ltb}
 use Rattle.std.proofs.lemmas.List.{length-map}
-use Rattle.std.proofs.lemmas.Option.{slice_get-map}
+use Rattle.std.proofs.lemmas.Option.{slice_get-map, slice_get-get_or}
 use Rattle.std.specs.Prelude.{if◌then◌else◌, option_and_then, is_some, slice_get}
-use Rattle.std.specs.List.{list_all, list_any, filter_map, cons_option, find, position, prefix_len}
+use Rattle.std.specs.List.{list_all, list_any, filter_map, cons_option, find, position, prefix_len, AllWithin, HoldsAt}
+use Rattle.std.specs.List.{position_or_len}
 use Rattle.std.specs.Map.{keys_of as entry_keys}
 use Rattle.std.specs.Str.{bytes_eq}
 use Rattle.toml.proofs.Views.{Entry}
@@ -12,6 +14,7 @@ use Rattle.toml.specs.declared.value.Value.{Value}
 use Rattle.toml.specs.View.{view, members_view, items_view}
 use Rattle.toml.specs.Data.{Data, array}
 use Rattle.gw_table.specs.TableText.{keys_of, values_of, first_but, first_of, is_table, tables_in, span_in}
+use Rattle.gw_table.specs.TableText.{FirstWrong, IsFirstWrong}
 use Rattle.gw_table.specs.declared.refusal.RangeFault.TheVariants.{NoRange}
 
 -- keys, and the first of them that is none of the known ones
@@ -88,12 +91,67 @@ seen_at : {A : Type 0} (wrong : Data → Option A) (values : List Value) (number
 seen_at wrong values number =
     ap (option_and_then wrong) (slice_get-map view values number) ∙ and_then-map wrong view (slice_get values number)
 
-pub first_of-none : {A : Type 0} (wrong : Data → Option A) (values : List Value)
+first_of-none : {A : Type 0} (wrong : Data → Option A) (values : List Value)
     → position (λ value. is_some (wrong (view value))) values ≡ None → None ≡ first_of wrong (map view values)
 first_of-none wrong values none = rw (position-map (λ rule. is_some (wrong rule)) view values, none) refl
 
-pub first_of-some : {A : Type 0} (wrong : Data → Option A) (values : List Value) (number : ℕ) (value : Value) (why : A)
+first_of-some : {A : Type 0} (wrong : Data → Option A) (values : List Value) (number : ℕ) (value : Value) (why : A)
     → position (λ value. is_some (wrong (view value))) values ≡ Some number → slice_get values number ≡ Some value
     → wrong (view value) ≡ Some why → Some (number, why) ≡ first_of wrong (map view values)
 first_of-some wrong values number value why found at is =
     rw (position-map (λ rule. is_some (wrong rule)) view values, found, seen_at wrong values number, at, is) refl
+
+-- the place of the first that passes, where no earlier one does, or the length
+first_at : {X : Type 0} (test : X → Bool) (xs : List X) (number : ℕ) → number < length xs
+    → AllWithin (λ x. test x ≡ false) xs 0 number → HoldsAt (λ x. test x ≡ true) xs number → position_or_len test xs ≡ number
+first_at test [] number within before here = absurd (omega arith)
+first_at test (x ∷ xs) zero within before here = let e = here x in rw e refl
+first_at test (x ∷ xs) (suc number) within before here =
+    let e = before 0 x (omega arith) (omega arith) in
+    let later = first_at test xs number (omega arith) (λ k d low high. before (suc k) d (omega arith) (omega arith)) here in
+    rw e (omega (arith, later))
+
+none_at : {X : Type 0} (test : X → Bool) (xs : List X) → AllWithin (λ x. test x ≡ false) xs 0 (length xs)
+    → position_or_len test xs ≡ length xs
+none_at test [] none = refl
+none_at test (x ∷ xs) none =
+    let e = none 0 x (omega arith) (omega arith) in
+    let later = none_at test xs (λ k d low high. none (suc k) d (omega arith) (omega arith)) in
+    rw e (omega (arith, later))
+
+-- a search that is told of each value what is wrong with it finds the first of which something is wrong
+module _ {A B : Type 0} (gives : Value → Option A → Type 0) (wrong : Data → Option B) (seen : A → B)
+    (told : (value : Value) (why : Option A) → gives value why → option_map seen why ≡ wrong (view value)) where
+  abbrev is_wrong : Value → Bool
+  is_wrong value = is_some (wrong (view value))
+
+  first_of-search : (values : List Value) (found : Option (ℕ × A)) → FirstWrong gives values found
+      → option_map (λ at. (at.0, seen at.1)) found ≡ first_of wrong (map view values)
+  first_of-search values None all =
+      let at = none_at is_wrong values (λ k d low high. sym (ap is_some (told _ None (all k d low high)))) in
+      let past = le-ltb (length values) (length values) (omega arith) in
+      first_of-none wrong values (rw (at, past) refl)
+  first_of-search [] (Some found) is = absurd (omega (arith, is.0))
+  first_of-search (value ∷ values) (Some found) is =
+      let rules = value ∷ values in
+      let at = first_at is_wrong rules found.0 is.0 (λ k d low high. sym (ap is_some (told _ None (is.2 k d low high))))
+      (λ d. sym (ap is_some (told _ (Some found.1) (is.1 d)))) in
+      let within = lt-ltb found.0 (length rules) is.0 in
+      first_of-some wrong rules found.0 _ (seen found.1) (rw (at, within) refl) (slice_get-get_or rules found.0 value is.0)
+      (sym (told _ (Some found.1) (is.1 value)))
+
+pub first_of-told : {A B : Type 0} {gives : Value → Option A → Type 0} (wrong : Data → Option B) (seen : A → B)
+    (values : List Value) (found : Option (ℕ × A)) → IsFirstWrong gives values found
+    → ((value : Value) (why : Option A) → gives value why → option_map seen why ≡ wrong (view value))
+    → option_map (λ at. (at.0, seen at.1)) found ≡ first_of wrong (map view values)
+first_of-told {A} {B} {gives} wrong seen values found is told = first_of-search gives wrong seen told values found is.first
+
+kept : {A : Type 0} (found : Option A) → option_map (λ x. x) found ≡ found
+kept None = refl
+kept (Some x) = refl
+
+pub first_of-found : {A : Type 0} {gives : Value → Option A → Type 0} (wrong : Data → Option A) (values : List Value)
+    (found : Option (ℕ × A)) → IsFirstWrong gives values found
+    → ((value : Value) (why : Option A) → gives value why → why ≡ wrong (view value)) → found ≡ first_of wrong (map view values)
+first_of-found {A} {gives} wrong values found is told =
+    sym (kept found) ∙ first_of-search gives wrong (λ why. why) (λ value why k. kept why ∙ told value why k) values found is.first

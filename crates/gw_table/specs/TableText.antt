@@ -2,7 +2,7 @@
 use Rattle.std.specs.Prelude.{◌≡◌, ℕ, ◌≤◌, ◌<◌, pos, codes, Bool, not, nat_le, if◌then◌else◌, List, [], ◌∷◌, length, slice_get}
 use Rattle.std.specs.Prelude.{Option, Some, None, is_some, option_map, option_and_then, unwrap_or, Result, Ok, Err, bytes_eq}
 use Rattle.std.specs.Prelude.{position, string_bytes}
-use Rattle.std.specs.List.{list_all, list_any, filter_map, find}
+use Rattle.std.specs.List.{list_all, list_any, filter_map, find, AllWithin, HoldsAt}
 use Rattle.std.specs.Option.{option_map_or, option_or}
 use Rattle.std.specs.Result.{result_map_both, result_ok, result_err}
 use Rattle.toml.specs.Data.{Data, string, integer, array, table, Items, no_items, item, Members, no_members, member, get}
@@ -43,6 +43,16 @@ abbrev pub first_of : {A : Type 0} → (Data → Option A) → List Data → Opt
 first_of wrong rules =
     option_and_then (λ number. option_map (λ why. (number, why)) (option_and_then wrong (slice_get rules number)))
     (position (λ rule. is_some (wrong rule)) rules)
+
+-- what a search for it finds, where `gives rule why` says that the search was told this of the rule
+abbrev pub FirstWrong : {V A : Type 0} → (V → Option A → Type 0) → List V → Option (ℕ × A) → Type 0
+FirstWrong gives rules None = AllWithin (λ rule. gives rule None) rules 0 (length rules)
+FirstWrong gives rules (Some found) =
+    (found.0 < length rules) × HoldsAt (λ rule. gives rule (Some found.1)) rules found.0
+    × AllWithin (λ rule. gives rule None) rules 0 found.0
+
+pub record IsFirstWrong {V A : Type 0} (gives : V → Option A → Type 0) (rules : List V) (found : Option (ℕ × A)) : Type 0 where
+  pub first : FirstWrong gives rules found
 
 -- keys: the first that is none of the known ones, where a table has its keys in the order of their octets
 

@@ -1,6 +1,7 @@
 //! Reading a table from TOML text.
 
 ghost use Rattle.std.specs.Prelude.{◌≡◌, map, option_map, IfOk, IfErr, bytes_eq, string_bytes};
+ghost use Rattle.std.specs.Fn.{FnReturnsAt};
 ghost use Rattle.std.specs.List.{list_all, list_any, filter_map};
 ghost use Rattle.toml.specs.Data.{get_member};
 ghost use Rattle.toml.specs.View.{view, table_view};
@@ -30,6 +31,7 @@ ghost use Rattle.gw_table.specs.TableText.{
   unknown_key,
   bad_action,
   bad_range,
+  IsFirstWrong,
   IsDocument,
   IsDocumentRefusal,
   IsTableText,
@@ -153,6 +155,22 @@ fn are_tables(values: &[Value]) -> bool
     values.iter().all(Value::is_table)
 }
 
+/// The first rule of which something is wrong, by its number, and what it is.
+fn first_of<'a, T: Drop, F: Fn(&'a Value) -> Option<T>>(
+    rules: &'a [Value],
+    wrong: F,
+) -> Option<(usize, T)>
+    requires { F.IsAlwaysCallable wrong }
+    ensures { IsFirstWrong (FnReturnsAt F.Fn wrong) rules.now result }
+{
+    for (number, rule) in rules.iter().enumerate() {
+        if let Some(why) = wrong(rule) {
+            return Some((number, why));
+        }
+    }
+    None
+}
+
 /// The first key that is not known, and where it stands.
 fn unknown_key<'a>(document: &'a toml::Table, rules: &'a [Value]) -> Option<(Place, &'a String)>
     ensures { option_map (λ found. (found.0, string_bytes found.1.now)) result
@@ -169,11 +187,7 @@ fn unknown_in_rules(rules: &[Value]) -> Option<(usize, &String)>
     ensures { option_map (λ found. (found.0, string_bytes found.1.now)) result
         ≡ first_of unknown_in_rule (map view rules.now) }
 {
-    let rule = rules
-        .iter()
-        .position(|rule| unknown_in_rule(rule).is_some())?;
-    let key = unknown_in_rule(rules.get(rule)?)?;
-    Some((rule, key))
+    first_of(rules, unknown_in_rule)
 }
 
 fn unknown_at_top(document: &toml::Table) -> Option<&String>
@@ -247,9 +261,7 @@ fn bad_action(document: &toml::Table, rules: &[Value]) -> Option<(Part, ActionFa
 fn bad_rule_action(rules: &[Value]) -> Option<(usize, ActionFault)>
     ensures { result ≡ first_of action_fault (map view rules.now) }
 {
-    let rule = rules.iter().position(|rule| action_fault(rule).is_some())?;
-    let why = action_fault(rules.get(rule)?)?;
-    Some((rule, why))
+    first_of(rules, action_fault)
 }
 
 /// What is wrong with an action that may be absent.
@@ -282,9 +294,7 @@ fn action_fault(rule: &Value) -> Option<ActionFault>
 fn bad_range(rules: &[Value]) -> Option<(usize, (Field, RangeFault))>
     ensures { result ≡ bad_range (map view rules.now) }
 {
-    let rule = rules.iter().position(|rule| range_fault(rule).is_some())?;
-    let fault = range_fault(rules.get(rule)?)?;
-    Some((rule, fault))
+    first_of(rules, range_fault)
 }
 
 fn range_fault(rule: &Value) -> Option<(Field, RangeFault)>

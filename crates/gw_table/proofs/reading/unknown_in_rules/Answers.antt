@@ -1,26 +1,9 @@
-use Rattle.std.proofs.Common.{refl, ◌∙◌, sym, ap, rules, tests, option_map, string_bytes}
-use Rattle.std.proofs.lemmas.Iterator.{YieldsList-from_slice}
-use Rattle.std.proofs.lemmas.Iterator.Search.{position_from_yields_List}
-use Rattle.std.proofs.lemmas.Option.{slice_get_read}
-use Rattle.std.specs.Prelude.{is_some}
-use Rattle.toml.specs.View.{view}
+use Rattle.std.proofs.Common.{rules, string_bytes}
 use Rattle.gw_table.specs.TableText.{unknown_in_rule}
-use Rattle.gw_table.proofs.Trees.{first_of-none, first_of-some}
+use Rattle.gw_table.proofs.Trees.{first_of-told}
 use Rattle.gw_table.proofs.reading.unknown_in_rules.Goals as goal
-
-pub returns-in_err-rule : goal.returns-in_err-rule
-returns-in_err-rule c =
-    let rules_now = c.args.rules.now in
-    let found = position_from_yields_List (λ rule. is_some (unknown_in_rule (view rule))) _ _ _ c.position.ensures.ran
-    (YieldsList-from_slice rules_now cc) (λ x b q k. search (rules, tests)) in
-    ap (option_map _) c.from_residual.ensures ∙ first_of-none unknown_in_rule rules_now (sym found ∙ c.in_err-rule.was)
 
 pub returns : goal.returns
 returns c =
-    let rules_now = c.args.rules.now in
-    let found = position_from_yields_List (λ rule. is_some (unknown_in_rule (view rule))) _ _ _ c.position.ensures.ran
-    (YieldsList-from_slice rules_now cc) (λ x b q k. search (rules, tests)) in
-    first_of-some unknown_in_rule rules_now c.in_ok-rule.rule c.in_ok-get.field-0.now (string_bytes c.in_ok-key.key.now)
-    (sym found ∙ c.in_ok-rule.was) (slice_get_read rules_now _ c.in_ok-rule.rule c.in_ok-get.field-0.now refl
-    c.in_ok-get.ensures.lookup.3.0 c.in_ok-get.ensures.lookup.1) (sym c.unknown_in_rule.ensures
-    ∙ ap (option_map (λ key. string_bytes key.now)) c.in_ok-key.was)
+    first_of-told unknown_in_rule (λ key. string_bytes key.now) c.args.rules.now c.first_of.result c.first_of.ensures
+    (λ value why k. search rules)
