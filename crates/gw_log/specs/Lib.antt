@@ -1,0 +1,2 @@
+-- public meaning: candump's form of a frame
+pub mod LogFrames
