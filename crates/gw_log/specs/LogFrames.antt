@@ -31,7 +31,7 @@ record_of word payload = big_bytes 4 word ++ length payload ∷ 0 ∷ 0 ∷ 0 �
 abbrev pub parted : ℕ → List ℕ → Option (List ℕ × List ℕ)
 parted octet text = option_map (λ at. (take at text, drop (at + 1) text)) (position (λ c. c == octet) text)
 
-abbrev pub digit : ℕ → ℕ
+unfoldable pub digit : ℕ → ℕ
 digit c = unwrap_or (hex_digit_value c) 0
 
 -- the number that digits spell

@@ -1,6 +1,7 @@
 //! What stands behind the `#` of a frame.
 
-ghost use Rattle.std.specs.Prelude.{◌≡◌, ◌==◌, ◌<◌, ◌≤◌, Ok, Err, length, option_map, position, IfSome, MatchOption, MatchResult};
+ghost use Rattle.std.specs.Prelude.{◌≡◌, ◌==◌, ◌<◌, ◌≤◌, Ok, Err, length, option_map, position};
+ghost use Rattle.std.specs.Prelude.{IfSome, MatchOption, MatchResult};
 ghost use Rattle.std.specs.List.{list_all, list_any, slice_split};
 ghost use Rattle.gw_log.specs.LogFrames.{
   parted,
