@@ -1,3 +1,5 @@
 pub mod DigitValues
 pub mod Parts
+pub mod DigitTexts
+pub mod RoundTrip
 mod FrameExamples

@@ -1,2 +1,3 @@
--- public meaning: candump's form of a frame
+-- public meaning: candump's form of a frame, and the other way
 pub mod LogFrames
+pub mod LogTexts

@@ -22,13 +22,13 @@ use arrayvec::ArrayVec;
 use gw_frame::Frame;
 
 /// The flag of an identifier of 29 bits.
-const EXTENDED: u32 = 0x8000_0000;
+pub const EXTENDED: u32 = 0x8000_0000;
 
 /// The flag of a request for a frame.
-const REMOTE: u32 = 0x4000_0000;
+pub const REMOTE: u32 = 0x4000_0000;
 
 /// The flag of a report of the controller's.
-const ERROR: u32 = 0x2000_0000;
+pub const ERROR: u32 = 0x2000_0000;
 
 /// The frame that a text in candump's form means: `18FEF100#0102030405060708`, `123#R3`.
 ///
