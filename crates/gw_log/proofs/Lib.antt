@@ -3,3 +3,4 @@ pub mod Parts
 pub mod DigitTexts
 pub mod RoundTrip
 mod FrameExamples
+mod TextExamples
