@@ -1,8 +1,8 @@
 // A library to preload (LD_PRELOAD) that counts what a program asks of the machine.
 //
-// At the program's end it writes one line on the descriptor whose number is in COUNT_REPORT: the reads, the writes, and the blocks
-// of memory that were taken and not given back. glibc keeps a block for each thread that was started, which is no block of the
-// program's.
+// At the program's end it writes one line on the descriptor whose number is in COUNT_REPORT: the reads, the writes, the blocks of
+// memory that were taken, and those of them that were not given back. glibc keeps a block for each thread that was started, which
+// is no block of the program's.
 
 #define _GNU_SOURCE
 #include <dlfcn.h>
@@ -20,7 +20,7 @@ void *__libc_calloc(size_t count, size_t size);
 void *__libc_realloc(void *old, size_t size);
 void __libc_free(void *old);
 
-static atomic_long reads, writes, blocks, threads;
+static atomic_long reads, writes, blocks, freed, threads;
 
 __attribute__((destructor)) static void tell(void)
 {
@@ -29,7 +29,7 @@ __attribute__((destructor)) static void tell(void)
     if (!report || atomic_flag_test_and_set(&is_told))
         return;
     char line[100];
-    int length = snprintf(line, sizeof line, "%ld %ld %ld\n", reads, writes, blocks - threads);
+    int length = snprintf(line, sizeof line, "%ld %ld %ld %ld\n", reads, writes, blocks, blocks - freed - threads);
     syscall(SYS_write, atoi(report), line, length);
 }
 
@@ -80,7 +80,7 @@ void *realloc(void *old, size_t size)
 
 void free(void *old)
 {
-    blocks -= old != NULL;
+    freed += old != NULL;
     __libc_free(old);
 }
 

@@ -51,6 +51,8 @@ mod table;
 #[cfg(test)]
 mod text;
 #[cfg(test)]
+mod texts;
+#[cfg(test)]
 mod trace;
 #[cfg(test)]
 mod tried;
