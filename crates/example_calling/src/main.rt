@@ -5,11 +5,13 @@
 //! it.
 #![tactic(auto)]
 
+mod every_order;
 mod fault;
 mod gateway;
 mod policies;
 mod replacing;
 
+use every_order::finished;
 use fault::Fault;
 use gateway::{batch_for, judge};
 use j1939_gateway::{Frame, Outcome};
@@ -60,10 +62,11 @@ fn main(rt: HostRuntime) -> ExitCode {
     }
 }
 
-/// Writes what becomes of the records, and of a frame around a replacement.
+/// Writes what becomes of the records, of a frame around a replacement, and of a frame in the model.
 fn tell_all<R: Wait, W: Write>(rt: &R, alloc: Global, output: &mut W) -> Result<(), Fault> {
     tell_verdicts(alloc, output)?;
-    tell_outcomes(rt, alloc, output)
+    tell_outcomes(rt, alloc, output)?;
+    tell_model(alloc, output)
 }
 
 /// Writes a line for each record: its name, and where it leaves.
@@ -89,6 +92,16 @@ fn tell_outcomes<R: Wait, W: Write>(rt: &R, alloc: Global, output: &mut W) -> Re
     let replaced = replace_between(rt, alloc, frame, table, program)?;
     tell_outcome(&replaced.before, output)?;
     tell_outcome(&replaced.after, output)
+}
+
+/// Writes a line for EEC1 in the model of every order of events, where the program is port 1's policy.
+fn tell_model<W: Write>(alloc: Global, output: &mut W) -> Result<(), Fault> {
+    let frame = Frame::read(&EEC1).map_err(|why| Fault::Record(why))?;
+    let program = batch_for(alloc, PORT, program_policy(alloc, PROGRAM)?)?;
+    match finished(alloc, frame, program)? {
+        Some(outcome) => tell_outcome(&outcome, output),
+        None => Ok(()),
+    }
 }
 
 /// Writes the number of a frame, by how many batches it was judged, and for which ports a copy was placed.

@@ -3,6 +3,10 @@ pub use Rattle.gw_board.specs.Ends as BoardEnds
 pub use Rattle.gw_board.specs.Lists
 pub use Rattle.gw_board.specs.Refusals as BoardRefusals
 pub use Rattle.gw_claims.specs.Holders
+pub use Rattle.gw_core.specs.Events as CoreEvents
+pub use Rattle.gw_core.specs.Headline
+pub use Rattle.gw_core.specs.Runs as CoreRuns
+pub use Rattle.gw_core.specs.Safety
 pub use Rattle.gw_frame.specs.Record
 pub use Rattle.gw_insn.specs.Listing
 pub use Rattle.gw_insn.specs.Table as Instructions

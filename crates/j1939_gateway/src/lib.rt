@@ -5,11 +5,13 @@
 //! - Tables: `Table`, `IndexedTable`, `compile`, and `table` from octets.
 //! - Policies: `Policy`, `Batch`, `PolicySet`; `program_policy` and `table_policy` from octets.
 //! - A gateway: `Limits`, `gateway`, its ends `Operator`, `PortIn` and `PortOut`, `close`; or `run_from`, with its own threads.
+//! - The model of every order of events: `Core`, `Event`, `Answer`.
 //! - Traces: `frames`, `Trace`, `Checked`. Scripts: `replay`.
 #![tactic(auto)]
 
 pub use gw_board::{NoReading, Operator, ReplaceRefusal, Told};
 pub use gw_claims::Claims;
+pub use gw_core::{Answer, Core, Event, EventRefusal};
 pub use gw_frame::{Frame, FrameRefusal};
 pub use gw_ident::{CanId, Name};
 pub use gw_input::{
