@@ -17,10 +17,10 @@ returns-in-Ok g c =
     let some = c.in-Program-default-Some.path-is in
     let some' = c.in-Program-default-Some.path-is' in
     let is : c.checked-found.result ≡ Err (Program refused (Some path)) = first_of (cc, grind arith) in
-    let value = c.deref.ensures.value in
+    let now = c.deref.ensures.value in
     let text = c.in-Ok.ensures in
     let same : c.deref.result.now ≡ path_line path.places.items ++ refusal_line (Program refused (Some path)) =
-    first_of (cc, search rules, grind (arith, common_steps), grind (arith, common_steps, text, value, err, program, some, some')) in
+    first_of (cc, search rules, grind (arith, common_steps), grind (arith, common_steps, text, now, err, program, some, some')) in
     record {
       found = Err (Program refused (Some path));
       is_found =
