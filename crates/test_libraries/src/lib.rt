@@ -31,6 +31,8 @@ mod lanes;
 #[cfg(test)]
 mod ledger;
 #[cfg(test)]
+mod long_runs;
+#[cfg(test)]
 mod machine;
 #[cfg(test)]
 mod made;

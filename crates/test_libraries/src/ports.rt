@@ -110,17 +110,17 @@ fn room_again_and_the_circle_of_sources(rt: HostRuntime) -> Result<(), Fail> {
 }
 
 #[test]
-fn a_lane_of_one_copy_a_thousand_times(rt: HostRuntime) -> Result<(), Fail> {
+fn a_lane_of_one_copy_a_hundred_thousand_times(rt: HostRuntime) -> Result<(), Fail> {
     let frame = Frame::read(&ENGINE_SPEED)?;
     let batch = batch(rt.alloc(), &[1], &returning(1))?;
-    let Some((mut ins, mut outs)) = ready(&rt, rt.alloc(), Limits::new(2, 1, 1, 1000)?, batch)
+    let Some((mut ins, mut outs)) = ready(&rt, rt.alloc(), Limits::new(2, 1, 1, 100_000)?, batch)
     else {
         return Err("no gateway".into());
     };
     let (Some(mut first), Some(mut last)) = (ins.next(), outs.nth(1)) else {
         return Err("no ports".into());
     };
-    for round in 0..1000 {
+    for round in 0..100_000 {
         assert_eq!(rt; offer(&mut first, frame), Ok((round, 1, 0b10, 0b10)));
         assert_eq!(rt; next(&mut last), Some((0, round)));
     }
@@ -165,6 +165,29 @@ fn next_at(parts: &mut Parts, port: usize) -> Option<(u8, u32)>
         return None;
     }
     next(&mut parts.outs[port])
+}
+
+#[test]
+fn sixteen_ports_and_each_source_in_its_turn(rt: HostRuntime) -> Result<(), Fail> {
+    let frame = Frame::read(&ENGINE_SPEED)?;
+    let pass = batch(rt.alloc(), &[0], &returning(1))?;
+    let Ok(mut parts) = gateway(rt.alloc(), Limits::new(16, 1, 1, 16)?) else {
+        return Err("no gateway".into());
+    };
+    assert!(rt; publish(&rt, &mut parts, pass) == Some(1));
+    for first in 1..16 {
+        // The circle goes on behind the source whose copy was taken last.
+        offer_at(&mut parts, usize::from(first), frame);
+        assert!(rt; next_at(&mut parts, 0).is_some_and(|(source, _)| source == first));
+        for port in 1..16 {
+            offer_at(&mut parts, port, frame);
+        }
+        for step in 0..15 {
+            let source = (first + step) % 15 + 1;
+            assert!(rt; next_at(&mut parts, 0).is_some_and(|(from, _)| from == source));
+        }
+    }
+    Ok(())
 }
 
 /// The number by which a batch is refused.
