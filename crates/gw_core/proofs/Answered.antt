@@ -7,7 +7,7 @@ use Rattle.gw_claims.specs.Claims.{is_local}
 use Rattle.gw_ledger.specs.Bounds.{Bounds}
 use Rattle.gw_ledger.specs.declared.outcome.FrameCopy.{FrameCopy}
 use Rattle.gw_ledger.specs.declared.outcome.Outcome.{Outcome}
-use Rattle.gw_core.specs.PortHistory.{place_of, waiting, heard, batches}
+use Rattle.gw_core.specs.PortHistory.{ingress_of, waiting, heard, batches}
 use Rattle.gw_core.specs.Events.{history_of, all_batches, accepted, keep_accepted, refusal, reply, answer, first_waiting}
 use Rattle.gw_core.specs.Events.{history_after}
 use Rattle.gw_core.specs.Gateway.{Gateway}
@@ -54,7 +54,7 @@ forwards law limits history (Take p frame) given events is o says =
 forwards law limits history (Step p) given events is o says = (p, refl, law limits history p o events (sym is ∙ says))
 forwards law limits history (Send to from) given events is o says =
     let done = accepted limits history in
-    absurd (no_copy (waiting (place_of limits from) to (history_of from done)) o
+    absurd (no_copy (waiting (ingress_of limits from) to (history_of from done)) o
     (said (refusal limits done (Send to from)) (answer limits done (Send to from)) o (sym is ∙ says)))
 
 -- a step that makes an instruction makes a safe one

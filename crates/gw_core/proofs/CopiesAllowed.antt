@@ -8,7 +8,7 @@ use Rattle.std.proofs.lemmas.List.Elements.{All-nil, All-cons, All-append, All-w
 use Rattle.gw_policy.specs.Batches.{Pair, in_force}
 use Rattle.gw_ledger.specs.Bounds.{Bounds}
 use Rattle.gw_ledger.specs.declared.outcome.FrameCopy.{FrameCopy}
-use Rattle.gw_core.specs.PortHistory.{PortEvent, batch_published, frame_taken, step_made, copy_asked, Place, place_of, Taking}
+use Rattle.gw_core.specs.PortHistory.{PortEvent, batch_published, frame_taken, step_made, copy_asked, Ingress, ingress_of, Taking}
 use Rattle.gw_core.specs.PortHistory.{Work, instruction, placing, last_taking, work, work_left}
 use Rattle.gw_core.specs.PortHistory.{steps_since, lane_after, places_at, placed_by, copy_of}
 use Rattle.gw_core.specs.Events.{history_of, all_batches}
@@ -38,12 +38,12 @@ later_allowed limits done p q e c a = record {
 }
 
 -- what holds of the copy that a step may place
-pub if_placed : (P : FrameCopy → Type 0) (place : Place) (b : Bool) (o : Option Taking)
-    → ((t : Taking) → b ≡ true → o ≡ Some t → P (copy_of place t))
-    → All P (cond b (option_to_list (option_map (copy_of place) o)) [])
-if_placed P place false o h = All-nil P
-if_placed P place true None h = All-nil P
-if_placed P place true (Some t) h = All-cons P (copy_of place t) [] (h t refl refl) (All-nil P)
+pub if_placed : (P : FrameCopy → Type 0) (ingress : Ingress) (b : Bool) (o : Option Taking)
+    → ((t : Taking) → b ≡ true → o ≡ Some t → P (copy_of ingress t))
+    → All P (cond b (option_to_list (option_map (copy_of ingress) o)) [])
+if_placed P ingress false o h = All-nil P
+if_placed P ingress true None h = All-nil P
+if_placed P ingress true (Some t) h = All-cons P (copy_of ingress t) [] (h t refl refl) (All-nil P)
 
 -- a step that places at a port has that placing as its piece
 first_placing : (q : ℕ) (w : List Work) → places_at q w ≡ true → (rest : List Work) × (w ≡ placing q ∷ rest)
@@ -54,34 +54,34 @@ first_placing q (placing r ∷ rest) e = (rest, ap (λ n. placing n ∷ rest) (s
 -- the copy that a step places now is allowed
 allowed_now : ReturnsLaw → StepsLaw → (limits : Bounds) (p q : ℕ) (done : List Event) (t : Taking) → AreEvents done
     → last_taking (history_of p done) ≡ Some t
-    → places_at q (work_left (place_of limits p) (history_of p done)) ≡ true
-    → WasAllowed limits (Step p ∷ done) p q (copy_of (place_of limits p) t)
+    → places_at q (work_left (ingress_of limits p) (history_of p done)) ≡ true
+    → WasAllowed limits (Step p ∷ done) p q (copy_of (ingress_of limits p) t)
 allowed_now returns steps limits p q done t events last here =
-    let place = place_of limits p in
+    let ingress = ingress_of limits p in
     let own = history_of p done in
-    let first = first_placing q (work_left place own) here in
-    let foreign : t.local ≡ false = is_foreign place own t (placing q) first.0 last first.1 in
+    let first = first_placing q (work_left ingress own) here in
+    let foreign : t.local ≡ false = is_foreign ingress own t (placing q) first.0 last first.1 in
     let s = since limits p done t events last in
     let published : t.published ≡ all_batches s.earlier = ap (λ (x : Taking). x.published) s.same ∙ batches_of_port p s.earlier in
     let frame : t.frame ≡ s.frame = ap (λ (x : Taking). x.frame) s.same in
     let self : eqb q q ≡ true = eq-eqb q q refl in
-    let some : placings q (work_left place own) ≡ 1 + placings q first.0 = ap (placings q) first.1
+    let some : placings q (work_left ingress own) ≡ 1 + placings q first.0 = ap (placings q) first.1
     ∙ ap (λ b. cond b 1 0 + placings q first.0) self in
-    let part = placings-drop q (steps_since own) (work place t) in
-    let left = ap (placings q) (left_of place own t last) in
-    let planned : 1 ≤ placings q (work place t) = omega arith in
+    let part = placings-drop q (steps_since own) (work ingress t) in
+    let left = ap (placings q) (left_of ingress own t last) in
+    let planned : 1 ≤ placings q (work ingress t) = omega arith in
     record {
       frame = s.frame;
       earlier = s.earlier;
       later = Step p ∷ s.later;
       taken = ap (λ (x : List Event). Step p ∷ x) s.order;
-      same = ap (copy_of place) s.same;
+      same = ap (copy_of ingress) s.same;
       foreign = ap (λ (x : Taking). x.local) (sym s.same) ∙ foreign;
       allowed = subst (λ (b : List (List Pair)). MayLeave limits b p s.frame q) published
           (subst (λ (f : List ℕ). MayLeave limits t.published p f q) frame
           ((may_leave returns steps limits p q t foreign
           (λ f force. s.sound.filters q f (ap (in_force q) (sym published) ∙ force))).0
-          (allowed_placed place t q foreign planned)));
+          (allowed_placed ingress t q foreign planned)));
     }
 
 -- so each copy on a lane is: one event adds at most one
@@ -94,13 +94,13 @@ copies_allowed returns steps limits p q (e ∷ done) events = with_event e (copi
     before = placed_after limits p q done
 
     none_more : (e : Event) → All (WasAllowed limits done p q) before → (b : Bool) (x : PortEvent)
-        → placed_by (place_of limits p) q x (history_of p done) (length (waiting_after limits p q done)) ≡ []
+        → placed_by (ingress_of limits p) q x (history_of p done) (length (waiting_after limits p q done)) ≡ []
         → All (WasAllowed limits (e ∷ done) p q)
-        (lane_after (place_of limits p) q (cons_option (cond b (Some x) None) (history_of p done))).placed
+        (lane_after (ingress_of limits p) q (cons_option (cond b (Some x) None) (history_of p done))).placed
     none_more e ih false x none = All-weaker (WasAllowed limits done p q) (WasAllowed limits (e ∷ done) p q)
         (λ c. later_allowed limits done p q e c) before ih
     none_more e ih true x none = All-append (WasAllowed limits (e ∷ done) p q) before
-        (placed_by (place_of limits p) q x (history_of p done) (length (waiting_after limits p q done)))
+        (placed_by (ingress_of limits p) q x (history_of p done) (length (waiting_after limits p q done)))
         (All-weaker (WasAllowed limits done p q) (WasAllowed limits (e ∷ done) p q) (λ c. later_allowed limits done p q e c)
         before ih)
         (subst (λ (xs : List FrameCopy). All (WasAllowed limits (e ∷ done) p q) xs) (sym none)
@@ -108,20 +108,20 @@ copies_allowed returns steps limits p q (e ∷ done) events = with_event e (copi
 
     stepped : (r : ℕ) → All (WasAllowed limits done p q) before → (b : Bool) → eqb p r ≡ b
         → All (WasAllowed limits (Step r ∷ done) p q)
-        (lane_after (place_of limits p) q (cons_option (cond b (Some step_made) None) (history_of p done))).placed
+        (lane_after (ingress_of limits p) q (cons_option (cond b (Some step_made) None) (history_of p done))).placed
     stepped r ih false is = All-weaker (WasAllowed limits done p q) (WasAllowed limits (Step r ∷ done) p q)
         (λ c. later_allowed limits done p q (Step r) c) before ih
     stepped r ih true is =
-        let w = work_left (place_of limits p) (history_of p done) in
+        let w = work_left (ingress_of limits p) (history_of p done) in
         let room = ltb (length (waiting_after limits p q done)) limits.lane in
         All-append (WasAllowed limits (Step r ∷ done) p q) before
-        (placed_by (place_of limits p) q step_made (history_of p done) (length (waiting_after limits p q done)))
+        (placed_by (ingress_of limits p) q step_made (history_of p done) (length (waiting_after limits p q done)))
         (All-weaker (WasAllowed limits done p q) (WasAllowed limits (Step r ∷ done) p q)
         (λ c. later_allowed limits done p q (Step r) c) before ih)
-        (if_placed (WasAllowed limits (Step r ∷ done) p q) (place_of limits p) (places_at q w && room)
+        (if_placed (WasAllowed limits (Step r ∷ done) p q) (ingress_of limits p) (places_at q w && room)
         (last_taking (history_of p done))
         (λ t b last. let parts = and_parts (places_at q w) room b in
-        subst (λ n. WasAllowed limits (Step n ∷ done) p q (copy_of (place_of limits p) t)) (eqb-true p r is)
+        subst (λ n. WasAllowed limits (Step n ∷ done) p q (copy_of (ingress_of limits p) t)) (eqb-true p r is)
         (allowed_now returns steps limits p q done t events.1 last parts.0)))
 
     with_event : (e : Event) → All (WasAllowed limits done p q) before

@@ -14,10 +14,10 @@ use Rattle.gw_core.specs.declared.event.Event.TheVariants.{Publish}
 use Rattle.gw_core.specs.Standing.{AreSound}
 use Rattle.gw_core.specs.Headline.{IsEvent}
 use Rattle.gw_core.proofs.Publishings.{sound_published, found_published, worker_published}
-use Rattle.gw_core.specs.declared.active.PairPlace.{PairPlace}
+use Rattle.gw_core.specs.declared.active.PairIndex.{PairIndex}
 use Rattle.gw_core.specs.declared.event.Answer.TheVariants.{Published}
 use Rattle.std.proofs.lemmas.List.{reverse-append}
-use Rattle.gw_core.specs.Gateway.{PlacesWith, Gateway, StandsAt, Stands, CoreAnswers}
+use Rattle.gw_core.specs.Gateway.{IndicesWith, Gateway, StandsAt, Stands, CoreAnswers}
 use Rattle.gw_core.proofs.Gateways.{front_of, accepts, batches_of_port}
 
 -- what is known of each pair of a batch is known of all
@@ -28,9 +28,9 @@ all_sound (pair ∷ pairs) each = All-cons (λ (pair : Pair). IsFilter pair.poli
     (all_sound pairs (λ i x get. each (suc i) x get))
 
 -- a batch was published
-pub stands_publish : (c : Gateway) (done : List Event) (batch : List Pair) (latest : List (Option PairPlace)) → StandsAt c done
+pub stands_publish : (c : Gateway) (done : List Event) (batch : List Pair) (latest : List (Option PairIndex)) → StandsAt c done
     → length c.batches < c.limits.versions
-    → PlacesWith batch (length c.batches) c.latest latest
+    → IndicesWith batch (length c.batches) c.latest latest
     → StandsAt (record c { batches = c.batches ++ batch ∷ []; latest = latest }) (Publish batch ∷ done)
 stands_publish c done batch latest s more made =
     let sound : AreSound (batch ∷ all_batches done) = sound_published (all_batches done) batch s.sound made.sound in
@@ -53,9 +53,9 @@ stands_publish c done batch latest s more made =
     }
 
 -- a batch that is accepted is answered by the new front
-pub core_publish : (c : Gateway) (batch : List Pair) (latest : List (Option PairPlace)) → length c.batches < c.limits.versions
+pub core_publish : (c : Gateway) (batch : List Pair) (latest : List (Option PairIndex)) → length c.batches < c.limits.versions
     → names_no_port c.limits.ports batch ≡ false
-    → PlacesWith batch (length c.batches) c.latest latest → (history : List Event) → Stands c history
+    → IndicesWith batch (length c.batches) c.latest latest → (history : List Event) → Stands c history
     → CoreAnswers c (Publish batch) (Ok (Published (length c.batches + 1)))
     (record c { batches = c.batches ++ batch ∷ []; latest = latest }) history
 core_publish c batch latest more there made history s =

@@ -9,7 +9,7 @@ use Rattle.std.proofs.lemmas.Bool.{cases_eq}
 use Rattle.gw_ledger.specs.Bounds.{Bounds}
 use Rattle.gw_ledger.specs.declared.ledger.OutLedger.{OutLedger}
 use Rattle.gw_ledger.specs.declared.outcome.FrameCopy.{FrameCopy}
-use Rattle.gw_core.specs.PortHistory.{copy_asked, place_of, waiting}
+use Rattle.gw_core.specs.PortHistory.{copy_asked, ingress_of, waiting}
 use Rattle.gw_core.specs.Events.{history_of, accepted, refusal, sent_after}
 use Rattle.gw_core.specs.Events.{first_waiting}
 use Rattle.gw_core.specs.declared.event.Event.{Event}
@@ -37,13 +37,13 @@ pub stands_empty : (c : Gateway) (done : List Event) (to from : ℕ) (w w2 : Wor
     → (lane_of w to).waiting ≡ option_to_list None ++ drop 1 (lane_of w to).waiting
     → StandsAt (with_worker c from w2) (Send to from ∷ done)
 stands_empty c done to from w w2 s at lt is first =
-    let none : length (waiting (place_of c.limits from) to (history_of from done))
+    let none : length (waiting (ingress_of c.limits from) to (history_of from done))
     ≡ 0 = ap length (sym (lane_waits c done to from w s at lt)) ∙ none_wait (lane_of w to).waiting first in
     stands_at c done (Send to from) (copy_asked to) from w w2 tt refl (send_here to from) (λ q ne. send_there to from q ne)
     (λ r q. count none r q (cases_eq r from) (cases_eq q to))
     s at (sent_worker c done to from w w2 s at lt is) (ap (λ (x : Worker). x.limits) is) (ap (λ (x : Worker). x.own) is)
   where
-    count : length (waiting (place_of c.limits from) to (history_of from done)) ≡ 0 → (r q : ℕ) → (r ≡ from) ⊎ (r ≡ from → ⊥)
+    count : length (waiting (ingress_of c.limits from) to (history_of from done)) ≡ 0 → (r q : ℕ) → (r ≡ from) ⊎ (r ≡ from → ⊥)
         → (q ≡ to) ⊎ (q ≡ to → ⊥)
         → sent_after c.limits r q (Send to from ∷ done) ≡ sent_after c.limits r q done
     count none r q (inl a) (inl b) =
@@ -67,7 +67,7 @@ stands_sent c done to from w w2 o o2 copy s at out lt own is first counts =
     (length_set c.outs to o2 ∙ s.senders)
     (λ q p get. by_out q p (cases_eq q to) get)
   where
-    some : 0 < length (waiting (place_of c.limits from) to (history_of from done))
+    some : 0 < length (waiting (ingress_of c.limits from) to (history_of from done))
     some = subst (λ (xs : List FrameCopy). 0 < length xs) (lane_waits c done to from w s at lt)
         (some_wait (lane_of w to).waiting copy first)
 

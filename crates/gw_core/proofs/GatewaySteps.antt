@@ -10,7 +10,7 @@ use Rattle.std.proofs.lemmas.Bool.{cases_eq}
 use Rattle.std.proofs.lemmas.List.Elements.{All-cons}
 use Rattle.gw_policy.specs.Batches.{Pair}
 use Rattle.gw_ledger.specs.Bounds.{Bounds}
-use Rattle.gw_core.specs.PortHistory.{PortEvent, step_made, Place, place_of}
+use Rattle.gw_core.specs.PortHistory.{PortEvent, step_made, Ingress, ingress_of}
 use Rattle.gw_core.specs.PortHistory.{lane_after}
 use Rattle.gw_core.specs.Events.{history_of, accepted, step_refusal, sent_after, answer, step_answer}
 use Rattle.gw_core.specs.declared.event.Event.{Event}
@@ -18,7 +18,7 @@ use Rattle.gw_core.specs.declared.event.Event.TheVariants.{Step}
 use Rattle.gw_core.specs.declared.event.Answer.{Answer}
 use Rattle.gw_core.specs.declared.event.EventRefusal.{EventRefusal}
 use Rattle.gw_core.specs.declared.event.EventRefusal.TheVariants.{NoSuchPort}
-use Rattle.gw_core.specs.Standing.{Worker, WorkerStands, place, AnswersStep}
+use Rattle.gw_core.specs.Standing.{Worker, WorkerStands, ingress, AnswersStep}
 use Rattle.gw_core.specs.Headline.{IsEvent}
 use Rattle.gw_core.specs.Gateway.{Gateway, IsGateway, StandsAt, Stands, WorkerAt, CoreAnswers}
 use Rattle.gw_core.proofs.Gateways.{get_set_same, get_set_other, length_set, same_some, accepts, refuses, set_same, with_worker}
@@ -34,7 +34,7 @@ history_there p q done ne = let e : eqb p q ≡ false = grind (arith, nat_tests)
 sent_same : (limits : Bounds) (p q r : ℕ) (done : List Event) → sent_after limits p q (Step r ∷ done) ≡ sent_after limits p q done
 sent_same limits p q r done = go (eqb p r)
   where
-    go : (b : Bool) → (lane_after (place_of limits p) q (cons_option (cond b (Some step_made) None) (history_of p done))).sent
+    go : (b : Bool) → (lane_after (ingress_of limits p) q (cons_option (cond b (Some step_made) None) (history_of p done))).sent
         ≡ sent_after limits p q done
     go true = refl
     go false = refl
@@ -101,11 +101,11 @@ step_answers c history p w w2 given s within at answers limits own =
     let here = s.workers p w at in
     let told = answers (history_of p done) here.stands in
     let e : leb c.limits.ports p ≡ false = grind (arith, nat_tests) in
-    let same : place w ≡ place_of c.limits p = ap (λ (l : Bounds). place_of l w.own) here.limits
-    ∙ ap (place_of c.limits) here.own in
+    let same : ingress w ≡ ingress_of c.limits p = ap (λ (l : Bounds). ingress_of l w.own) here.limits
+    ∙ ap (ingress_of c.limits) here.own in
     accepts c (record c { workers = slice_set c.workers p w2 }) history (Step p) given
-    (rw e (subst (λ (x : Place). step_refusal x (history_of p done) ≡ None) same told.0))
-    (subst (λ (x : Place). given ≡ step_answer x (history_of p done)) same told.1)
+    (rw e (subst (λ (x : Ingress). step_refusal x (history_of p done) ≡ None) same told.0))
+    (subst (λ (x : Ingress). given ≡ step_answer x (history_of p done)) same told.1)
     refl
     (stands_step c done p w w2 given s at told limits own)
 
@@ -119,10 +119,10 @@ step_refused c history p w w2 refused s within at answers =
     let here = s.workers p w at in
     let told = answers (history_of p done) here.stands in
     let e : leb c.limits.ports p ≡ false = grind (arith, nat_tests) in
-    let same : place w ≡ place_of c.limits p = ap (λ (l : Bounds). place_of l w.own) here.limits
-    ∙ ap (place_of c.limits) here.own in
+    let same : ingress w ≡ ingress_of c.limits p = ap (λ (l : Bounds). ingress_of l w.own) here.limits
+    ∙ ap (ingress_of c.limits) here.own in
     refuses c history (Step p) refused
-    (rw e (subst (λ (x : Place). step_refusal x (history_of p done) ≡ Some refused) same told.0)) s
+    (rw e (subst (λ (x : Ingress). step_refusal x (history_of p done) ≡ Some refused) same told.0)) s
 
 -- what a worker makes of a step, whatever its history
 abbrev pub Makes : List (List Pair) → Worker → Result Answer EventRefusal → Worker → Type 0

@@ -9,7 +9,7 @@ use Rattle.std.proofs.lemmas.Option.{slice_get_read}
 use Rattle.gw_frame.specs.Record.{IsRecord}
 use Rattle.gw_policy.specs.Batches.{Pair}
 use Rattle.gw_ledger.specs.Bounds.{Bounds}
-use Rattle.gw_core.specs.PortHistory.{PortEvent, frame_taken, place_of}
+use Rattle.gw_core.specs.PortHistory.{PortEvent, frame_taken, ingress_of}
 use Rattle.gw_core.specs.PortHistory.{batches, lane_after}
 use Rattle.gw_core.specs.Events.{history_of, accepted, sent_after, answer}
 use Rattle.gw_core.specs.Events.{at_port, take_refusal}
@@ -18,7 +18,7 @@ use Rattle.gw_core.specs.declared.event.Event.TheVariants.{Take}
 use Rattle.gw_core.specs.declared.event.Answer.{Answer}
 use Rattle.gw_core.specs.declared.event.EventRefusal.{EventRefusal}
 use Rattle.gw_core.specs.Standing.{Worker, WorkerStands, AnswersTake, AreFound}
-use Rattle.gw_core.specs.declared.active.PairPlace.{PairPlace}
+use Rattle.gw_core.specs.declared.active.PairIndex.{PairIndex}
 use Rattle.gw_core.specs.Headline.{IsEvent}
 use Rattle.gw_core.specs.Gateway.{Gateway, IsGateway, StandsAt, Stands, CoreAnswers}
 use Rattle.gw_core.proofs.Gateways.{front_of, accepts, refuses, set_same, with_worker, batches_of_port, stands_at}
@@ -34,13 +34,13 @@ take_sent : (limits : Bounds) (r q p : ℕ) (frame : List ℕ) (done : List Even
     → sent_after limits r q (Take p frame ∷ done) ≡ sent_after limits r q done
 take_sent limits r q p frame done = go (eqb r p)
   where
-    go : (b : Bool) → (lane_after (place_of limits r) q
+    go : (b : Bool) → (lane_after (ingress_of limits r) q
         (cons_option (cond b (Some (frame_taken frame)) None) (history_of r done))).sent ≡ sent_after limits r q done
     go true = refl
     go false = refl
 
 -- a worker is offered a frame
-abbrev pub TakesAs : Worker → Result Answer EventRefusal → Worker → List ℕ → List (Option PairPlace) → ℕ → Type 0
+abbrev pub TakesAs : Worker → Result Answer EventRefusal → Worker → List ℕ → List (Option PairIndex) → ℕ → Type 0
 TakesAs w given w2 frame latest front = (all : List (List Pair)) (done : List PortEvent) → WorkerStands all w done
     → AreFound all latest (batches done) → front ≡ length (batches done)
     → AnswersTake all w given w2 done frame
@@ -70,9 +70,9 @@ taken_by c p w w2 (Ok answer) frame front within is_record makes fronts limits o
     let here = s.workers p w at in
     let told = told_take c p w w2 (Ok answer) frame front makes fronts done s at in
     let e : leb c.limits.ports p ≡ false = grind (arith, nat_tests) in
-    let allowed : take_refusal c.limits (place_of c.limits p) (history_of p done) ≡ None =
-    subst (λ n. take_refusal c.limits (place_of c.limits n) (history_of p done) ≡ None) here.own
-    (subst (λ (l : Bounds). take_refusal l (place_of l w.own) (history_of p done) ≡ None) here.limits told.0) in
+    let allowed : take_refusal c.limits (ingress_of c.limits p) (history_of p done) ≡ None =
+    subst (λ n. take_refusal c.limits (ingress_of c.limits n) (history_of p done) ≡ None) here.own
+    (subst (λ (l : Bounds). take_refusal l (ingress_of l w.own) (history_of p done) ≡ None) here.limits told.0) in
     accepts c (with_worker c p w2) history (Take p frame) answer (rw e allowed) told.1 refl
     (stands_at c done (Take p frame) (frame_taken frame) p w w2 (taken_event c done p frame s within is_record) refl
     (take_here p frame) (λ q ne. take_there p q frame ne)
@@ -82,9 +82,9 @@ taken_by c p w w2 (Err why) frame front within is_record makes fronts limits own
     let here = s.workers p w at in
     let told = told_take c p w w2 (Err why) frame front makes fronts done s at in
     let e : leb c.limits.ports p ≡ false = grind (arith, nat_tests) in
-    let refused : take_refusal c.limits (place_of c.limits p) (history_of p done) ≡ Some why =
-    subst (λ n. take_refusal c.limits (place_of c.limits n) (history_of p done) ≡ Some why) here.own
-    (subst (λ (l : Bounds). take_refusal l (place_of l w.own) (history_of p done) ≡ Some why) here.limits told.0) in
+    let refused : take_refusal c.limits (ingress_of c.limits p) (history_of p done) ≡ Some why =
+    subst (λ n. take_refusal c.limits (ingress_of c.limits n) (history_of p done) ≡ Some why) here.own
+    (subst (λ (l : Bounds). take_refusal l (ingress_of l w.own) (history_of p done) ≡ Some why) here.limits told.0) in
     subst (λ (x : Gateway). CoreAnswers c (Take p frame) (Err why) x history) (sym (as_it_was c p w w2 at told.1))
     (refuses c history (Take p frame) why (rw e refused) s)
   where

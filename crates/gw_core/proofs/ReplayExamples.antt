@@ -5,7 +5,7 @@ use Rattle.gw_machine.specs.Answers.{answer_of, answer_within, steps_of}
 use Rattle.gw_policy.specs.Batches.{Pair}
 use Rattle.gw_ledger.specs.Bounds.{Bounds}
 use Rattle.gw_ledger.specs.Ports.{ports_below}
-use Rattle.gw_core.specs.PortHistory.{place_of, taking, need, instruction, placing, work_left, steps_since}
+use Rattle.gw_core.specs.PortHistory.{ingress_of, taking, need, instruction, placing, work_left, steps_since}
 use Rattle.gw_core.specs.Events.{history_of, accepted, keep_accepted, refusal, reply, reply_after, replies}
 use Rattle.gw_core.specs.declared.event.Event.{Event}
 use Rattle.gw_core.specs.declared.event.Event.TheVariants.{Publish, Take, Step, Send}
@@ -102,15 +102,15 @@ a_local_frame = sym (are_replies two_frames [] with_a_local_frame)
 abbrev taken : List Event
 taken = Take 0 engine_speed ∷ Publish (returning 1 1 ∷ []) ∷ []
 
-its_need : need (place_of small_lanes 0) (taking engine_speed (history_of 0 (Publish (returning 1 1 ∷ []) ∷ []))) ≡ 3
+its_need : need (ingress_of small_lanes 0) (taking engine_speed (history_of 0 (Publish (returning 1 1 ∷ []) ∷ []))) ≡ 3
 unfolding answer_of answer_within steps_of
 its_need = refl
 
-its_work : work_left (place_of small_lanes 0) (history_of 0 taken) ≡ instruction 1 0 ∷ placing 1 ∷ instruction 2 0 ∷ []
+its_work : work_left (ingress_of small_lanes 0) (history_of 0 taken) ≡ instruction 1 0 ∷ placing 1 ∷ instruction 2 0 ∷ []
 unfolding answer_of answer_within steps_of
 its_work = refl
 
-after_two_steps : work_left (place_of small_lanes 0) (history_of 0 (Step 0 ∷ Step 0 ∷ taken)) ≡ instruction 2 0 ∷ []
+after_two_steps : work_left (ingress_of small_lanes 0) (history_of 0 (Step 0 ∷ Step 0 ∷ taken)) ≡ instruction 2 0 ∷ []
 unfolding answer_of answer_within steps_of
 after_two_steps = refl
 

@@ -16,7 +16,7 @@ pub turned : (x : Event) (before history : List Event) → reverse (x ∷ before
 turned x before history = ap (λ (l : List Event). l ++ history) (reverse-append (x ∷ []) before)
     ∙ append_assoc (reverse before) (x ∷ []) history
 
--- the reply to an event stands at its place
+-- the reply to an event stands at its index
 reply_at : (limits : Bounds) (history before : List Event) (e : Event) (after : List Event)
     → slice_get (replies limits history (before ++ e ∷ after)) (length before) ≡ Some (reply limits (reverse before ++ history) e)
 reply_at limits history [] e after = refl

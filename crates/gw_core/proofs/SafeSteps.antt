@@ -14,7 +14,7 @@ use Rattle.gw_machine.specs.Runs.{Reaches, at_start, after, IsStep, IsRunning, L
 use Rattle.gw_policy.specs.Filter.{Filter, IsFilter}
 use Rattle.gw_policy.specs.Batches.{Pair, in_force, steps}
 use Rattle.gw_ledger.specs.Bounds.{Bounds}
-use Rattle.gw_core.specs.PortHistory.{PortEvent, Place, place_of, Taking, Work, instruction, placing, placing_if}
+use Rattle.gw_core.specs.PortHistory.{PortEvent, Ingress, ingress_of, Taking, Work, instruction, placing, placing_if}
 use Rattle.gw_core.specs.PortHistory.{instructions_from, steps_at, is_allowed, work_for, work_from, work, work_left, last_taking}
 use Rattle.gw_core.specs.PortHistory.{steps_since}
 use Rattle.gw_core.specs.Events.{history_of, all_batches}
@@ -57,7 +57,7 @@ on_the_way code octets port out (after {n = b} {m = m} {m' = m'} reached goes) s
 runs_inside : ReturnsLaw → StepsLaw → LoadsLaw → PlacesLaw → (code : List Insn) (frame : List ℕ) (p n : ℕ)
     → IsAccepted (program_forms code)
     → n < steps_of code frame p → RunsInside code frame p n
-runs_inside returns few loads places code frame p n ok lt =
+runs_inside returns few loads indices code frame p n ok lt =
     let answer = (returns code frame p (answer_of code frame p) (steps_of code frame p) ok).1 (refl, refl) in
     let before = answer.0 in
     let total : steps_of code frame p ≡ suc before = answer.4 in
@@ -67,7 +67,7 @@ runs_inside returns few loads places code frame p n ok lt =
       accepted = ok;
       machine = way.machine;
       reached = way.reached;
-      inside = places code frame p ok way.machine (n, way.reached);
+      inside = indices code frame p ok way.machine (n, way.reached);
       stored = λ insn word here loaded. loads code frame p ok way.machine insn word (n, way.reached) here loaded;
       out = way.out;
       steps = way.steps;
@@ -75,69 +75,73 @@ runs_inside returns few loads places code frame p n ok lt =
     }
 
 -- each instruction among the work is for another port of the gateway, and one of those that its policy makes
-abbrev pub AreDue : Place → Taking → List Work → Type 0
-AreDue place t [] = Unit {0}
-AreDue place t (placing _ ∷ rest) = AreDue place t rest
-AreDue place t (instruction q n ∷ rest) = ((q < place.ports) × (q ≢ place.own) × (n < steps_at place t q)) × AreDue place t rest
+abbrev pub AreDue : Ingress → Taking → List Work → Type 0
+AreDue ingress t [] = Unit {0}
+AreDue ingress t (placing _ ∷ rest) = AreDue ingress t rest
+AreDue ingress t (instruction q n ∷ rest) = ((q < ingress.ports) × (q ≢ ingress.own) × (n < steps_at ingress t q))
+    × AreDue ingress t rest
 
 -- work in two parts, and what is left of it
-due-append : (place : Place) (t : Taking) (xs ys : List Work) → AreDue place t xs → AreDue place t ys → AreDue place t (xs ++ ys)
-due-append place t [] ys a b = b
-due-append place t (placing q ∷ xs) ys a b = due-append place t xs ys a b
-due-append place t (instruction q n ∷ xs) ys a b = (a.0, due-append place t xs ys a.1 b)
+due-append : (ingress : Ingress) (t : Taking) (xs ys : List Work) → AreDue ingress t xs → AreDue ingress t ys
+    → AreDue ingress t (xs ++ ys)
+due-append ingress t [] ys a b = b
+due-append ingress t (placing q ∷ xs) ys a b = due-append ingress t xs ys a b
+due-append ingress t (instruction q n ∷ xs) ys a b = (a.0, due-append ingress t xs ys a.1 b)
 
-due-drop : (place : Place) (t : Taking) (k : ℕ) (xs : List Work) → AreDue place t xs → AreDue place t (drop k xs)
-due-drop place t zero xs a = a
-due-drop place t (suc k) [] a = tt
-due-drop place t (suc k) (placing q ∷ xs) a = due-drop place t k xs a
-due-drop place t (suc k) (instruction q n ∷ xs) a = due-drop place t k xs a.1
+due-drop : (ingress : Ingress) (t : Taking) (k : ℕ) (xs : List Work) → AreDue ingress t xs → AreDue ingress t (drop k xs)
+due-drop ingress t zero xs a = a
+due-drop ingress t (suc k) [] a = tt
+due-drop ingress t (suc k) (placing q ∷ xs) a = due-drop ingress t k xs a
+due-drop ingress t (suc k) (instruction q n ∷ xs) a = due-drop ingress t k xs a.1
 
 -- the instructions for a port that is offered are due, and so are those of all ports
-due_instructions : (place : Place) (t : Taking) (q : ℕ) → q < place.ports → q ≢ place.own → (n k : ℕ) → n + k ≤ steps_at place t q
-    → AreDue place t (map (instruction q) (range_with_len n k))
-due_instructions place t q there other n zero le = tt
-due_instructions place t q there other n (suc k) le =
-    ((there, other, omega arith), due_instructions place t q there other (n + 1) k (omega arith))
+due_instructions : (ingress : Ingress) (t : Taking) (q : ℕ) → q < ingress.ports → q ≢ ingress.own → (n k : ℕ)
+    → n + k ≤ steps_at ingress t q
+    → AreDue ingress t (map (instruction q) (range_with_len n k))
+due_instructions ingress t q there other n zero le = tt
+due_instructions ingress t q there other n (suc k) le =
+    ((there, other, omega arith), due_instructions ingress t q there other (n + 1) k (omega arith))
 
-due_for : (place : Place) (t : Taking) (q : ℕ) → q < place.ports → q ≢ place.own → AreDue place t (work_for place t q)
-due_for place t q there other = due-append place t (instructions_from place t q 0) (placing_if (is_allowed place t q) q)
-    (due_instructions place t q there other 0 (steps_at place t q - 0) (omega arith)) (go (is_allowed place t q))
+due_for : (ingress : Ingress) (t : Taking) (q : ℕ) → q < ingress.ports → q ≢ ingress.own → AreDue ingress t (work_for ingress t q)
+due_for ingress t q there other = due-append ingress t (instructions_from ingress t q 0) (placing_if (is_allowed ingress t q) q)
+    (due_instructions ingress t q there other 0 (steps_at ingress t q - 0) (omega arith)) (go (is_allowed ingress t q))
   where
-    go : (b : Bool) → AreDue place t (placing_if b q)
+    go : (b : Bool) → AreDue ingress t (placing_if b q)
     go true = tt
     go false = tt
 
-due_range : (place : Place) (t : Taking) (from n : ℕ) → from + n ≤ place.ports
-    → AreDue place t (flat_map (work_for place t) (filter (λ r. not (eqb r place.own)) (range_with_len from n)))
-due_range place t from zero le = tt
-due_range place t from (suc n) le = go (eqb from place.own) refl (due_range place t (from + 1) n (omega arith))
+due_range : (ingress : Ingress) (t : Taking) (from n : ℕ) → from + n ≤ ingress.ports
+    → AreDue ingress t (flat_map (work_for ingress t) (filter (λ r. not (eqb r ingress.own)) (range_with_len from n)))
+due_range ingress t from zero le = tt
+due_range ingress t from (suc n) le = go (eqb from ingress.own) refl (due_range ingress t (from + 1) n (omega arith))
   where
     offered : List ℕ
-    offered = filter (λ r. not (eqb r place.own)) (range_with_len (from + 1) n)
+    offered = filter (λ r. not (eqb r ingress.own)) (range_with_len (from + 1) n)
 
-    go : (b : Bool) → eqb from place.own ≡ b → AreDue place t (flat_map (work_for place t) offered)
-        → AreDue place t (flat_map (work_for place t) (cond (not b) (from ∷ offered) offered))
+    go : (b : Bool) → eqb from ingress.own ≡ b → AreDue ingress t (flat_map (work_for ingress t) offered)
+        → AreDue ingress t (flat_map (work_for ingress t) (cond (not b) (from ∷ offered) offered))
     go true is h = h
     go false is h =
-        let other : from ≢ place.own = grind (arith, nat_tests) in
-        due-append place t (work_for place t from) (flat_map (work_for place t) offered)
-        (due_for place t from (omega arith) other) h
+        let other : from ≢ ingress.own = grind (arith, nat_tests) in
+        due-append ingress t (work_for ingress t from) (flat_map (work_for ingress t) offered)
+        (due_for ingress t from (omega arith) other) h
 
 -- so is what is left of the last frame's work
-due_left : (place : Place) (own : List PortEvent) (t : Taking) → last_taking own ≡ Some t → AreDue place t (work_left place own)
-due_left place own t e = subst (AreDue place t) (sym (left_of place own t e))
-    (due-drop place t (steps_since own) (work place t) (whole t.local))
+due_left : (ingress : Ingress) (own : List PortEvent) (t : Taking) → last_taking own ≡ Some t
+    → AreDue ingress t (work_left ingress own)
+due_left ingress own t e = subst (AreDue ingress t) (sym (left_of ingress own t e))
+    (due-drop ingress t (steps_since own) (work ingress t) (whole t.local))
   where
-    whole : (b : Bool) → AreDue place t (cond b [] (work_from place t 0))
+    whole : (b : Bool) → AreDue ingress t (cond b [] (work_from ingress t 0))
     whole true = tt
-    whole false = due_range place t 0 (place.ports - 0) (omega arith)
+    whole false = due_range ingress t 0 (ingress.ports - 0) (omega arith)
 
 -- the frame that has work was taken
-taken_of : (place : Place) (own : List PortEvent) (piece : Work) (rest : List Work) → work_left place own ≡ piece ∷ rest
+taken_of : (ingress : Ingress) (own : List PortEvent) (piece : Work) (rest : List Work) → work_left ingress own ≡ piece ∷ rest
     → (t : Taking) × (last_taking own ≡ Some t)
-taken_of place own piece rest left = go (last_taking own) refl
+taken_of ingress own piece rest left = go (last_taking own) refl
   where
-    none : last_taking own ≡ None → work_left place own ≡ []
+    none : last_taking own ≡ None → work_left ingress own ≡ []
     none e = rw e refl
 
     go : (o : Option Taking) → last_taking own ≡ o → (t : Taking) × (last_taking own ≡ Some t)
@@ -148,13 +152,13 @@ taken_of place own piece rest left = go (last_taking own) refl
 pub safe_step : ReturnsLaw → StepsLaw → LoadsLaw → PlacesLaw → (limits : Bounds) (done : List Event) (p q n : ℕ) → AreEvents done
     → MakesNext limits done p q n
     → IsSafeStep limits done p q n
-safe_step returns few loads places limits done p q n events next =
-    let place = place_of limits p in
+safe_step returns few loads indices limits done p q n events next =
+    let ingress = ingress_of limits p in
     let own = history_of p done in
-    let taken = taken_of place own (instruction q n) next.0 next.1 in
+    let taken = taken_of ingress own (instruction q n) next.0 next.1 in
     let t = taken.0 in
     let s = since limits p done t events taken.1 in
-    let due : AreDue place t (instruction q n ∷ next.0) = subst (AreDue place t) next.1 (due_left place own t taken.1) in
+    let due : AreDue ingress t (instruction q n ∷ next.0) = subst (AreDue ingress t) next.1 (due_left ingress own t taken.1) in
     let published : t.published ≡ all_batches s.earlier = ap (λ (x : Taking). x.published) s.same ∙ batches_of_port p s.earlier in
     let frame : t.frame ≡ s.frame = ap (λ (x : Taking). x.frame) s.same in
     let fewer : n < steps (in_force q (all_batches s.earlier)) s.frame p =
@@ -176,5 +180,5 @@ safe_step returns few loads places limits done p q n events next =
         → n < steps policy frame p
         → MatchOption policy (n ≡ 0) (λ filter. RunsInside filter.code frame p n)
     by_policy frame None sound lt = omega arith
-    by_policy frame (Some filter) sound lt = runs_inside returns few loads places filter.code frame p n
+    by_policy frame (Some filter) sound lt = runs_inside returns few loads indices filter.code frame p n
         (sound filter refl).accepted lt

@@ -16,7 +16,7 @@ use Rattle.gw_policy.specs.Batches.{Pair, in_force}
 use Rattle.gw_ledger.specs.Bounds.{Bounds}
 use Rattle.gw_ledger.specs.Ports.{has_port}
 use Rattle.gw_ledger.specs.declared.outcome.FrameCopy.{FrameCopy}
-use Rattle.gw_core.specs.PortHistory.{PortEvent, batch_published, frame_taken, step_made, copy_asked, Place, place_of, Taking}
+use Rattle.gw_core.specs.PortHistory.{PortEvent, batch_published, frame_taken, step_made, copy_asked, Ingress, ingress_of, Taking}
 use Rattle.gw_core.specs.PortHistory.{taking, Work, instruction, placing, heard, last_taking, work, work_left}
 use Rattle.gw_core.specs.PortHistory.{steps_since, lane_after, waiting, places_at, placed_by, copy_of, placed_at}
 use Rattle.gw_core.specs.PortHistory.{placed_since}
@@ -53,84 +53,86 @@ sound_events (Step p ∷ done) h = sound_events done h.1
 sound_events (Send to from ∷ done) h = sound_events done h.1
 
 -- what is left of the last frame's work
-pub left_of : (place : Place) (own : List PortEvent) (t : Taking) → last_taking own ≡ Some t
-    → work_left place own ≡ drop (steps_since own) (work place t)
-left_of place own t e = ap (λ (o : Option Taking). option_map_or (λ t. drop (steps_since own) (work place t)) o []) e
+pub left_of : (ingress : Ingress) (own : List PortEvent) (t : Taking) → last_taking own ≡ Some t
+    → work_left ingress own ≡ drop (steps_since own) (work ingress t)
+left_of ingress own t e = ap (λ (o : Option Taking). option_map_or (λ t. drop (steps_since own) (work ingress t)) o []) e
 
 -- a piece of work that places at a port where the lane has room
-pub at_placing : (place : Place) (own : List PortEvent) (q : ℕ) (w : List Work) → has_port q (placed_at place own w) ≡ true
-    → (1 ≤ placings q w) × (places_at q w ≡ true) × (ltb (length (waiting place q own)) place.room ≡ true)
-at_placing place own q [] e = cc
-at_placing place own q (instruction _ _ ∷ rest) e = cc
-at_placing place own q (placing r ∷ rest) e = go (ltb (length (waiting place r own)) place.room) refl e
+pub at_placing : (ingress : Ingress) (own : List PortEvent) (q : ℕ) (w : List Work) → has_port q (placed_at ingress own w) ≡ true
+    → (1 ≤ placings q w) × (places_at q w ≡ true) × (ltb (length (waiting ingress q own)) ingress.room ≡ true)
+at_placing ingress own q [] e = cc
+at_placing ingress own q (instruction _ _ ∷ rest) e = cc
+at_placing ingress own q (placing r ∷ rest) e = go (ltb (length (waiting ingress r own)) ingress.room) refl e
   where
-    go : (b : Bool) → ltb (length (waiting place r own)) place.room ≡ b → has_port q (cond b (r ∷ []) []) ≡ true
-        → (1 ≤ cond (eqb q r) 1 0 + placings q rest) × (eqb q r ≡ true) × (ltb (length (waiting place q own)) place.room ≡ true)
+    go : (b : Bool) → ltb (length (waiting ingress r own)) ingress.room ≡ b → has_port q (cond b (r ∷ []) []) ≡ true
+        → (1 ≤ cond (eqb q r) 1 0 + placings q rest) × (eqb q r ≡ true)
+        × (ltb (length (waiting ingress q own)) ingress.room ≡ true)
     go false is e = cc
     go true is e =
         let same : r ≡ q = has_one r q e in
         let f : eqb q r ≡ true = eq-eqb q r (sym same) in
-        (rw f (omega arith), f, ap (λ n. ltb (length (waiting place n own)) place.room) (sym same) ∙ is)
+        (rw f (omega arith), f, ap (λ n. ltb (length (waiting ingress n own)) ingress.room) (sym same) ∙ is)
 
 -- and a placing where the lane has room places
-pub placed_here : (place : Place) (own : List PortEvent) (q : ℕ) (w : List Work) → places_at q w ≡ true
-    → ltb (length (waiting place q own)) place.room ≡ true
-    → has_port q (placed_at place own w) ≡ true
-placed_here place own q [] a b = cc
-placed_here place own q (instruction _ _ ∷ rest) a b = cc
-placed_here place own q (placing r ∷ rest) a b =
+pub placed_here : (ingress : Ingress) (own : List PortEvent) (q : ℕ) (w : List Work) → places_at q w ≡ true
+    → ltb (length (waiting ingress q own)) ingress.room ≡ true
+    → has_port q (placed_at ingress own w) ≡ true
+placed_here ingress own q [] a b = cc
+placed_here ingress own q (instruction _ _ ∷ rest) a b = cc
+placed_here ingress own q (placing r ∷ rest) a b =
     let same : q ≡ r = eqb-true q r a in
-    ap (λ b. has_port q (cond b (r ∷ []) [])) (ap (λ n. ltb (length (waiting place n own)) place.room) (sym same) ∙ b)
+    ap (λ b. has_port q (cond b (r ∷ []) [])) (ap (λ n. ltb (length (waiting ingress n own)) ingress.room) (sym same) ∙ b)
     ∙ ap (λ n. has_port q (n ∷ [])) (sym same) ∙ has_self q
 
 -- what was placed since the taking, before a step and by it
-pub split_placed : (place : Place) (own : List PortEvent) (q : ℕ) → has_port q (placed_since place (step_made ∷ own))
-    ≡ (has_port q (placed_since place own) || has_port q (placed_at place own (work_left place own)))
-split_placed place own q = list_any-append (λ other. eqb other q) (placed_since place own)
-    (placed_at place own (work_left place own))
+pub split_placed : (ingress : Ingress) (own : List PortEvent) (q : ℕ) → has_port q (placed_since ingress (step_made ∷ own))
+    ≡ (has_port q (placed_since ingress own) || has_port q (placed_at ingress own (work_left ingress own)))
+split_placed ingress own q = list_any-append (λ other. eqb other q) (placed_since ingress own)
+    (placed_at ingress own (work_left ingress own))
 
 -- a port at which the frame was placed is one at which its work places it
-pub placed_planned : (place : Place) (q : ℕ) (own : List PortEvent) (t : Taking) → last_taking own ≡ Some t
-    → has_port q (placed_since place own) ≡ true
-    → 1 ≤ placings q (work place t)
-placed_planned place q [] t e h = cc
-placed_planned place q (batch_published batch ∷ own) t e h = placed_planned place q own t e h
-placed_planned place q (copy_asked r ∷ own) t e h = placed_planned place q own t e h
-placed_planned place q (frame_taken frame ∷ own) t e h = cc
-placed_planned place q (step_made ∷ own) t e h = ⊎_elim
-    (λ (before : has_port q (placed_since place own) ≡ true). placed_planned place q own t e before)
-    (λ (now : has_port q (placed_at place own (work_left place own)) ≡ true).
-    let a = at_placing place own q (work_left place own) now in
-    let b = ap (placings q) (left_of place own t e) in
-    let k = placings-drop q (steps_since own) (work place t) in
+pub placed_planned : (ingress : Ingress) (q : ℕ) (own : List PortEvent) (t : Taking) → last_taking own ≡ Some t
+    → has_port q (placed_since ingress own) ≡ true
+    → 1 ≤ placings q (work ingress t)
+placed_planned ingress q [] t e h = cc
+placed_planned ingress q (batch_published batch ∷ own) t e h = placed_planned ingress q own t e h
+placed_planned ingress q (copy_asked r ∷ own) t e h = placed_planned ingress q own t e h
+placed_planned ingress q (frame_taken frame ∷ own) t e h = cc
+placed_planned ingress q (step_made ∷ own) t e h = ⊎_elim
+    (λ (before : has_port q (placed_since ingress own) ≡ true). placed_planned ingress q own t e before)
+    (λ (now : has_port q (placed_at ingress own (work_left ingress own)) ≡ true).
+    let a = at_placing ingress own q (work_left ingress own) now in
+    let b = ap (placings q) (left_of ingress own t e) in
+    let k = placings-drop q (steps_since own) (work ingress t) in
     let one = a.0 in
     omega arith)
-    (or_cases (has_port q (placed_since place own)) (has_port q (placed_at place own (work_left place own)))
-    (sym (split_placed place own q) ∙ h))
+    (or_cases (has_port q (placed_since ingress own)) (has_port q (placed_at ingress own (work_left ingress own)))
+    (sym (split_placed ingress own q) ∙ h))
 
 -- its copy stands on the lane
-pub copy_there : (place : Place) (q : ℕ) (own : List PortEvent) (t : Taking) → last_taking own ≡ Some t
-    → has_port q (placed_since place own) ≡ true
-    → Contains (lane_after place q own).placed (copy_of place t)
-copy_there place q [] t e h = cc
-copy_there place q (batch_published batch ∷ own) t e h = Contains-append_left (lane_after place q own).placed [] (copy_of place t)
-    (copy_there place q own t e h)
-copy_there place q (copy_asked r ∷ own) t e h = Contains-append_left (lane_after place q own).placed [] (copy_of place t)
-    (copy_there place q own t e h)
-copy_there place q (frame_taken frame ∷ own) t e h = cc
-copy_there place q (step_made ∷ own) t e h = ⊎_elim
-    (λ (before : has_port q (placed_since place own) ≡ true).
-    Contains-append_left (lane_after place q own).placed (placed_by place q step_made own (length (waiting place q own)))
-    (copy_of place t) (copy_there place q own t e before))
-    (λ (now : has_port q (placed_at place own (work_left place own)) ≡ true).
-    let a = at_placing place own q (work_left place own) now in
+pub copy_there : (ingress : Ingress) (q : ℕ) (own : List PortEvent) (t : Taking) → last_taking own ≡ Some t
+    → has_port q (placed_since ingress own) ≡ true
+    → Contains (lane_after ingress q own).placed (copy_of ingress t)
+copy_there ingress q [] t e h = cc
+copy_there ingress q (batch_published batch ∷ own) t e h =
+    Contains-append_left (lane_after ingress q own).placed [] (copy_of ingress t)
+    (copy_there ingress q own t e h)
+copy_there ingress q (copy_asked r ∷ own) t e h = Contains-append_left (lane_after ingress q own).placed [] (copy_of ingress t)
+    (copy_there ingress q own t e h)
+copy_there ingress q (frame_taken frame ∷ own) t e h = cc
+copy_there ingress q (step_made ∷ own) t e h = ⊎_elim
+    (λ (before : has_port q (placed_since ingress own) ≡ true).
+    Contains-append_left (lane_after ingress q own).placed (placed_by ingress q step_made own (length (waiting ingress q own)))
+    (copy_of ingress t) (copy_there ingress q own t e before))
+    (λ (now : has_port q (placed_at ingress own (work_left ingress own)) ≡ true).
+    let a = at_placing ingress own q (work_left ingress own) now in
     let b = a.1 in
     let c = a.2 in
-    let more : placed_by place q step_made own (length (waiting place q own)) ≡ copy_of place t ∷ [] = rw (b, c, e) in
-    subst (λ (xs : List FrameCopy). Contains ((lane_after place q own).placed ++ xs) (copy_of place t)) (sym more)
-    (Contains-push (lane_after place q own).placed (copy_of place t)))
-    (or_cases (has_port q (placed_since place own)) (has_port q (placed_at place own (work_left place own)))
-    (sym (split_placed place own q) ∙ h))
+    let more : placed_by ingress q step_made own (length (waiting ingress q own)) ≡ copy_of ingress t ∷ [] = rw (b, c, e) in
+    subst (λ (xs : List FrameCopy). Contains ((lane_after ingress q own).placed ++ xs) (copy_of ingress t)) (sym more)
+    (Contains-push (lane_after ingress q own).placed (copy_of ingress t)))
+    (or_cases (has_port q (placed_since ingress own)) (has_port q (placed_at ingress own (work_left ingress own)))
+    (sym (split_placed ingress own q) ∙ h))
 
 -- a copy that may be there is there where the test holds
 pub none_there : (b : Bool) (ys : List FrameCopy) (c : FrameCopy) → Contains (cond b ys []) c → b ≡ true
@@ -138,32 +140,33 @@ none_there true ys c h = refl
 none_there false ys c h = let lt = h.1 in absurd (omega arith)
 
 -- and where a copy with the frame's number stands on a lane, the frame was placed
-pub placed_back : (place : Place) (q : ℕ) (own : List PortEvent) (t : Taking) → last_taking own ≡ Some t → (c : FrameCopy)
-    → Contains (lane_after place q own).placed c → c.number ≡ t.number → has_port q (placed_since place own) ≡ true
-placed_back place q [] t e c h n = cc
-placed_back place q (batch_published batch ∷ own) t e c h n = placed_back place q own t e c
-    (subst (λ (xs : List FrameCopy). Contains xs c) (append-nil (lane_after place q own).placed) h) n
-placed_back place q (copy_asked r ∷ own) t e c h n = placed_back place q own t e c
-    (subst (λ (xs : List FrameCopy). Contains xs c) (append-nil (lane_after place q own).placed) h) n
-placed_back place q (frame_taken frame ∷ own) t e c h n =
-    let k = placings q (work_left place own) in
+pub placed_back : (ingress : Ingress) (q : ℕ) (own : List PortEvent) (t : Taking) → last_taking own ≡ Some t → (c : FrameCopy)
+    → Contains (lane_after ingress q own).placed c → c.number ≡ t.number → has_port q (placed_since ingress own) ≡ true
+placed_back ingress q [] t e c h n = cc
+placed_back ingress q (batch_published batch ∷ own) t e c h n = placed_back ingress q own t e c
+    (subst (λ (xs : List FrameCopy). Contains xs c) (append-nil (lane_after ingress q own).placed) h) n
+placed_back ingress q (copy_asked r ∷ own) t e c h n = placed_back ingress q own t e c
+    (subst (λ (xs : List FrameCopy). Contains xs c) (append-nil (lane_after ingress q own).placed) h) n
+placed_back ingress q (frame_taken frame ∷ own) t e c h n =
+    let k = placings q (work_left ingress own) in
     let below : c.number < length (heard own) - k = All-contains (λ (a : FrameCopy). a.number < length (heard own) - k)
-    (lane_after place q own).placed c (ascends place q own).1
-    (subst (λ (xs : List FrameCopy). Contains xs c) (append-nil (lane_after place q own).placed) h) in
+    (lane_after ingress q own).placed c (ascends ingress q own).1
+    (subst (λ (xs : List FrameCopy). Contains xs c) (append-nil (lane_after ingress q own).placed) h) in
     let number : Some (length (heard own)) ≡ Some t.number = ap (option_map (λ (x : Taking). x.number)) e in
     let m : length (heard own) ≡ t.number = cc in
     absurd (omega arith)
-placed_back place q (step_made ∷ own) t e c h n = split_placed place own q ∙ ⊎_elim
-    (λ (before : Contains (lane_after place q own).placed c).
-    or_left (has_port q (placed_since place own)) (has_port q (placed_at place own (work_left place own)))
-    (placed_back place q own t e c before n))
-    (λ (now : Contains (placed_by place q step_made own (length (waiting place q own))) c).
-    let both = none_there (places_at q (work_left place own) && ltb (length (waiting place q own)) place.room)
-    (option_to_list (option_map (copy_of place) (last_taking own))) c now in
-    let parts = and_parts (places_at q (work_left place own)) (ltb (length (waiting place q own)) place.room) both in
-    or_right (has_port q (placed_since place own)) (has_port q (placed_at place own (work_left place own)))
-    (placed_here place own q (work_left place own) parts.0 parts.1))
-    (Contains-append_cases (lane_after place q own).placed (placed_by place q step_made own (length (waiting place q own))) c h)
+placed_back ingress q (step_made ∷ own) t e c h n = split_placed ingress own q ∙ ⊎_elim
+    (λ (before : Contains (lane_after ingress q own).placed c).
+    or_left (has_port q (placed_since ingress own)) (has_port q (placed_at ingress own (work_left ingress own)))
+    (placed_back ingress q own t e c before n))
+    (λ (now : Contains (placed_by ingress q step_made own (length (waiting ingress q own))) c).
+    let both = none_there (places_at q (work_left ingress own) && ltb (length (waiting ingress q own)) ingress.room)
+    (option_to_list (option_map (copy_of ingress) (last_taking own))) c now in
+    let parts = and_parts (places_at q (work_left ingress own)) (ltb (length (waiting ingress q own)) ingress.room) both in
+    or_right (has_port q (placed_since ingress own)) (has_port q (placed_at ingress own (work_left ingress own)))
+    (placed_here ingress own q (work_left ingress own) parts.0 parts.1))
+    (Contains-append_cases (lane_after ingress q own).placed
+        (placed_by ingress q step_made own (length (waiting ingress q own))) c h)
 
 -- the event that took the last frame, and what became of it since
 pub record Since (limits : Bounds) (p : ℕ) (done : List Event) (t : Taking) : Type 0 where
@@ -173,13 +176,13 @@ pub record Since (limits : Bounds) (p : ℕ) (done : List Event) (t : Taking) : 
   pub order : done ≡ later ++ Take p frame ∷ earlier
   pub same : t ≡ taking frame (history_of p earlier)
   pub sound : AreSound (all_batches earlier)
-  pub full : (q : ℕ) → 1 ≤ placings q (work (place_of limits p) t)
-      → has_port q (placed_since (place_of limits p) (history_of p done)) ≡ false
-      → placings q (work_left (place_of limits p) (history_of p done)) ≡ 0 → WasFull limits (Take p frame ∷ earlier) done p q
+  pub full : (q : ℕ) → 1 ≤ placings q (work (ingress_of limits p) t)
+      → has_port q (placed_since (ingress_of limits p) (history_of p done)) ≡ false
+      → placings q (work_left (ingress_of limits p) (history_of p done)) ≡ 0 → WasFull limits (Take p frame ∷ earlier) done p q
 
 -- an event that changes neither what was placed of it nor what is left
-abbrev pub fate : Place → List PortEvent → List ℕ × List Work
-fate place own = (placed_since place own, work_left place own)
+abbrev pub fate : Ingress → List PortEvent → List ℕ × List Work
+fate ingress own = (placed_since ingress own, work_left ingress own)
 
 -- a lane that was full was full, whatever follows
 pub later_full : (limits : Bounds) (earlier done : List Event) (p q : ℕ) (e : Event) → WasFull limits earlier done p q
@@ -189,7 +192,7 @@ later_full limits earlier done p q e w = record
 
 -- an event that changes neither is added to those since the taking
 pub extend : (limits : Bounds) (p : ℕ) (done : List Event) (t : Taking) (e : Event)
-    → fate (place_of limits p) (history_of p (e ∷ done)) ≡ fate (place_of limits p) (history_of p done)
+    → fate (ingress_of limits p) (history_of p (e ∷ done)) ≡ fate (ingress_of limits p) (history_of p done)
     → Since limits p done t → Since limits p (e ∷ done) t
 extend limits p done t e as_was s = record {
   frame = s.frame;
@@ -204,22 +207,23 @@ extend limits p done t e as_was s = record {
 }
 
 -- a step whose placing finds the lane full
-pub full_now : (place : Place) (own : List PortEvent) (q : ℕ) (w : List Work) → placings q w ≢ 0 → placings q (drop 1 w) ≡ 0
-    → has_port q (placed_at place own w) ≡ false
-    → (places_at q w ≡ true) × (length (waiting place q own) ≡ place.room)
-full_now place own q [] some none missing = absurd (some refl)
-full_now place own q (instruction _ _ ∷ rest) some none missing = absurd (some none)
-full_now place own q (placing r ∷ rest) some none missing = go (eqb q r) refl some
+pub full_now : (ingress : Ingress) (own : List PortEvent) (q : ℕ) (w : List Work) → placings q w ≢ 0 → placings q (drop 1 w) ≡ 0
+    → has_port q (placed_at ingress own w) ≡ false
+    → (places_at q w ≡ true) × (length (waiting ingress q own) ≡ ingress.room)
+full_now ingress own q [] some none missing = absurd (some refl)
+full_now ingress own q (instruction _ _ ∷ rest) some none missing = absurd (some none)
+full_now ingress own q (placing r ∷ rest) some none missing = go (eqb q r) refl some
   where
-    room : eqb q r ≡ true → (b : Bool) → ltb (length (waiting place q own)) place.room ≡ b
-        → length (waiting place q own) ≡ place.room
-    room e true is = absurd (false≢true (sym missing ∙ placed_here place own q (placing r ∷ rest) e is))
-    room e false is = let past = ltb-false (length (waiting place q own)) place.room is in let few = few_wait place q own in omega
+    room : eqb q r ≡ true → (b : Bool) → ltb (length (waiting ingress q own)) ingress.room ≡ b
+        → length (waiting ingress q own) ≡ ingress.room
+    room e true is = absurd (false≢true (sym missing ∙ placed_here ingress own q (placing r ∷ rest) e is))
+    room e false is = let past = ltb-false (length (waiting ingress q own)) ingress.room is in
+        let few = few_wait ingress q own in omega
         arith
 
     go : (b : Bool) → eqb q r ≡ b → (cond b 1 0 + placings q rest ≡ 0 → ⊥)
-        → (eqb q r ≡ true) × (length (waiting place q own) ≡ place.room)
-    go true e some = (e, room e (ltb (length (waiting place q own)) place.room) refl)
+        → (eqb q r ≡ true) × (length (waiting ingress q own) ≡ ingress.room)
+    go true e some = (e, room e (ltb (length (waiting ingress q own)) ingress.room) refl)
     go false e some = absurd (some (omega arith))
 
 -- a step is added: where it left a placing undone, the lane was full
@@ -233,36 +237,37 @@ step_since limits p done t here s = record {
   same = s.same;
   sound = s.sound;
   full = λ q le missing left.
-      let no_more = or_parts (has_port q (placed_since place own)) (has_port q (placed_at place own (work_left place own)))
-      (sym (split_placed place own q) ∙ ap (λ (x : List PortEvent). has_port q (placed_since place x)) (sym here) ∙ missing) in
-      let rest : placings q (drop 1 (work_left place own)) ≡ 0 = ap (placings q) (sym (work_left-step place own))
-      ∙ ap (λ (x : List PortEvent). placings q (work_left place x)) (sym here) ∙ left in
+      let no_more = or_parts (has_port q (placed_since ingress own)) (has_port q (placed_at ingress own (work_left ingress own)))
+      (sym (split_placed ingress own q) ∙ ap (λ (x : List PortEvent). has_port q (placed_since ingress x)) (sym here)
+          ∙ missing) in
+      let rest : placings q (drop 1 (work_left ingress own)) ≡ 0 = ap (placings q) (sym (work_left-step ingress own))
+      ∙ ap (λ (x : List PortEvent). placings q (work_left ingress x)) (sym here) ∙ left in
       ⊎_elim
-      (λ (none : placings q (work_left place own) ≡ 0). later_full limits (Take p s.frame ∷ s.earlier) done p q (Step p)
+      (λ (none : placings q (work_left ingress own) ≡ 0). later_full limits (Take p s.frame ∷ s.earlier) done p q (Step p)
       (s.full q le no_more.0 none))
-      (λ (some : placings q (work_left place own) ≢ 0).
-      let now = full_now place own q (work_left place own) some rest no_more.1 in
+      (λ (some : placings q (work_left ingress own) ≢ 0).
+      let now = full_now ingress own q (work_left ingress own) some rest no_more.1 in
       record {
         since = s.later;
         until = [];
         order = ap (λ (x : List Event). Step p ∷ x) s.order;
-        step = subst (λ (x : List Event). places_at q (work_left place (history_of p x)) ≡ true) s.order now.0;
+        step = subst (λ (x : List Event). places_at q (work_left ingress (history_of p x)) ≡ true) s.order now.0;
         full = subst (λ (x : List Event). length (waiting_after limits p q x) ≡ limits.lane) s.order now.1;
       })
-      (cases_eq (placings q (work_left place own)) 0);
+      (cases_eq (placings q (work_left ingress own)) 0);
 }
   where
-    place : Place
-    place = place_of limits p
+    ingress : Ingress
+    ingress = ingress_of limits p
 
     own : List PortEvent
     own = history_of p done
 
 -- an event of another kind changes neither
 pub same_fate : (limits : Bounds) (p : ℕ) (done : List Event) (e : Event)
-    → ((place : Place) (own : List PortEvent) → fate place (cons_option (at_port p e) own) ≡ fate place own)
-    → fate (place_of limits p) (history_of p (e ∷ done)) ≡ fate (place_of limits p) (history_of p done)
-same_fate limits p done e same = same (place_of limits p) (history_of p done)
+    → ((ingress : Ingress) (own : List PortEvent) → fate ingress (cons_option (at_port p e) own) ≡ fate ingress own)
+    → fate (ingress_of limits p) (history_of p (e ∷ done)) ≡ fate (ingress_of limits p) (history_of p done)
+same_fate limits p done e same = same (ingress_of limits p) (history_of p done)
 
 -- the last frame taken at a port has its event
 pub since : (limits : Bounds) (p : ℕ) (done : List Event) (t : Taking) → AreEvents done → last_taking (history_of p done) ≡ Some t
@@ -274,9 +279,9 @@ since limits p (Send to from ∷ done) t h e = go (eqb p from) refl e (λ k. sin
     go : (b : Bool) → eqb p from ≡ b → last_taking (cons_option (cond b (Some (copy_asked to)) None) (history_of p done)) ≡ Some t
         → (last_taking (history_of p done) ≡ Some t → Since limits p done t) → Since limits p (Send to from ∷ done) t
     go true is k ih = extend limits p done t (Send to from)
-        (ap (λ b. fate (place_of limits p) (cons_option (cond b (Some (copy_asked to)) None) (history_of p done))) is) (ih k)
+        (ap (λ b. fate (ingress_of limits p) (cons_option (cond b (Some (copy_asked to)) None) (history_of p done))) is) (ih k)
     go false is k ih = extend limits p done t (Send to from)
-        (ap (λ b. fate (place_of limits p) (cons_option (cond b (Some (copy_asked to)) None) (history_of p done))) is) (ih k)
+        (ap (λ b. fate (ingress_of limits p) (cons_option (cond b (Some (copy_asked to)) None) (history_of p done))) is) (ih k)
 since limits p (Step r ∷ done) t h e = go (eqb p r) refl e (λ k. since limits p done t h.1 k)
   where
     go : (b : Bool) → eqb p r ≡ b → last_taking (cons_option (cond b (Some step_made) None) (history_of p done)) ≡ Some t
@@ -287,14 +292,15 @@ since limits p (Step r ∷ done) t h e = go (eqb p r) refl e (λ k. since limits
         subst (λ n. Since limits p (Step n ∷ done) t) same
         (step_since limits p done t (ap (λ b. cons_option (cond b (Some step_made) None) (history_of p done)) self) (ih k))
     go false is k ih = extend limits p done t (Step r)
-        (ap (λ b. fate (place_of limits p) (cons_option (cond b (Some step_made) None) (history_of p done))) is) (ih k)
+        (ap (λ b. fate (ingress_of limits p) (cons_option (cond b (Some step_made) None) (history_of p done))) is) (ih k)
 since limits p (Take r frame ∷ done) t h e = go (eqb p r) refl e (λ k. since limits p done t h.1 k)
   where
     go : (b : Bool) → eqb p r ≡ b → last_taking (cons_option (cond b (Some (frame_taken frame)) None) (history_of p done))
         ≡ Some t
         → (last_taking (history_of p done) ≡ Some t → Since limits p done t) → Since limits p (Take r frame ∷ done) t
     go false is k ih = extend limits p done t (Take r frame)
-        (ap (λ b. fate (place_of limits p) (cons_option (cond b (Some (frame_taken frame)) None) (history_of p done))) is) (ih k)
+        (ap (λ b. fate (ingress_of limits p) (cons_option (cond b (Some (frame_taken frame)) None) (history_of p done))) is)
+            (ih k)
     go true is k ih =
         let same : p ≡ r = eqb-true p r is in
         let taken : taking frame (history_of p done) ≡ t = cc in
@@ -306,11 +312,11 @@ since limits p (Take r frame ∷ done) t h e = go (eqb p r) refl e (λ k. since 
           same = sym taken;
           sound = sound_events done h.1;
           full = λ q le missing left.
-              let all : placings q (work (place_of limits p) (taking frame (history_of p done))) ≡ 0 =
-              ap (λ b. placings q (work_left (place_of limits p)
+              let all : placings q (work (ingress_of limits p) (taking frame (history_of p done))) ≡ 0 =
+              ap (λ b. placings q (work_left (ingress_of limits p)
               (cons_option (cond b (Some (frame_taken frame)) None) (history_of p done)))) (sym is) ∙ left in
-              let some : 1 ≤ placings q (work (place_of limits p) (taking frame (history_of p done))) = subst
-              (λ (x : Taking). 1 ≤ placings q (work (place_of limits p) x)) (sym taken) le in
+              let some : 1 ≤ placings q (work (ingress_of limits p) (taking frame (history_of p done))) = subst
+              (λ (x : Taking). 1 ≤ placings q (work (ingress_of limits p) x)) (sym taken) le in
               absurd (omega arith);
         }
 

@@ -5,7 +5,7 @@ use Rattle.gw_ledger.specs.Bounds.{Bounds}
 use Rattle.gw_ledger.specs.declared.ledger.InLedger.{InLedger}
 use Rattle.gw_ledger.specs.declared.ledger.OutLedger.{OutLedger}
 use Rattle.gw_ledger.specs.declared.outcome.FrameCopy.{FrameCopy}
-use Rattle.gw_core.specs.PortHistory.{place_of, lane_after, placed_since, is_unfinished}
+use Rattle.gw_core.specs.PortHistory.{ingress_of, lane_after, placed_since, is_unfinished}
 use Rattle.gw_core.specs.Events.{history_of, answer, waiting_after, sent_after, ledger_after}
 use Rattle.gw_core.specs.declared.event.Event.{Event}
 use Rattle.gw_core.specs.declared.event.Event.TheVariants.{Publish, Take, Step, Send}
@@ -14,7 +14,7 @@ use Rattle.gw_core.specs.declared.event.Answer.TheVariants.{Sent}
 
 -- the copies placed on a lane after accepted events, the oldest first
 abbrev pub placed_after : Bounds → ℕ → ℕ → List Event → List FrameCopy
-placed_after limits p q done = (lane_after (place_of limits p) q (history_of p done)).placed
+placed_after limits p q done = (lane_after (ingress_of limits p) q (history_of p done)).placed
 
 -- the copy that an answer hands over
 abbrev pub copy_in : Answer → List FrameCopy
@@ -43,7 +43,8 @@ pub record LaneKeeps (limits : Bounds) (p q : ℕ) (done : List Event) : Type 0 
 -- the copies placed for a frame that is not finished
 abbrev pub open_copies : Bounds → ℕ → List Event → ℕ
 open_copies limits p done =
-    if is_unfinished (place_of limits p) (history_of p done) then length (placed_since (place_of limits p) (history_of p done))
+    if is_unfinished (ingress_of limits p) (history_of p done)
+        then length (placed_since (ingress_of limits p) (history_of p done))
     else 0
 
 -- a sum over the ports
@@ -59,7 +60,7 @@ pub record Balances (limits : Bounds) (done : List Event) : Type 0 where
 
 -- no port has an unfinished frame
 abbrev pub IsSettled : Bounds → List Event → Type 0
-IsSettled limits done = (p : ℕ) → p < limits.ports → is_unfinished (place_of limits p) (history_of p done) ≡ false
+IsSettled limits done = (p : ℕ) → p < limits.ports → is_unfinished (ingress_of limits p) (history_of p done) ≡ false
 
 -- the copies that wait on all lanes
 abbrev pub left_after : Bounds → List Event → ℕ

@@ -9,7 +9,7 @@ use Rattle.gw_machine.specs.Machine.{Machine, Outcome}
 use Rattle.gw_machine.specs.Runs.{Reaches, IsStep}
 use Rattle.gw_policy.specs.Batches.{in_force, steps}
 use Rattle.gw_ledger.specs.Bounds.{Bounds}
-use Rattle.gw_core.specs.PortHistory.{Work, instruction, place_of, work_left, heard}
+use Rattle.gw_core.specs.PortHistory.{Work, instruction, ingress_of, work_left, heard}
 use Rattle.gw_core.specs.Events.{history_of, all_batches, accepted}
 use Rattle.gw_core.specs.declared.event.Event.{Event}
 use Rattle.gw_core.specs.declared.event.Event.TheVariants.{Take, Step}
@@ -30,7 +30,7 @@ pub record RunsInside (code : List Insn) (frame : List ℕ) (p n : ℕ) : Type 0
 
 -- the next step at port p makes instruction n of the policy for port q
 abbrev pub MakesNext : Bounds → List Event → ℕ → ℕ → ℕ → Type 0
-MakesNext limits done p q n = (rest : List Work) × (work_left (place_of limits p) (history_of p done) ≡ instruction q n ∷ rest)
+MakesNext limits done p q n = (rest : List Work) × (work_left (ingress_of limits p) (history_of p done) ≡ instruction q n ∷ rest)
 
 -- Instruction n of the policy for port q is made for the frame last taken at port p. Port q is another port of the gateway, and
 -- the policy is the one in force for it at the taking: accepted code that runs as said, or the opening block with its one

@@ -13,13 +13,13 @@ use gw_policy::{Batch, Policy};
 
 /// Where a policy stands: which published batch, and which of its pairs.
 #[derive(Clone, Copy)]
-pub(crate) struct PairPlace {
+pub(crate) struct PairIndex {
     pub(crate) batch: usize,
     pub(crate) pair: usize,
 }
 
-/// For each port the place of the policy in force, if it is not the opening block.
-pub(crate) type PairPlaces = [Option<PairPlace>; 16];
+/// For each port where the policy in force stands, if it is not the opening block.
+pub(crate) type PairIndices = [Option<PairIndex>; 16];
 
 /// A frame that is not finished.
 #[derive(Clone, Copy)]
@@ -28,7 +28,7 @@ pub(crate) struct Active {
     pub(crate) number: u32,
     pub(crate) front: u32,
     /// The policies in force at its taking.
-    pub(crate) places: PairPlaces,
+    pub(crate) indices: PairIndices,
     /// The ports so far whose policies pass it, and those at which it was placed.
     pub(crate) allowed: PortSet,
     pub(crate) placed: PortSet,
@@ -49,16 +49,16 @@ pub(crate) enum Progress {
 }
 
 impl Active {
-    ghost use Rattle.gw_core.specs.Turns.{CanInstruct, Instructs, place_in};
+    ghost use Rattle.gw_core.specs.Turns.{CanInstruct, Instructs, index_in};
     ghost use Rattle.gw_core.specs.Standing.{has_room, lane_with, copy_from, active_placed, placing_answer, outcome_held};
 
     /// Makes an instruction of the policy for the port, unless the copy is to be placed.
     pub(crate) fn instruct(&mut self, batches: &[Batch], own: u8) -> Progress
         requires { CanInstruct batches.now own self.old }
-        ensures { (policy : Option Filter) → IsFound batches.now (place_in self.old.places self.old.port) policy
+        ensures { (policy : Option Filter) → IsFound batches.now (index_in self.old.indices self.old.port) policy
             → Instructs policy own self.old self.old.running result self.new }
     {
-        let policy = policy_at(batches, self.places[usize::from(self.port)]);
+        let policy = policy_at(batches, self.indices[usize::from(self.port)]);
         let Some(state) = &mut self.running else {
             return Progress::Places;
         };
@@ -72,8 +72,8 @@ impl Active {
         }
     }
 
-    /// Places the frame's copy on the lane to the port, unless as many as may wait are there.
-    pub(crate) fn place(&mut self, own: u8, lane: &mut Lane) -> Answer
+    /// Enqueues the frame's copy on the lane to the port, unless as many as may wait are there.
+    pub(crate) fn enqueue(&mut self, own: u8, lane: &mut Lane) -> Answer
         requires { self.old.port < 16 }
         ensures active { All (λ q. q < self.old.port) self.old.allowed → All (λ q. q < self.old.port) self.old.placed
             → self.new ≡ active_placed (has_room lane.old) self.old }
@@ -108,12 +108,12 @@ impl Active {
     }
 }
 
-/// The policy at a place, or the opening block.
-fn policy_at(batches: &[Batch], place: Option<PairPlace>) -> Option<&Policy>
-    ensures { (policy : Option Filter) → IsFound batches.now place policy → option_copied result ≡ policy }
+/// The policy at an index, or the opening block.
+fn policy_at(batches: &[Batch], index: Option<PairIndex>) -> Option<&Policy>
+    ensures { (policy : Option Filter) → IsFound batches.now index policy → option_copied result ≡ policy }
 {
-    let place = place?;
-    let (_, policy) = batches.get(place.batch)?.pair(place.pair)?;
+    let index = index?;
+    let (_, policy) = batches.get(index.batch)?.pair(index.pair)?;
     Some(&**policy)
 }
 

@@ -7,7 +7,7 @@ ghost use Rattle.gw_core.specs.Headline.{Forwards};
 ghost use Rattle.gw_core.specs.Safety.{StepsInside};
 ghost use Rattle.gw_core.specs.declared.event.Event.{Event};
 
-use crate::active::{PairPlace, PairPlaces};
+use crate::active::{PairIndex, PairIndices};
 use crate::event::{Answer, Event, EventRefusal};
 use crate::laws::{finished_frames_were_forwarded, steps_are_safe};
 use crate::refusal::OutOfMemory;
@@ -25,7 +25,7 @@ pub struct Core {
     limits: Limits,
     batches: Vec<Batch>,
     // where the policies in force stand
-    latest: PairPlaces,
+    latest: PairIndices,
     workers: Vec<Worker>,
     outs: Vec<OutLedger>,
 }
@@ -146,7 +146,7 @@ impl Core {
         ensures limits { self.new.limits ≡ self.old.limits }
     {
         let front = self.batches.len();
-        let Some(latest) = places_with(&batch, self.limits.ports(), front, self.latest) else {
+        let Some(latest) = indices_with(&batch, self.limits.ports(), front, self.latest) else {
             return Err(EventRefusal::NoSuchPort);
         };
         if front >= self.limits.versions() as usize {
@@ -163,16 +163,16 @@ impl Core {
 ghost use Rattle.std.specs.Prelude.{MatchOption, true, false};
 ghost use Rattle.gw_policy.specs.Batches.{Pair};
 ghost use Rattle.gw_core.specs.Events.{names_no_port};
-ghost use Rattle.gw_core.specs.Gateway.{PlacesWith};
+ghost use Rattle.gw_core.specs.Gateway.{IndicesWith};
 
-/// The places of the policies in force once a batch is published as the one of this index, or none where the batch
+/// Where the policies in force stand once a batch is published as the one of this index, or none where the batch
 /// names a port that is not there.
-fn places_with(batch: &Batch, ports: u32, index: usize, latest: PairPlaces) -> Option<PairPlaces>
+fn indices_with(batch: &Batch, ports: u32, index: usize, latest: PairIndices) -> Option<PairIndices>
     requires { ports ≤ 16 }
     ensures { MatchOption result (names_no_port ports batch.now ≡ true)
-        (λ places. (names_no_port ports batch.now ≡ false) × PlacesWith batch.now index latest places) }
+        (λ indices. (names_no_port ports batch.now ≡ false) × IndicesWith batch.now index latest indices) }
 {
-    let mut places = latest;
+    let mut indices = latest;
     for pair in 0..batch.len() {
         let Some((port, policy)) = batch.pair(pair) else {
             unreachable!()
@@ -182,9 +182,9 @@ fn places_with(batch: &Batch, ports: u32, index: usize, latest: PairPlaces) -> O
         if u32::from(port) >= ports {
             return None;
         }
-        places[usize::from(port)] = Some(PairPlace { batch: index, pair });
+        indices[usize::from(port)] = Some(PairIndex { batch: index, pair });
     }
-    Some(places)
+    Some(indices)
 }
 
 impl Core {

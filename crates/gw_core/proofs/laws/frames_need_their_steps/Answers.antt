@@ -1,7 +1,7 @@
-use Rattle.gw_core.specs.PortHistory.{place_of}
+use Rattle.gw_core.specs.PortHistory.{ingress_of}
 use Rattle.gw_core.specs.Events.{accepted, history_of}
 use Rattle.gw_core.proofs.Needs.{unfinished_by_need}
 use Rattle.gw_core.proofs.laws.frames_need_their_steps.Goals as goal
 
 pub returns : goal.returns
-returns c = λ limits history p t last. unfinished_by_need (place_of limits p) (history_of p (accepted limits history)) t last
+returns c = λ limits history p t last. unfinished_by_need (ingress_of limits p) (history_of p (accepted limits history)) t last

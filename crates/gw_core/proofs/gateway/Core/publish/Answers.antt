@@ -1,7 +1,7 @@
 use Rattle.std.proofs.Common.{rules, ◌≡◌, ℕ, ◌+◌, ◌<◌, List, ◌∷◌, length, Ok, sym, ap, ◌∙◌, subst, arith, false}
 use Rattle.gw_policy.specs.Batches.{Pair}
 use Rattle.gw_core.specs.Events.{names_no_port}
-use Rattle.gw_core.specs.Gateway.{Gateway, Stands, StandsAt, CoreAnswers, PlacesWith}
+use Rattle.gw_core.specs.Gateway.{Gateway, Stands, StandsAt, CoreAnswers, IndicesWith}
 use Rattle.gw_core.specs.declared.event.Event.{Event}
 use Rattle.gw_core.specs.declared.event.Event.TheVariants.{Publish}
 use Rattle.gw_core.specs.declared.event.Answer.TheVariants.{Published}
@@ -15,8 +15,8 @@ invariant_of-self c =
     record { limits = i.limits; batches = i.batches.items; latest = i.latest; workers = i.workers.items; outs = i.outs.items } in
     let front : c.len-front.result ≡ length g.batches = search rules in
     let more : length g.batches < g.limits.versions = omega (arith, c.if-front-versions.false, c.versions.ensures.versions) in
-    let made : PlacesWith c.args.batch (length g.batches) g.latest c.in-Some.latest = subst
-    (λ n. PlacesWith c.args.batch n g.latest c.in-Some.latest) front c.in-Some.ensures.1 in
+    let made : IndicesWith c.args.batch (length g.batches) g.latest c.in-Some.latest = subst
+    (λ n. IndicesWith c.args.batch n g.latest c.in-Some.latest) front c.in-Some.ensures.1 in
     let inv = c.self.invariant in (
       omega (arith, inv.0, c.push_reserved.ensures.capacity),
       (
@@ -34,8 +34,8 @@ returns-clause-answers c =
     record { limits = i.limits; batches = i.batches.items; latest = i.latest; workers = i.workers.items; outs = i.outs.items } in
     let front : c.len-front.result ≡ length g.batches = search rules in
     let more : length g.batches < g.limits.versions = omega (arith, c.if-front-versions.false, c.versions.ensures.versions) in
-    let made : PlacesWith c.args.batch (length g.batches) g.latest c.in-Some.latest = subst
-    (λ n. PlacesWith c.args.batch n g.latest c.in-Some.latest) front c.in-Some.ensures.1 in
+    let made : IndicesWith c.args.batch (length g.batches) g.latest c.in-Some.latest = subst
+    (λ n. IndicesWith c.args.batch n g.latest c.in-Some.latest) front c.in-Some.ensures.1 in
     let e = c.in-Some.ensures.0 in
     let is_view : g ≡ c.args.self.now = c.self.view_is in
     let F : Gateway → ℕ → List (List Pair) → Type 0 = λ x f xs. (history : List Event) → Stands x history

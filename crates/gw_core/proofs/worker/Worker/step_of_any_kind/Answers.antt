@@ -11,8 +11,8 @@ returns-in-Blocks-clause-answers c = λ done s.
     turn_blocks c.one_answer.ensures.steps c.instruct.new.self (turn c.self.view_is s c.in-Some.is) c.in-Blocks.is
     c.instruct.ensures c.advance.ensures
 
-pub place-requires : goal.place-requires
-place-requires c =
+pub enqueue-requires : goal.enqueue-requires
+enqueue-requires c =
     let waits = turn_waits (turn c.self.view_is c.requires.1 c.in-Some.is) c.in-Places.is c.instruct.ensures in
     record { worker = subst IsSomeWorker (sym waits.0) (c.args.batches.now, c.requires); copy = waits.1 }
 
@@ -20,5 +20,5 @@ pub returns-in-Places-clause-answers : goal.returns-in-Places-clause-answers
 returns-in-Places-clause-answers c = λ done s.
     let all = c.args.batches.now in
     let waits = turn_waits (turn c.self.view_is s c.in-Some.is) c.in-Places.is c.instruct.ensures in
-    subst (λ (x : Worker). AnswersStep all x (Ok c.place.result) c.place.new.self done) waits.0
-    (c.place.ensures.answers all done (subst (λ (x : Worker). WorkerStands all x done) (sym waits.0) s))
+    subst (λ (x : Worker). AnswersStep all x (Ok c.enqueue.result) c.enqueue.new.self done) waits.0
+    (c.enqueue.ensures.answers all done (subst (λ (x : Worker). WorkerStands all x done) (sym waits.0) s))

@@ -2,12 +2,12 @@ use Rattle.std.proofs.Common.{rules, ◌≡◌, List, Some, sym, ap, ◌∙◌, 
 use Rattle.std.specs.Prelude.{slice_get}
 use Rattle.gw_policy.specs.Filter.{IsFilter}
 use Rattle.gw_policy.specs.Batches.{Pair}
-use Rattle.gw_core.proofs.Places.{last_after, there_after, not_there, sound_after, all_taken}
+use Rattle.gw_core.proofs.PairIndices.{last_after, there_after, not_there, sound_after, all_taken}
 use Rattle.std.proofs.lemmas.Option.{slice_get_within}
 use Rattle.gw_core.specs.Events.{names_no_port}
-use Rattle.gw_core.specs.Turns.{place_in}
-use Rattle.gw_core.specs.Gateway.{last_place}
-use Rattle.gw_core.proofs.gateway.places_with.Goals as goal
+use Rattle.gw_core.specs.Turns.{index_in}
+use Rattle.gw_core.specs.Gateway.{last_index}
+use Rattle.gw_core.proofs.gateway.indices_with.Goals as goal
 
 pub returns-then-from-ports : goal.returns-then-from-ports
 returns-then-from-ports c =
@@ -26,7 +26,7 @@ loop-pair-preserved c =
       long = length-set _ _ _ ∙ so.long;
       there = there_after c.args.ports c.loop-pair.pair c.args.batch.now pair at (omega (arith, c.from.ensures)) so.there;
       sound = sound_after c.loop-pair.pair c.args.batch.now pair at ok so.sound;
-      last = λ q lt. rw i (last_after q c.args.index c.loop-pair.pair c.args.batch.now pair c.loop-pair.places _ at
+      last = λ q lt. rw i (last_after q c.args.index c.loop-pair.pair c.args.batch.now pair c.loop-pair.indices _ at
           (omega (arith, c.from.ensures, c.requires, so.long)) (so.last q lt));
     }
 
@@ -39,6 +39,6 @@ returns c =
       record {
         sound = λ i pair get. so.sound i pair
             (let k = slice_get_within c.args.batch.now i pair get in omega (arith, c.len-pair-end.ensures)) get;
-        last = λ q lt. so.last q lt ∙ ap (λ (xs : List Pair). last_place q c.args.index xs 0 (place_in c.args.latest q)) all;
+        last = λ q lt. so.last q lt ∙ ap (λ (xs : List Pair). last_index q c.args.index xs 0 (index_in c.args.latest q)) all;
       },
     )
