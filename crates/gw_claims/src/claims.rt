@@ -73,11 +73,11 @@ impl Claims {
         ensures only { IfSome result (λ address. (other : ℕ) → holder_of self.now other ≡ Some name → other ≡ address) }
         ensures none { IfNone result ((address : ℕ) → holder_of self.now address ≢ Some name) }
     {
-        let place = self
+        let address = self
             .holders
             .iter()
             .position(|holder| *holder == Some(name))?;
-        Some(place as u8)
+        Some(address as u8)
     }
 
     /// Whether a frame of the segment is local: a PDU1 extended data frame to an address that is
@@ -107,9 +107,9 @@ impl Claims {
         requires { (other : ℕ) → holder_of self.old other ≢ Some name }
         ensures { self.new ≡ table_taken self.old address name }
     {
-        let place = usize::from(address);
-        if place < ADDRESSES && self.holder(address).is_none_or(|held| name < held) {
-            self.holders[place] = Some(name);
+        let index = usize::from(address);
+        if index < ADDRESSES && self.holder(address).is_none_or(|held| name < held) {
+            self.holders[index] = Some(name);
         }
     }
 }
