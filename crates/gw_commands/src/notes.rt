@@ -1,31 +1,23 @@
 //! What a person should know of an input that is not refused.
 
 use gw_frame::Frame;
+use gw_ident::{EXTENDED_FLAG, GREATEST_EXTENDED, GREATEST_STANDARD};
 use gw_io::Tried;
 use gw_table::Table;
 use std::io::Write;
-
-/// The greatest identifier of a standard frame, eleven bits.
-const GREATEST_STANDARD: u32 = 0x7ff;
-
-/// The flag of an extended frame in the identifier word.
-const EXTENDED: u32 = 0x8000_0000;
-
-/// The bits of an identifier.
-const IDENTIFIER: u32 = 0x1fff_ffff;
 
 /// Whether the identifier word has bits above the eleven of a standard frame and no flag of an extended one: mostly an
 /// identifier that was copied from a bus monitor without the flag.
 fn lacks_flag(frame: &Frame) -> bool {
     let word = frame.id().word();
-    word & EXTENDED == 0 && word & IDENTIFIER > GREATEST_STANDARD
+    word & EXTENDED_FLAG == 0 && word & GREATEST_EXTENDED > GREATEST_STANDARD
 }
 
 /// Tells that a record is that of no extended frame though its identifier is as long as one's.
 pub fn note_standard_identifier<F: Write>(frame: &Frame, faults: &mut Tried<F>) {
     if lacks_flag(frame) {
         let word = frame.id().word();
-        let meant = word | EXTENDED;
+        let meant = word | EXTENDED_FLAG;
         let _ = writeln!(
             faults,
             "gw: the identifier {word:08X} has more than 11 bits and lacks the flag 80000000, so this is no extended frame and a \
@@ -38,7 +30,7 @@ pub fn note_standard_identifier<F: Write>(frame: &Frame, faults: &mut Tried<F>) 
 pub fn note_uncounted<F: Write>(frame: &Frame, line: usize, faults: &mut Tried<F>) {
     if lacks_flag(frame) {
         let word = frame.id().word();
-        let meant = word | EXTENDED;
+        let meant = word | EXTENDED_FLAG;
         let _ = writeln!(
             faults,
             "gw: line {line}: the identifier {word:08X} has more than 11 bits and lacks the flag 80000000, so it does not count; \

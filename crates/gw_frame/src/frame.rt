@@ -9,11 +9,11 @@ use byteorder::{BigEndian, ByteOrder};
 use gw_ident::CanId;
 use std::marker::Model;
 
-/// The most octets of a record.
-const MOST: usize = 16;
+/// The most octets of a record (LINKTYPE_CAN_SOCKETCAN).
+pub const RECORD_OCTETS: usize = 16;
 
-/// Where the payload begins in a record.
-const PAYLOAD: usize = 8;
+/// Where the payload begins in a record (LINKTYPE_CAN_SOCKETCAN).
+pub const PAYLOAD_START: usize = 8;
 
 /// A CAN frame: the 8 to 16 octets of a record of LINKTYPE_CAN_SOCKETCAN (link type 227), unchanged.
 ///
@@ -22,7 +22,7 @@ const PAYLOAD: usize = 8;
 /// anything and are kept.
 #[derive(Clone, Copy, PartialEq, Eq, Debug)]
 pub struct Frame {
-    octets: [u8; MOST],
+    octets: [u8; RECORD_OCTETS],
     len: usize,
 }
 
@@ -49,21 +49,21 @@ impl Frame {
         ensures refused { refusal_of octets.now ≡ result_err result }
     {
         let len = octets.len();
-        if len < PAYLOAD {
+        if len < PAYLOAD_START {
             return Err(FrameRefusal::TooShort { len });
         }
-        if len > MOST {
+        if len > RECORD_OCTETS {
             return Err(FrameRefusal::TooLong { len });
         }
         let said = octets[4];
         if said > 8 {
             return Err(FrameRefusal::BadLength { said });
         }
-        let there = len - PAYLOAD;
+        let there = len - PAYLOAD_START;
         if there < usize::from(said) {
             return Err(FrameRefusal::PayloadCut { said, there });
         }
-        let mut kept = [0; MOST];
+        let mut kept = [0; RECORD_OCTETS];
         kept[..len].copy_from_slice(octets);
         Ok(Frame { octets: kept, len })
     }
@@ -96,6 +96,6 @@ impl Frame {
         ensures len { length result.now ≡ payload_length self.now }
     {
         let octets = self.bytes();
-        &octets[PAYLOAD..PAYLOAD + usize::from(octets[4])]
+        &octets[PAYLOAD_START..PAYLOAD_START + usize::from(octets[4])]
     }
 }

@@ -4,5 +4,5 @@
 mod frame;
 mod refusal;
 
-pub use frame::Frame;
+pub use frame::{Frame, PAYLOAD_START, RECORD_OCTETS};
 pub use refusal::{FrameRefusal, RECORD_FORM};

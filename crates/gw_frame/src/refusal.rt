@@ -2,6 +2,7 @@
 
 ghost use Rattle.std.specs.Prelude.{◌≡◌};
 
+use crate::frame::RECORD_OCTETS;
 use std::error::Error;
 use std::fmt;
 use std::fmt::{Display, Formatter};
@@ -62,7 +63,7 @@ impl Display for FrameRefusal {
             )?,
             FrameRefusal::TooLong { len } => write!(
                 f,
-                "a record has at most 16 octets, and this one has {len}"
+                "a record has at most {RECORD_OCTETS} octets, and this one has {len}"
             )?,
             FrameRefusal::BadLength { said } => write!(
                 f,

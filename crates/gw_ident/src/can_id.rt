@@ -18,11 +18,26 @@ ghost use Rattle.gw_ident.specs.Identifier.{
 
 use std::marker::Model;
 
-/// The destination of a frame that is sent to every address.
-const GLOBAL: u8 = 255;
+/// The flag of an identifier of 29 bits, in the identifier word (CAN_EFF_FLAG of Linux's include/uapi/linux/can.h).
+pub const EXTENDED_FLAG: u32 = 0x8000_0000;
 
-/// The least PDU format of PDU2. Below it a frame is a PDU1.
-const PDU2: u8 = 240;
+/// The flag of a request for a frame (CAN_RTR_FLAG of include/uapi/linux/can.h).
+pub const REMOTE_FLAG: u32 = 0x4000_0000;
+
+/// The flag of a report of the controller's (CAN_ERR_FLAG of include/uapi/linux/can.h).
+pub const ERROR_FLAG: u32 = 0x2000_0000;
+
+/// The greatest identifier of 29 bits (CAN_EFF_MASK of include/uapi/linux/can.h).
+pub const GREATEST_EXTENDED: u32 = 0x1fff_ffff;
+
+/// The greatest identifier of 11 bits (CAN_SFF_MASK of include/uapi/linux/can.h).
+pub const GREATEST_STANDARD: u32 = 0x7ff;
+
+/// The least PDU format of PDU2. Below it a frame is a PDU1 (SAE J1939-21, PDU format).
+pub const LEAST_PDU2: u8 = 240;
+
+/// The destination of a frame that is sent to every address (SAE J1939-21, global address).
+pub const GLOBAL: u8 = 255;
 
 /// The identifier word of a CAN frame: an identifier of 29 bits, and above it the flags of
 /// LINKTYPE_CAN_SOCKETCAN (`0x80000000` extended, `0x40000000` remote, `0x20000000` error).
@@ -64,7 +79,7 @@ impl CanId {
     pub fn is_extended_data(self) -> bool
         ensures { result ≡ is_extended_data self }
     {
-        self.word >> 29 == 4
+        self.word >> 29 == EXTENDED_FLAG >> 29
     }
 
     /// The priority, 0 (highest) to 7.
@@ -133,7 +148,7 @@ impl CanId {
     fn identifier(self) -> u32
         ensures { result ≡ identifier self }
     {
-        self.word % (1 << 29)
+        self.word % (GREATEST_EXTENDED + 1)
     }
 
     /// The extended data page and the data page, as one number of two bits.
@@ -147,6 +162,6 @@ impl CanId {
     fn is_pdu1(self) -> bool
         ensures { result ≡ is_pdu1 self }
     {
-        self.pf() < PDU2
+        self.pf() < LEAST_PDU2
     }
 }

@@ -4,5 +4,8 @@
 mod can_id;
 mod name;
 
-pub use can_id::CanId;
+pub use can_id::{
+    CanId, ERROR_FLAG, EXTENDED_FLAG, GLOBAL, GREATEST_EXTENDED, GREATEST_STANDARD, LEAST_PDU2,
+    REMOTE_FLAG,
+};
 pub use name::Name;

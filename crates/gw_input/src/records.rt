@@ -5,13 +5,10 @@ ghost use Rattle.std.specs.List.{AllPass};
 ghost use Rattle.hex.specs.Hex.{is_hex_digit};
 ghost use Rattle.gw_input.specs.Records.{NamesRecord, IsRecordFault};
 
-use gw_frame::{Frame, FrameRefusal, RECORD_FORM};
+use gw_frame::{Frame, FrameRefusal, RECORD_FORM, RECORD_OCTETS};
 use std::error::Error;
 use std::fmt;
 use std::fmt::{Display, Formatter};
-
-/// The most octets of a record.
-const RECORD_OCTETS: usize = 16;
 
 /// Why a text is no record. Of several causes the first of these is given.
 #[derive(Clone, Copy, PartialEq, Eq, Debug)]

@@ -4,7 +4,7 @@ ghost use Rattle.std.specs.Prelude.{◌≡◌, ◌<◌, ◌^◌, ◌+◌, replic
 ghost use Rattle.gw_ledger.specs.Ports.{IsPartOf};
 ghost use Rattle.gw_ledger.specs.Ledgers.{ledger_with, count_after, HasRoom};
 
-use crate::Outcome;
+use crate::{MAX_PORTS, Outcome};
 
 /// What a port counts of the frames taken there that are finished.
 #[derive(Clone, Copy, PartialEq, Eq, Debug)]
@@ -54,7 +54,7 @@ impl InLedger {
 /// What a port counts of the copies sent there: for each port, those of the frames taken at it.
 #[derive(Clone, Copy, PartialEq, Eq, Debug)]
 pub struct OutLedger {
-    pub sent: [u64; 16],
+    pub sent: [u64; MAX_PORTS],
 }
 
 impl OutLedger {
@@ -62,7 +62,9 @@ impl OutLedger {
     pub const fn new() -> OutLedger
         ensures { result.sent ≡ replicate 16 0 }
     {
-        OutLedger { sent: [0; 16] }
+        OutLedger {
+            sent: [0; MAX_PORTS],
+        }
     }
 
     /// Counts a copy of a frame taken at a port. A count stays at 18446744073709551615.

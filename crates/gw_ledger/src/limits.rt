@@ -3,6 +3,7 @@
 ghost use Rattle.std.specs.Prelude.{◌≡◌, ◌≤◌, ◌↔◌, IsOk, IfOk};
 ghost use Rattle.gw_ledger.specs.Bounds.{IsWithinBounds, bad_limit_number};
 
+use crate::MAX_PORTS;
 use std::error::Error;
 use std::fmt;
 use std::fmt::{Display, Formatter};
@@ -63,7 +64,7 @@ impl Limits {
         ensures within { IsOk result
             ↔ IsWithinBounds (record { ports = ports; lane = lane; versions = versions; frames = frames }) }
     {
-        let within = (2..=16).contains(&ports)
+        let within = (2..=MAX_PORTS as u32).contains(&ports)
             && (1..=1024).contains(&lane)
             && (1..=65535).contains(&versions)
             && frames >= 1;

@@ -5,8 +5,8 @@ ghost use Rattle.gw_ledger.specs.Ports.{has_port, with_port, IsPortSet};
 
 use std::marker::Model;
 
-/// How many ports there can be.
-const PORTS: u8 = 16;
+/// The most ports of a gateway (its limits in docs/FORMATS.md).
+pub const MAX_PORTS: usize = 16;
 
 /// A set of ports below 16.
 #[derive(Clone, Copy, PartialEq, Eq, Debug)]
@@ -53,7 +53,7 @@ impl PortSet {
     pub fn has(self, port: u8) -> bool
         ensures { result ≡ has_port port self }
     {
-        port < PORTS && (self.word >> port) & 1 == 1
+        usize::from(port) < MAX_PORTS && (self.word >> port) & 1 == 1
     }
 
     /// How many ports are in the set, 0 to 16.

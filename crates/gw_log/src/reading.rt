@@ -19,16 +19,8 @@ use crate::digits::{are_digits, spelled};
 use crate::payload;
 use crate::refusal::LogRefusal;
 use arrayvec::ArrayVec;
-use gw_frame::Frame;
-
-/// The flag of an identifier of 29 bits.
-pub const EXTENDED: u32 = 0x8000_0000;
-
-/// The flag of a request for a frame.
-pub const REMOTE: u32 = 0x4000_0000;
-
-/// The flag of a report of the controller's.
-pub const ERROR: u32 = 0x2000_0000;
+use gw_frame::{Frame, RECORD_OCTETS};
+use gw_ident::{ERROR_FLAG, EXTENDED_FLAG, GREATEST_STANDARD, REMOTE_FLAG};
 
 /// The frame that a text in candump's form means: `18FEF100#0102030405060708`, `123#R3`.
 ///
@@ -86,7 +78,7 @@ fn short_word(n: u32) -> Result<u32, LogRefusal>
     ensures word { result ≡ short_word n }
     ensures bound { IfOk result (λ word. word < 0xA000_0000) }
 {
-    if n < 0x800 {
+    if n <= GREATEST_STANDARD {
         Ok(n)
     } else {
         Err(LogRefusal::WideId)
@@ -98,9 +90,9 @@ fn long_word(n: u32) -> Result<u32, LogRefusal>
     ensures word { result ≡ long_word n }
     ensures bound { IfOk result (λ word. word < 0xA000_0000) }
 {
-    if n < ERROR {
-        Ok(n + EXTENDED)
-    } else if n < REMOTE {
+    if n < ERROR_FLAG {
+        Ok(n + EXTENDED_FLAG)
+    } else if n < REMOTE_FLAG {
         Ok(n)
     } else {
         Err(LogRefusal::WideId)
@@ -123,10 +115,10 @@ fn remote_frame(word: u32, text: &[u8]) -> Result<Frame, LogRefusal>
     let Some(len) = payload::remote_length(text) else {
         return Err(LogRefusal::BadRemote);
     };
-    if word / ERROR % 2 == 1 {
+    if word / ERROR_FLAG % 2 == 1 {
         return Err(LogRefusal::BadRemote);
     }
-    Ok(frame(word + REMOTE, &[0; 8][..len]))
+    Ok(frame(word + REMOTE_FLAG, &[0; 8][..len]))
 }
 
 /// The frame of an identifier word and a payload.
@@ -135,7 +127,7 @@ fn frame(word: u32, payload: &[u8]) -> Frame
     ensures { result ≡ record_of word payload.now }
 {
     let [a, b, c, d] = word.to_be_bytes();
-    let mut record = ArrayVec::<u8, 16>::new();
+    let mut record = ArrayVec::<u8, RECORD_OCTETS>::new();
     let _fits = record.try_extend_from_slice(&[a, b, c, d, payload.len() as u8, 0, 0, 0]);
     let _fits = record.try_extend_from_slice(payload);
     match Frame::read(record.as_slice()) {

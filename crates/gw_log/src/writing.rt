@@ -5,16 +5,13 @@ ghost use Rattle.hex.specs.Hex.{encode_upper};
 ghost use Rattle.gw_log.specs.LogFrames.{has_flag};
 ghost use Rattle.gw_log.specs.LogTexts.{upper_digit, three_digits, identifier_text, is_remote, body_text, text_of};
 
-use crate::reading::{ERROR, EXTENDED, REMOTE};
 use arrayvec::ArrayVec;
-use gw_frame::Frame;
+use gw_frame::{Frame, PAYLOAD_START};
+use gw_ident::{ERROR_FLAG, EXTENDED_FLAG, GREATEST_STANDARD, REMOTE_FLAG};
 use std::marker::Model;
 
 /// The most octets of a frame in candump's form: 8 digits, `#`, and 16 digits.
 const ROOM: usize = 25;
-
-/// Where the payload begins in a record.
-const PAYLOAD: usize = 8;
 
 /// The digits, in capitals.
 const DIGITS: &[u8; 16] = b"0123456789ABCDEF";
@@ -49,7 +46,7 @@ pub fn frame_text(frame: &Frame) -> FrameText
 {
     let word = frame.id().word();
     let record = frame.bytes();
-    let payload = &record[PAYLOAD..PAYLOAD + usize::from(record[4])];
+    let payload = &record[PAYLOAD_START..PAYLOAD_START + usize::from(record[4])];
     let mut octets = identifier_text(word);
     octets.push(b'#');
     FrameText {
@@ -62,13 +59,13 @@ fn identifier_text(word: u32) -> ArrayVec<u8, ROOM>
     ensures octets { result.items ≡ identifier_text word }
     ensures len { length result.items ≤ 8 }
 {
-    if is_set(ERROR, word) {
-        return with_octets(ArrayVec::new(), &(word % REMOTE).to_be_bytes());
+    if is_set(ERROR_FLAG, word) {
+        return with_octets(ArrayVec::new(), &(word % REMOTE_FLAG).to_be_bytes());
     }
-    if is_set(EXTENDED, word) {
-        return with_octets(ArrayVec::new(), &(word % ERROR).to_be_bytes());
+    if is_set(EXTENDED_FLAG, word) {
+        return with_octets(ArrayVec::new(), &(word % ERROR_FLAG).to_be_bytes());
     }
-    three_digits(word % 0x800)
+    three_digits(word % (GREATEST_STANDARD + 1))
 }
 
 /// Three digits of a number.
@@ -117,7 +114,7 @@ fn with_octets(mut text: ArrayVec<u8, ROOM>, octets: &[u8]) -> ArrayVec<u8, ROOM
 fn is_remote(word: u32) -> bool
     ensures { result ≡ is_remote word }
 {
-    is_set(REMOTE, word) && !is_set(ERROR, word)
+    is_set(REMOTE_FLAG, word) && !is_set(ERROR_FLAG, word)
 }
 
 /// Whether a flag of an identifier word is set.

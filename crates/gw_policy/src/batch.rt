@@ -21,12 +21,10 @@ ghost use Rattle.std.specs.Prelude.{
 
 use crate::policy::Policy;
 use arrayvec::ArrayVec;
+use gw_ledger::MAX_PORTS;
 use std::alloc::AllocError;
 use std::marker::Model;
 use std::sync::Arc;
-
-/// The most pairs of a batch, one for each port that a gateway can have.
-pub(crate) const MOST: usize = 16;
 
 /// Why a policy did not join a batch. It comes back.
 #[derive(Drop)]
@@ -41,7 +39,7 @@ pub enum BatchRefusal {
 #[derive(Drop)]
 pub struct Batch {
     // Each is there: an `ArrayVec` needs a default for the room that is left.
-    pairs: ArrayVec<Option<(u8, Arc<Policy>)>, MOST>,
+    pairs: ArrayVec<Option<(u8, Arc<Policy>)>, MAX_PORTS>,
 }
 
 impl Model for Batch {
@@ -132,7 +130,9 @@ impl Batch {
     }
 
     // The pairs, each with an owner of its policy more.
-    pub(crate) fn copies(&self) -> Result<ArrayVec<Option<(u8, Arc<Policy>)>, MOST>, AllocError>
+    pub(crate) fn copies(
+        &self,
+    ) -> Result<ArrayVec<Option<(u8, Arc<Policy>)>, MAX_PORTS>, AllocError>
         ensures { IfOk result (λ copies. pairs_of copies.items ≡ self.now) }
     {
         self.pairs.clone()

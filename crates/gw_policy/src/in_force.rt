@@ -17,9 +17,10 @@ ghost use Rattle.std.specs.Prelude.{
   option_copied,
 };
 
-use crate::batch::{Batch, MOST};
+use crate::batch::Batch;
 use crate::policy::Policy;
 use gw_frame::Frame;
+use gw_ledger::MAX_PORTS;
 use std::alloc::AllocError;
 use std::marker::Model;
 use std::sync::Arc;
@@ -28,7 +29,7 @@ use std::sync::Arc;
 /// instruction; and the front, the number of batches that were absorbed, which stays at 4294967295.
 #[derive(Drop)]
 pub struct PolicySet {
-    places: [Option<Arc<Policy>>; MOST],
+    places: [Option<Arc<Policy>>; MAX_PORTS],
     front: u32,
 }
 
@@ -106,7 +107,7 @@ impl PolicySet {
             ≡ (if nat_lt other 16 then (if port == other then Some policy.value else policy_at other self.old) else None) }
     {
         let place = usize::from(port);
-        if place < MOST {
+        if place < MAX_PORTS {
             self.places[place] = Some(policy);
         }
     }

@@ -23,7 +23,8 @@ ghost use Rattle.gw_table.specs.Emission.{
   emission,
 };
 
-use crate::table::{Action, GREATEST_GROUP, GREATEST_OCTET, Rule, Span, Table};
+use crate::table::{Action, GREATEST_GROUP, GREATEST_OCTET, PDU2, Rule, Span, Table};
+use gw_ident::{ERROR_FLAG, EXTENDED_FLAG, GLOBAL, REMOTE_FLAG};
 use gw_insn::{INTERFACE, Insn, Raw, encode};
 use gw_machine::one_answer;
 use gw_verify::{Cause, Program};
@@ -76,13 +77,13 @@ fn prologue(other: Action) -> [Insn; 21]
 {
     [
         Insn::LoadWord(0),
-        Insn::AndConstant(0xe000_0000),
-        Insn::JumpEqualConstant(1, 0, 0x8000_0000),
+        Insn::AndConstant(EXTENDED_FLAG | REMOTE_FLAG | ERROR_FLAG),
+        Insn::JumpEqualConstant(1, 0, EXTENDED_FLAG),
         return_of(other),
         Insn::LoadByte(3),
         Insn::StoreA(SOURCE),
         Insn::LoadByte(1),
-        Insn::JumpAtLeastConstant(7, 0, 0xf0),
+        Insn::JumpAtLeastConstant(7, 0, PDU2),
         Insn::LoadByte(2),
         Insn::StoreA(DESTINATION),
         Insn::LoadWord(0),
@@ -90,11 +91,11 @@ fn prologue(other: Action) -> [Insn; 21]
         Insn::AndConstant(0x3_ff00),
         Insn::StoreA(GROUP),
         Insn::Jump(6),
-        Insn::LoadConstantA(0xff),
+        Insn::LoadConstantA(u32::from(GLOBAL)),
         Insn::StoreA(DESTINATION),
         Insn::LoadWord(0),
         Insn::RshConstant(8),
-        Insn::AndConstant(0x3_ffff),
+        Insn::AndConstant(GREATEST_GROUP),
         Insn::StoreA(GROUP),
     ]
 }

@@ -25,6 +25,7 @@ ghost use Rattle.gw_table.specs.Table.{lies_in, greatest_group, Decides, Fits, I
 ghost use Rattle.gw_table.specs.Dead.{HasNoDestination, is_within, covers, IsDeadAlone, IsDead};
 
 use crate::table::{GREATEST_OCTET, PDU2, Part, Rule, Span, Table};
+use gw_ledger::MAX_PORTS;
 use std::fmt;
 use std::fmt::{Display, Formatter};
 
@@ -40,9 +41,6 @@ pub enum WhyDead {
     /// Each range lies within that of an earlier rule, the first such.
     Covered { by: usize },
 }
-
-/// A gateway's ports are below it.
-const PORTS: u32 = 16;
 
 impl Table {
     /// Why the rule of this number, counted from 0, can never decide: a cause that it has by itself, in the order of
@@ -126,7 +124,7 @@ impl Span {
         ensures { MatchBool result ((port : ℕ) × (port < 16) × (lies_in port self ≡ true))
             ((port : ℕ) → port < 16 → lies_in port self ≡ false) }
     {
-        self.low < PORTS
+        (self.low as usize) < MAX_PORTS
     }
 
     /// Whether a parameter group lies in the range.

@@ -3,6 +3,7 @@
 ghost use Rattle.std.specs.Prelude.{◌≡◌};
 ghost use Rattle.gw_table.specs.Table.{is_pass, IsWellFormed};
 
+use gw_ident::LEAST_PDU2;
 use std::marker::Model;
 
 /// The greatest parameter group number, of 18 bits (SAE J1939-21).
@@ -11,8 +12,8 @@ pub(crate) const GREATEST_GROUP: u32 = 262143;
 /// The greatest address. A range of ports is one of octets too.
 pub(crate) const GREATEST_OCTET: u32 = 255;
 
-/// The least PDU format of a PDU2 group (SAE J1939-21).
-pub(crate) const PDU2: u32 = 240;
+/// The least PDU format of a PDU2 group, as a number among parameter groups.
+pub(crate) const PDU2: u32 = LEAST_PDU2 as u32;
 
 /// What becomes of a frame.
 #[derive(Clone, Copy, PartialEq, Eq, Debug)]

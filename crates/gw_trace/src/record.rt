@@ -7,13 +7,10 @@ ghost use Rattle.gw_trace.specs.Traces.{captured, captured_length, beginning};
 ghost use Rattle.gw_trace.specs.Wholes.{IsWithin};
 
 use crate::byte_order::Endian;
-use gw_frame::{Frame, FrameRefusal};
+use gw_frame::{Frame, FrameRefusal, RECORD_OCTETS};
 
 /// How many octets the header of a record has.
 pub const RECORD_HEADER: usize = 16;
-
-/// The most octets of a record behind its header. Most writers give every record this length.
-pub const RECORD_OCTETS: usize = 16;
 
 /// What stands at the front of octets among records.
 #[derive(Clone, Copy)]
@@ -59,7 +56,7 @@ pub fn begins(order: Endian, octets: &[u8]) -> Beginning
     }
 }
 
-/// Whether a whole record of the longest form stands at the front of octets.
+/// Whether a whole record of the longest form, which most writers give every frame, stands at the front of octets.
 #[tactic(auto, unfolding(crate::specs::Traces::beginning))]
 pub fn begins_longest(order: Endian, octets: &[u8]) -> bool
     ensures begins { OnTrue result (beginning order octets.now ≡ Whole RECORD_OCTETS) }

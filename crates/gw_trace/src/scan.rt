@@ -6,8 +6,8 @@ ghost use Rattle.gw_trace.specs.Scans.{IsFront, found};
 
 use crate::byte_order::Endian;
 use crate::checked::Checked;
-use crate::record::{Beginning, RECORD_HEADER, RECORD_OCTETS, begins, begins_longest};
-use gw_frame::FrameRefusal;
+use crate::record::{Beginning, RECORD_HEADER, begins, begins_longest};
+use gw_frame::{FrameRefusal, RECORD_OCTETS};
 
 /// The whole records at the front of octets, what stands behind them, and what is wrong with the record there.
 #[derive(Drop)]

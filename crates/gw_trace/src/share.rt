@@ -6,8 +6,8 @@ ghost use Rattle.gw_trace.specs.Traces.{captured_length, contents};
 ghost use Rattle.gw_trace.specs.Wholes.{AreRecords};
 
 use crate::byte_order::Endian;
-use crate::record::{RECORD_HEADER, RECORD_OCTETS, captured_len};
-use gw_frame::Frame;
+use crate::record::{RECORD_HEADER, captured_len};
+use gw_frame::{Frame, RECORD_OCTETS};
 use std::marker::Model;
 
 /// One port's frames of checked octets, in order.

@@ -19,20 +19,20 @@ put_there c after is other =
     ap (policy_at other) is
     ∙ subst (λ before. P c.args.port before) c.self.view_is
     (subst (λ p. P p (record { policies = map policy_of c.self.inside.places; front = c.self.inside.front }))
-    c.from-place.ensures (put_within c.self.inside.places port (Some c.args.policy) c.self.invariant c.if-place-lt-MOST.true
+    c.from-place.ensures (put_within c.self.inside.places port (Some c.args.policy) c.self.invariant c.if-place-lt-MAX_PORTS.true
     other))
 
-pub returns-then-place-lt-MOST-clause-policies : goal.returns-then-place-lt-MOST-clause-policies
-returns-then-place-lt-MOST-clause-policies c =
+pub returns-then-place-lt-MAX_PORTS-clause-policies : goal.returns-then-place-lt-MAX_PORTS-clause-policies
+returns-then-place-lt-MAX_PORTS-clause-policies c =
     elim c.match-self-place.branch [
       | in-Some-1 w ↦ put_there c c.match-self-place.self w.self-is
       | in-None-1 w ↦
           put_there c c.match-self-place.self w.self-is
     ]
 
-pub returns-else-place-lt-MOST-clause-policies : goal.returns-else-place-lt-MOST-clause-policies
-returns-else-place-lt-MOST-clause-policies c = λ other.
+pub returns-else-place-lt-MAX_PORTS-clause-policies : goal.returns-else-place-lt-MAX_PORTS-clause-policies
+returns-else-place-lt-MAX_PORTS-clause-policies c = λ other.
     let P : Places → Type 0 = λ set. policy_at other set ≡ sixteen_after c.args.port (Some c.args.policy.value) other
     (policy_at other set) in
-    let beyond : 16 ≤ c.args.port = omega (arith, c.from-place.ensures, c.if-place-lt-MOST.false) in
+    let beyond : 16 ≤ c.args.port = omega (arith, c.from-place.ensures, c.if-place-lt-MAX_PORTS.false) in
     subst P c.self.view_is (put_beyond c.self.inside.places c.args.port (Some c.args.policy) c.self.invariant beyond other)
