@@ -14,6 +14,7 @@ pub mod TreesFit
 mod TreesExamples
 mod IndexExamples
 pub mod NeverDecides
+pub mod Causes
 pub mod RuleBits
 pub mod Holding
 pub mod Listed

@@ -1,16 +1,13 @@
 -- Which identifiers there are of a parameter group, and why a rule that is covered or has no frame never decides.
-use Rattle.std.proofs.Common.{◌≡◌, ℕ, ◌+◌, ◌*◌, ◌/◌, ◌%◌, ◌^◌, ◌<◌, ◌≤◌, ◌⊎◌, Bool, cond, get_or, true, false, ◌&&◌, List, Some}
-use Rattle.std.proofs.Common.{None, refl, sym, ap, subst, ◌∙◌, inl, inr, arith}
-use Rattle.std.proofs.lemmas.Bool.{and_parts, and_from, false≢true}
+use Rattle.std.proofs.Common.{◌≡◌, ℕ, ◌+◌, ◌*◌, ◌/◌, ◌%◌, ◌<◌, ◌≤◌, ◌⊎◌, Bool, cond, get_or, true, false, ◌&&◌, List, Some}
+use Rattle.std.proofs.Common.{None, refl, sym, ap, ◌∙◌, inl, inr, arith}
+use Rattle.std.proofs.lemmas.Bool.{false≢true}
 use Rattle.std.proofs.lemmas.Bool.Decides.{nat_tests}
-use Rattle.std.proofs.lemmas.List.{length-take, get_or-take}
 use Rattle.std.proofs.lemmas.List.Quantifiers.{position-Some}
-use Rattle.std.proofs.lemmas.List.Sums.{fails_before_first}
-use Rattle.std.proofs.lemmas.Option.{get_or_from_slice_get, slice_get_past, slice_get_within, slice_get_cases, slice_get-get_or}
-use Rattle.std.proofs.lemmas.Option.{same_Some}
+use Rattle.std.proofs.lemmas.Option.{get_or_from_slice_get, slice_get_past, slice_get_cases}
 use Rattle.std.proofs.lemmas.List.Folds.{find_at}
-use Rattle.std.specs.Prelude.{nat_lt, nat_le, MatchBool, length, take, option_map, unwrap_or, slice_get, Option, IfSome, OnSome}
-use Rattle.std.specs.List.{find, position, position_or_len}
+use Rattle.std.specs.Prelude.{nat_lt, MatchBool, length, option_map, unwrap_or, slice_get}
+use Rattle.std.specs.List.{position, position_or_len}
 use Rattle.gw_frame.specs.Record.{word_of}
 use Rattle.gw_ident.specs.Identifier.{page, pdu_format, pdu_specific, is_pdu1, parameter_group, source_address}
 use Rattle.gw_ident.specs.Identifier.{destination_address}
@@ -21,7 +18,7 @@ use Rattle.gw_table.specs.declared.table.Part.TheVariants as part
 use Rattle.gw_table.specs.declared.dead.WhyDead.{WhyDead}
 use Rattle.gw_table.specs.declared.dead.WhyDead.TheVariants.{NoGroup, NoPort, NoDestination, Covered}
 use Rattle.gw_table.specs.Table.{Meaning, IsRule, lies_in, matches, action_for, action_of, Decides}
-use Rattle.gw_table.specs.Dead.{HasNoDestination, is_within, covers, IsDeadAlone, IsDead}
+use Rattle.gw_table.specs.Dead.{HasNoDestination, is_within, covers, IsDead}
 
 -- an identifier's parameter group is a page and a format, and for PDU2 its group extension
 
@@ -181,17 +178,8 @@ dead_never table number (Covered by) dead octets port fits decides =
     (decider_holds octets port number table later.rule decides later.here) in
     false≢true (sym (earlier_fails octets port number by table earlier.rule decides dead.0 earlier.here) ∙ holds)
 
--- causes of the rule of a number, and of no rule
-
-pub alone_dead : (rules : List Rule) (number : ℕ) (rule : Rule) (why : WhyDead) → slice_get rules number ≡ Some rule
-    → IsDeadAlone rule why → IsDead rules number why
-alone_dead rules number rule NoGroup here is = record { rule = rule; here = here; holds = is }
-alone_dead rules number rule NoPort here is = record { rule = rule; here = here; holds = is }
-alone_dead rules number rule NoDestination here is = record { rule = rule; here = here; holds = is }
-alone_dead rules number rule (Covered by) here is = absurd is
-
 -- the first element that passes, by its place
-position_is : {A : Type 0} (test : A → Bool) (xs : List A) (number : ℕ) → position test xs ≡ Some number
+pub position_is : {A : Type 0} (test : A → Bool) (xs : List A) (number : ℕ) → position test xs ≡ Some number
     → (position_or_len test xs ≡ number) × (number < length xs)
 position_is test xs number is = by (nat_lt (position_or_len test xs) (length xs)) refl is
   where
@@ -201,66 +189,13 @@ position_is test xs number is = by (nat_lt (position_or_len test xs) (length xs)
     by true inside same = let e : position_or_len test xs ≡ number = cc in (e, grind (arith, nat_tests))
     by false inside same = absurd (cc)
 
-position_none : {A : Type 0} (test : A → Bool) (xs : List A) → position test xs ≡ None → length xs ≤ position_or_len test xs
+pub position_none : {A : Type 0} (test : A → Bool) (xs : List A) → position test xs ≡ None → length xs ≤ position_or_len test xs
 position_none test xs is = by (nat_lt (position_or_len test xs) (length xs)) refl is
   where
     by : (inside : Bool) → nat_lt (position_or_len test xs) (length xs) ≡ inside
         → cond inside (Some (position_or_len test xs)) None ≡ None → length xs ≤ position_or_len test xs
     by true inside same = absurd (cc)
     by false inside same = grind (arith, nat_tests)
-
--- no rule is covered where no earlier one covers it, and none has a cause that the rule of its number has not
-pub is_alive : (rules : List Rule) (number : ℕ) (judged : Rule) → slice_get rules number ≡ Some judged
-    → ((why : WhyDead) → ¬ IsDeadAlone judged why) → position (λ rule. covers rule judged) (take number rules) ≡ None
-    → (why : WhyDead) → ¬ IsDead rules number why
-is_alive rules number judged here alive none why = by why
-  where
-    same : (rule : Rule) → slice_get rules number ≡ Some rule → rule ≡ judged
-    same rule at = same_Some rule judged (sym at ∙ here)
-
-    by : (why : WhyDead) → ¬ IsDead rules number why
-    by NoGroup = λ dead. alive NoGroup (subst (λ r. IsDeadAlone r NoGroup) (same dead.rule dead.here) dead.holds)
-    by NoPort = λ dead. alive NoPort (subst (λ r. IsDeadAlone r NoPort) (same dead.rule dead.here) dead.holds)
-    by NoDestination = λ dead. alive NoDestination (subst (λ r. IsDeadAlone r NoDestination) (same dead.rule dead.here)
-        dead.holds)
-    by (Covered before) = λ dead.
-        let earlier = dead.1 in
-        let later = dead.1.holds in
-        let past = position_none (λ rule. covers rule judged) (take number rules) none in
-        let inside = slice_get_within rules before earlier.rule earlier.here in
-        let within_all = slice_get_within rules number judged here in
-        let fails = fails_before_first (λ rule. covers rule judged) (take number rules) before earlier.rule
-        (omega (arith, past, inside, within_all, dead.0, length-take number rules)) in
-        let found = get_or-take number rules before earlier.rule dead.0
-        ∙ get_or_from_slice_get rules before earlier.rule earlier.rule earlier.here in
-        let covers_it = ap (covers earlier.rule) (sym (same later.rule later.here)) ∙ later.holds in
-        false≢true (sym fails ∙ ap (λ rule. covers rule judged) found ∙ covers_it)
-
--- a rule that the rule at a place before it covers
-pub covered_dead : (rules : List Rule) (number : ℕ) (judged : Rule) (before : ℕ) → slice_get rules number ≡ Some judged
-    → position (λ rule. covers rule judged) (take number rules) ≡ Some before → IsDead rules number (Covered before)
-covered_dead rules number judged before here is =
-    let (place, inside) = position_is (λ rule. covers rule judged) (take number rules) before is in
-    let first = position-Some (λ rule. covers rule judged) (take number rules) before judged is in
-    let earlier : before < number = omega (arith, inside, length-take number rules) in
-    let short : before < length rules = omega (arith, inside, length-take number rules) in (
-      earlier,
-      record {
-        rule = get_or rules before judged;
-        here = slice_get-get_or rules before judged short;
-        holds = record {
-          rule = judged;
-          here = here;
-          holds = ap (λ rule. covers rule judged) (sym (get_or-take number rules before judged earlier)) ∙ first.1;
-        };
-      },
-    )
-
--- what is told of a rule, if anything
-pub told_never : (table : Meaning) (number : ℕ) (found : Option WhyDead) → IfSome found (IsDead table.rules number)
-    → OnSome found ((octets : List ℕ) (port : ℕ) → port < 16 → ¬ Decides table octets port (part.Rule number))
-told_never table number None is = tt
-told_never table number (Some why) is = dead_never table number why is
 
 -- the action of the part that decides is what becomes of the frame
 pub decided_action : (table : Meaning) (octets : List ℕ) (port : ℕ) (decider : Part) → Decides table octets port decider

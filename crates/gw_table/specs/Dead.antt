@@ -1,5 +1,6 @@
 -- Rules that can never decide (the anomalies of E. Al-Shaer and H. Hamed, 2004: shadowing and irrelevance).
-use Rattle.std.specs.Prelude.{◌≡◌, ℕ, ◌<◌, Bool, true, false, ◌&&◌, nat_le, List, Some, slice_get}
+use Rattle.std.specs.Prelude.{◌≡◌, ℕ, ◌<◌, Bool, true, false, ◌&&◌, nat_le, List, ◌∷◌, map, take, Some, slice_get, All}
+use Rattle.std.specs.List.{range_with_len}
 use Rattle.gw_ident.specs.Identifier.{parameter_group, destination_address}
 use Rattle.gw_table.specs.declared.table.Span.{Span}
 use Rattle.gw_table.specs.declared.table.Rule.{Rule}
@@ -35,15 +36,35 @@ pub record AtRule (rules : List Rule) (number : ℕ) (P : Rule → Type 0) : Typ
   pub here : slice_get rules number ≡ Some rule
   pub holds : P rule
 
--- the causes that a rule has by itself
-abbrev pub IsDeadAlone : Rule → WhyDead → Type 0
-IsDeadAlone rule NoGroup = HasNoGroup rule
-IsDeadAlone rule NoPort = HasNoPort rule
-IsDeadAlone rule NoDestination = HasNoDestination rule
-IsDeadAlone rule (Covered by) = ⊥
-
 -- why the rule of a number can never decide
 abbrev pub IsDead : List Rule → ℕ → WhyDead → Type 0
+IsDead rules number NoGroup = AtRule rules number HasNoGroup
+IsDead rules number NoPort = AtRule rules number HasNoPort
+IsDead rules number NoDestination = AtRule rules number HasNoDestination
 IsDead rules number (Covered by) =
     (by < number) × AtRule rules by (λ earlier. AtRule rules number (λ rule. covers earlier rule ≡ true))
-IsDead rules number why = AtRule rules number (λ rule. IsDeadAlone rule why)
+
+-- the causes in the order in which they are told of the rule of a number: those that it has by itself, then that a rule before
+-- it covers it, from rule 0 on
+abbrev pub causes : ℕ → List WhyDead
+causes number = NoGroup ∷ NoPort ∷ NoDestination ∷ map Covered (range_with_len 0 number)
+
+-- the first of the causes that the rule of a number has
+pub record IsFirstCause (rules : List Rule) (number : ℕ) (why : WhyDead) : Type 0 where
+  pub place : ℕ
+  pub here : slice_get (causes number) place ≡ Some why
+  pub dead : IsDead rules number why
+  pub first : All (λ earlier. ¬ IsDead rules number earlier) (take place (causes number))
+
+-- inside: the cause that is told of the three that a rule has by itself
+abbrev pub IsOwnCause : Rule → WhyDead → Type 0
+IsOwnCause rule NoGroup = HasNoGroup rule
+IsOwnCause rule NoPort = (¬ HasNoGroup rule) × HasNoPort rule
+IsOwnCause rule NoDestination = (¬ HasNoGroup rule) × (¬ HasNoPort rule) × HasNoDestination rule
+IsOwnCause rule (Covered by) = ⊥
+
+-- a rule without a cause of its own
+pub record HasNoOwnCause (rule : Rule) : Type 0 where
+  pub group : ¬ HasNoGroup rule
+  pub port : ¬ HasNoPort rule
+  pub destination : ¬ HasNoDestination rule

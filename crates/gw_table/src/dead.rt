@@ -22,7 +22,7 @@ ghost use Rattle.std.specs.Prelude.{
 };
 ghost use Rattle.gw_ident.specs.Identifier.{parameter_group, destination_address};
 ghost use Rattle.gw_table.specs.Table.{lies_in, greatest_group, Decides, Fits, IsRule};
-ghost use Rattle.gw_table.specs.Dead.{HasNoDestination, is_within, covers, IsDeadAlone, IsDead};
+ghost use Rattle.gw_table.specs.Dead.{HasNoDestination, is_within, covers, IsDead, IsFirstCause, IsOwnCause, HasNoOwnCause};
 
 use crate::table::{GREATEST_OCTET, PDU2, Part, Rule, Span, Table};
 use gw_ledger::MAX_PORTS;
@@ -43,11 +43,10 @@ pub enum WhyDead {
 }
 
 impl Table {
-    /// Why the rule of this number, counted from 0, can never decide: a cause that it has by itself, in the order of
-    /// `WhyDead`, else the first earlier rule that covers it. `None` for a rule without a cause of these, and for a number
-    /// that no rule has.
+    /// Why the rule of this number, counted from 0, can never decide: the first cause in the order of `WhyDead`, and of
+    /// earlier rules that cover it the first. `None` for a rule without a cause of these, and for a number that no rule has.
     pub fn why_dead(&self, rule: usize) -> Option<WhyDead>
-        ensures dead { IfSome result (IsDead self.now.rules rule) }
+        ensures dead { IfSome result (IsFirstCause self.now.rules rule) }
         ensures alive { IfNone result ((why : WhyDead) → ¬ IsDead self.now.rules rule why) }
         ensures never { OnSome result ((octets : List ℕ) (port : ℕ) → port < 16
             → ¬ Decides self.now octets port (Part.Rule rule)) }
@@ -58,7 +57,7 @@ impl Table {
 
 fn why_dead(rules: &[Rule], rule: usize) -> Option<WhyDead>
     requires { All IsRule rules.now }
-    ensures dead { IfSome result (IsDead rules.now rule) }
+    ensures dead { IfSome result (IsFirstCause rules.now rule) }
     ensures alive { IfNone result ((why : WhyDead) → ¬ IsDead rules.now rule why) }
 {
     let judged = rules.get(rule)?;
@@ -76,10 +75,10 @@ fn first_covering(earlier: &[Rule], later: &Rule) -> Option<usize>
 }
 
 impl Rule {
-    /// The cause that the rule has whatever the others are.
+    /// The first cause that the rule has whatever the others are.
     fn own_cause(&self) -> Option<WhyDead>
         requires { IsRule self.now }
-        ensures { MatchOption result ((why : WhyDead) → ¬ IsDeadAlone self.now why) (IsDeadAlone self.now) }
+        ensures { MatchOption result (HasNoOwnCause self.now) (IsOwnCause self.now) }
     {
         if !self.pgn.has_group() {
             Some(WhyDead::NoGroup)

@@ -1,4 +1,4 @@
-use Rattle.gw_table.proofs.NeverDecides.{told_never}
+use Rattle.gw_table.proofs.Causes.{told_never}
 use Rattle.gw_table.proofs.table.Table.why_dead.Goals as goal
 
 pub returns-clause-never : goal.returns-clause-never
