@@ -13,7 +13,7 @@ use Rattle.gw_table.specs.declared.table.Action.{Action}
 use Rattle.gw_table.specs.declared.table.Span.{Span}
 use Rattle.gw_table.specs.declared.table.Rule.{Rule}
 use Rattle.gw_table.specs.Table.{Fits, IsRule}
-use Rattle.gw_table.specs.declared.reading.Ranges.{Ranges}
+use Rattle.gw_table.specs.declared.values.Ranges.{Ranges}
 use Rattle.gw_table.specs.declared.refusal.Field.{Field}
 use Rattle.gw_table.specs.declared.refusal.Field.TheVariants.{Pgn, Source, Destination, From}
 use Rattle.gw_table.specs.declared.refusal.RangeFault.{RangeFault}

@@ -15,7 +15,7 @@ use Rattle.gw_table.specs.declared.table.Span.{Span}
 use Rattle.gw_table.specs.declared.table.Rule.{Rule}
 use Rattle.gw_table.specs.declared.table.Part.{Part}
 use Rattle.gw_table.specs.declared.table.Part.TheVariants as part
-use Rattle.gw_table.specs.declared.reading.Ranges.{Ranges}
+use Rattle.gw_table.specs.declared.values.Ranges.{Ranges}
 use Rattle.gw_table.specs.declared.refusal.Place.{Place}
 use Rattle.gw_table.specs.declared.refusal.Place.TheVariants as place
 use Rattle.gw_table.specs.declared.refusal.ActionFault.{ActionFault}

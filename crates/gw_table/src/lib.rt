@@ -4,6 +4,7 @@
 mod compiler;
 mod dead;
 mod explanation;
+mod faults;
 mod index;
 mod nearest;
 mod reading;
@@ -12,6 +13,7 @@ mod rule_set;
 mod rule_sets;
 mod section;
 mod table;
+mod values;
 mod verdict;
 
 pub use compiler::compile;

@@ -3,7 +3,7 @@ use Rattle.std.proofs.lemmas.Fn.{says_at}
 use Rattle.std.proofs.lemmas.List.Elements.{AllWithin-more, AllWithin-upto}
 use Rattle.std.proofs.lemmas.Option.{slice_get_read, get_or_from_slice_get}
 use Rattle.std.specs.Fn.{FnReturnsAt}
-use Rattle.gw_table.proofs.reading.first_of.Goals as goal
+use Rattle.gw_table.proofs.faults.first_of.Goals as goal
 
 pub returns-in-Some : goal.returns-in-Some
 returns-in-Some g c =

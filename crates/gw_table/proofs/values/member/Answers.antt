@@ -1,5 +1,5 @@
 use Rattle.toml.proofs.Views.{table_get}
-use Rattle.gw_table.proofs.reading.member.Goals as goal
+use Rattle.gw_table.proofs.values.member.Goals as goal
 
 pub returns : goal.returns
 returns c = table_get c.get.result c.args.key.now c.args.document.now.entries c.get.ensures.value

@@ -1,7 +1,7 @@
 use Rattle.std.proofs.Common.{rules, string_bytes}
 use Rattle.gw_table.specs.TableText.{unknown_in_rule}
 use Rattle.gw_table.proofs.Trees.{first_of-told}
-use Rattle.gw_table.proofs.reading.unknown_in_rules.Goals as goal
+use Rattle.gw_table.proofs.faults.unknown_in_rules.Goals as goal
 
 pub returns : goal.returns
 returns c =

@@ -1,7 +1,7 @@
 use Rattle.std.proofs.Common.{◌≢◌, length, arith}
 use Rattle.toml.proofs.Views.{view-Array}
 use Rattle.gw_table.proofs.Trees.{span_in-other_array}
-use Rattle.gw_table.proofs.reading.span_in.Goals as goal
+use Rattle.gw_table.proofs.values.span_in.Goals as goal
 
 pub returns-in_default-as_slice : goal.returns-in_default-as_slice
 returns-in_default-as_slice c =

@@ -6,7 +6,7 @@ use Rattle.std.specs.List.{list_any}
 use Rattle.toml.proofs.Views.{view-Table}
 use Rattle.gw_table.specs.TableText.{rule_keys}
 use Rattle.gw_table.proofs.Trees.{option_map-map, first_but-view}
-use Rattle.gw_table.proofs.reading.unknown_in_rule.Goals as goal
+use Rattle.gw_table.proofs.faults.unknown_in_rule.Goals as goal
 
 pub returns-in-Table : goal.returns-in-Table
 returns-in-Table c =

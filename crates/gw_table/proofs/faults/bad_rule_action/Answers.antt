@@ -1,7 +1,7 @@
 use Rattle.std.proofs.Common.{rules}
 use Rattle.gw_table.specs.TableText.{action_fault}
 use Rattle.gw_table.proofs.Trees.{first_of-found}
-use Rattle.gw_table.proofs.reading.bad_rule_action.Goals as goal
+use Rattle.gw_table.proofs.faults.bad_rule_action.Goals as goal
 
 pub returns : goal.returns
 returns c =

@@ -5,7 +5,7 @@ use Rattle.std.specs.BTreeMap.{keys}
 use Rattle.std.specs.List.{list_any}
 use Rattle.gw_table.specs.TableText.{document_keys}
 use Rattle.gw_table.proofs.Trees.{option_map-map, first_but-view}
-use Rattle.gw_table.proofs.reading.unknown_at_top.Goals as goal
+use Rattle.gw_table.proofs.faults.unknown_at_top.Goals as goal
 
 pub returns : goal.returns
 returns c =
