@@ -7,7 +7,7 @@ ghost use Rattle.gw_policy.specs.Filter.{Filter, IsFilter, filter_passes, filter
 
 use gw_machine::one_answer;
 
-/// On every record and taking port, a policy passes what its program returns an answer other than 0 on, a table's too,
+/// On every record and ingress port, a policy passes what its program returns an answer other than 0 on, a table's too,
 /// in its number of steps, which is at most the program's length.
 pub fn policies_return()
     ensures { (filter : Filter) (octets : List ℕ) (port answer n : ℕ) → IsFilter filter → IsRecord octets → port < 256

@@ -11,7 +11,7 @@ use std::alloc::Global;
 use std::marker::Model;
 
 /// What decides whether a frame may leave at a port: an accepted program, or a table with the program that it was
-/// compiled to. The type keeps that both mean the same for every record and every taking port.
+/// compiled to. The type keeps that both mean the same for every record and every ingress port.
 #[derive(Drop)]
 pub struct Policy {
     program: Program,

@@ -170,7 +170,7 @@ long_table_rows : (table_passes long_table (record_of 0x98 0xEF 0x12 0x34) 0 ≡
     × (table_passes long_table (record_of 0xD8 0xEF 0x12 0x34) 0 ≡ true)
 long_table_rows = (refl, refl, refl, refl, refl, refl)
 
--- the taking port, and two rules of one group
+-- the ingress port, and two rules of one group
 
 abbrev from_one : Meaning
 from_one = record { otherwise = Block; other = Block; rules = record (any_frame Pass) { from = only 1 } ∷ [] }

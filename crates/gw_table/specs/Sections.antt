@@ -34,7 +34,7 @@ IsSection (section.Row field least) = least < 262144
 abbrev pub pdu2_page : ℕ → ℕ
 pdu2_page number = number / 16 * 256 + 240 + number % 16
 
--- row 0 is that of the taking ports, the 64 others are those of the pages of PDU2
+-- row 0 is that of the ingress ports, the 64 others are those of the pages of PDU2
 abbrev pub row_at : ℕ → Row
 row_at number =
     if number == 0 then record { field = From; least = 0; whole = 1 }

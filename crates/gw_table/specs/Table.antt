@@ -24,7 +24,7 @@ is_pass Block = false
 abbrev pub lies_in : ℕ → Span → Bool
 lies_in n span = nat_le span.low n && nat_le n span.high
 
--- the rule's four ranges hold of the frame's parameter group, source and destination and of the taking port
+-- the rule's four ranges hold of the frame's parameter group, source and destination and of the ingress port
 abbrev pub matches : List ℕ → ℕ → Rule → Bool
 matches octets port rule =
     lies_in (parameter_group (word_of octets)) rule.pgn && lies_in (source_address (word_of octets)) rule.source

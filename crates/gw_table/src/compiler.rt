@@ -39,7 +39,7 @@ const SOURCE: u32 = 1;
 /// The scratch word of its destination address.
 const DESTINATION: u32 = 2;
 
-/// Compiles a table to a program that passes what the table passes, at every taking port: it answers 1 for a
+/// Compiles a table to a program that passes what the table passes, at every ingress port: it answers 1 for a
 /// frame that passes and 0 for one that is blocked. It is refused for want of memory alone.
 pub fn compile(alloc: Global, table: &Table) -> Result<Program, AllocError>
     ensures emitted { IfOk result (λ program. program ≡ emission table.now) }
@@ -234,7 +234,7 @@ impl Span {
 }
 
 impl Rule {
-    /// How many instructions the tests of the taking port and the return have.
+    /// How many instructions the tests of the ingress port and the return have.
     fn from_len(&self) -> u8
         ensures len { result ≡ length (from_part self.now) }
         ensures few { result ≤ 4 }

@@ -13,7 +13,7 @@ pub const NUMBERS: u32 = 256;
 /// The set of the rules that pass.
 pub const PASSING: u32 = 0;
 
-/// The set of each taking port, where the ports have no row.
+/// The set of each ingress port, where the ports have no row.
 pub const ANY_PORT: u32 = 1;
 
 /// The sets of the destinations, from 255 down: that of 255, which each frame of PDU2 has, stands beside the two above.
@@ -28,10 +28,10 @@ pub const PAGES: u32 = 514;
 /// The rows, one behind another.
 pub const ROWS: u32 = 1538;
 
-/// So many rows there can be: one of the taking ports, and one of each page of PDU2.
+/// So many rows there can be: one of the ingress ports, and one of each page of PDU2.
 pub const MOST_ROWS: usize = 65;
 
-/// The row of the taking ports.
+/// The row of the ingress ports.
 pub const PORTS: u32 = 0;
 
 /// So many pages of PDU2 has a data page.
@@ -96,7 +96,7 @@ fn start_property(place: u32) -> Property
     }
 }
 
-/// The row of a number below 65: the taking ports have the first, and the pages of PDU2 the others.
+/// The row of a number below 65: the ingress ports have the first, and the pages of PDU2 the others.
 pub fn row_at(number: u32) -> Row
     requires { number < 65 }
     ensures { result ≡ row_at number }

@@ -93,7 +93,7 @@ branch code = compared code Either (comma_label ++ comma_label) ++ compared code
 abbrev pub branch_unless : ℕ → List Form
 branch_unless code = compared code IfFalse comma_label
 
--- the offset that Linux gives the interface number (SKF_AD_OFF + SKF_AD_IFINDEX): here the taking port
+-- the offset that Linux gives the interface number (SKF_AD_OFF + SKF_AD_IFINDEX): here the ingress port
 abbrev pub taking_port : ℕ
 taking_port = 0xfffff008
 

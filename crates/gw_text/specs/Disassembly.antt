@@ -81,7 +81,7 @@ operand_text target place raw = codes " " ++ label (place + 1 + raw.k)
 operand_text (targets word) place raw = codes " " ++ (word ++ branches place raw)
 operand_text targets_number place raw = codes " " ++ (hexadecimal raw.k ++ branches place raw)
 
--- the taking port in place of its offset
+-- the ingress port in place of its offset
 abbrev pub taking_port : ℕ
 taking_port = 0xfffff008
 

@@ -123,7 +123,7 @@ macro_rules! form {
     };
 }
 
-/// The taking port, at the offset that Linux gives the interface number.
+/// The ingress port, at the offset that Linux gives the interface number.
 macro_rules! port {
     ($pieces:expr) => {
         Form {
