@@ -14,10 +14,9 @@ use Rattle.gw_table.specs.declared.refusal.ActionFault.TheVariants.{Absent, NoAc
 use Rattle.gw_table.specs.declared.refusal.Field.TheVariants.{Pgn, Source}
 use Rattle.gw_table.specs.declared.refusal.RangeFault.TheVariants.{NoRange, OutOfField, Descending}
 use Rattle.gw_table.specs.declared.refusal.TableRefusal.TheVariants.{BadToml, NoRuleTables, UnknownKey, BadAction, BadRange}
-use Rattle.gw_table.specs.declared.refusal.TableRefusal.TheVariants.{TooManyRules}
 use Rattle.gw_table.specs.Table.{Meaning, table_passes}
-use Rattle.gw_table.specs.TableText.{written_rules, unknown_key, bad_action, bad_range, meaning_in, span_in, number_in}
-use Rattle.gw_table.specs.TableText.{IsFaultless, IsDocument, IsDocumentRefusal, IsTableText, IsTableRefusal}
+use Rattle.gw_table.specs.TableText.{written_rules, unknown_key, bad_action, bad_range, meaning_in, span_in}
+use Rattle.gw_table.specs.TableText.{IsFaultless, IsDocument, IsTableText, IsTableRefusal}
 
 abbrev whole : ℕ → Span
 whole most = record { low = 0; high = most }
