@@ -15,8 +15,8 @@ pub struct LaneIn {
 }
 
 impl Model for LaneIn {
-    ghost use Rattle.std.specs.Prelude.{◌+◌, ◌≤◌, length};
-    ghost use Rattle.rtrb.specs.Ring.{sent, known_free};
+    ghost use Rattle.std.specs.Prelude.{◌≡◌, ◌+◌, ◌≤◌, length};
+    ghost use Rattle.rtrb.specs.Ring.{sent, known_free, producer_capacity};
     ghost use Rattle.gw_lanes.specs.Ends.{Inlet};
 
     ghost Value = { Inlet };
@@ -32,8 +32,9 @@ impl Model for LaneIn {
       placed = sent i.producer;
     } };
 
-    // So a push that finds no free slot comes after `room` copies were placed.
-    ghost invariant = { λ i. i.room ≤ known_free i.producer + length (sent i.producer) };
+    // So a push that finds no free slot comes after `room` copies were placed, and no more than `room` copies wait.
+    ghost invariant = { λ i. (i.room ≡ producer_capacity i.producer)
+        × (i.room ≤ known_free i.producer + length (sent i.producer)) };
 }
 
 /// The end from which copies are taken. Contracts see it as `Outlet`.
@@ -89,6 +90,7 @@ impl LaneOut {
         requires { other.old.ring ≡ self.old.ring }
         ensures same { (self.new ≡ self.old) × (other.new ≡ other.old) }
         ensures value { result + length self.new.taken ≡ length other.new.placed }
+        ensures most { result ≤ other.new.room }
     {
         self.consumer.slots_beside(&mut other.producer)
     }
@@ -98,7 +100,8 @@ impl LaneOut {
 pub fn finish(from: LaneIn, to: LaneOut, left: &mut Vec<FrameCopy>)
     requires lane { from.ring ≡ to.ring }
     requires room { vec_len left.old + length from.placed ≤ vec_capacity left.old + length to.taken }
-    ensures { (rest : List FrameCopy) × (to.taken ++ rest ≡ from.placed) × (left.new.items ≡ left.old.items ++ rest) }
+    ensures { (rest : List FrameCopy) × (to.taken ++ rest ≡ from.placed) × (left.new.items ≡ left.old.items ++ rest)
+        × (length rest ≤ from.room) }
 {
     let LaneIn {
         mut producer,
