@@ -14,6 +14,7 @@ pub mod Finishing
 pub mod OneGateway
 pub mod Elementwise
 pub mod Runs
+pub mod Room
 pub mod Opening
 pub mod Judged
 pub mod Copied

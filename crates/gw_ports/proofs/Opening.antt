@@ -80,7 +80,7 @@ input_at {S} P inputs feeds is each k d below =
 -- the threads hand back the ends that they were given
 
 pub ends_after_offers : {S : Type 0} (steps : S → Option (List ℕ) → S → Type 0) (feeds : List (Feed S)) (done : List Done)
-    → Pairwise (λ o one. IsDone steps o.port o.input one) feeds done
+    → Pairwise (IsDone steps) feeds done
     → map end_in (map (λ one. one.port) done) ≡ map end_in (map (λ o. o.port) feeds)
 ends_after_offers steps [] [] pairs = refl
 ends_after_offers steps [] (one ∷ done) pairs = absurd pairs
@@ -89,7 +89,7 @@ ends_after_offers {S} steps (o ∷ feeds) (one ∷ done) pairs =
     ap (λ e. e ∷ map end_in (map (λ (d : Done). d.port) done)) pairs.0.same
     ∙ ap (λ l. end_in o.port ∷ l) (ends_after_offers steps feeds done pairs.1)
 
-pub ends_after_takes : (drains drained : List Drain) → Pairwise (λ t one. HasTaken t.port one) drains drained
+pub ends_after_takes : (drains drained : List Drain) → Pairwise HasTaken drains drained
     → map end_out (map (λ one. one.port) drained) ≡ map end_out (map (λ t. t.port) drains)
 ends_after_takes [] [] pairs = refl
 ends_after_takes [] (one ∷ drained) pairs = absurd pairs

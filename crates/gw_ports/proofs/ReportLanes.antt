@@ -42,7 +42,7 @@ module _ {S : Type 0} {steps : S → Option (List ℕ) → S → Type 0} {limits
       let ports = length-map run.drains (λ (t : Drain). t.port) in
       let all = ap length run.outs_are in
       let outs = run.opened.ends.enough_outs in
-      let drained = pairwise_length (λ (t one : Drain). HasTaken t.port one) run.drains run.drained run.took in
+      let drained = pairwise_length HasTaken run.drains run.drained run.took in
       (omega arith, omega arith)
 
   -- a port out, before the run and after it: it was new, and nothing was taken from its lanes
@@ -52,7 +52,7 @@ module _ {S : Type 0} {steps : S → Option (List ℕ) → S → Type 0} {limits
     pub new : before.port ≡ new_egress port (lanes_from port run.ins)
     pub after : Drain
     pub after_is : (d : Drain) → get_or run.drained port d ≡ after
-    pub took : HasTaken before.port after
+    pub took : HasTaken before after
     pub copies_are : copies_of report port ≡ after.out.items
 
   pub port_out : (port : ℕ) → port < limits.ports → PortOutOf port
@@ -74,8 +74,7 @@ module _ {S : Type 0} {steps : S → Option (List ℕ) → S → Type 0} {limits
         after = w.0;
         after_is = w.1;
         took =
-            pairwise_at (λ (x one : Drain). HasTaken x.port one) run.drains run.drained port t.0 w.0 run.took (omega arith)
-            t.1 w.1;
+            pairwise_at HasTaken run.drains run.drained port t.0 w.0 run.took (omega arith) t.1 w.1;
         copies_are =
             ap (λ (l : List (Vec FrameCopy Global)). get_or (map copy_list l) port []) run.out_is
             ∙ get_or-map copy_list (map (λ (x : Drain). x.out) run.drained) port w.0.out [] (omega arith)

@@ -79,6 +79,7 @@ reported_of_more limits first inputs more batches report is longer = record {
       let left = get_or report.report.lanes.items k d in
       is.copies k d below
       ∙ same_copies limits first inputs more batches report is longer left.from left.to;
+  room = is.room;
   balances = is.balances;
 }
 

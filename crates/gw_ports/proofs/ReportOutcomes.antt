@@ -45,7 +45,7 @@ asked_for steps input frames (Some why) gave =
     (frames ++ gave.0 ∷ [], (gave.1, gave.2), ((gave.0 ∷ [], refl), length-append frames (gave.0 ∷ [])))
 
 did_one : {S : Type 0} (steps : S → Option (List ℕ) → S → Type 0) (o : Feed S) (one : Done)
-    → IsDone steps o.port o.input one → (asked : List (List ℕ)) × Did steps o one asked
+    → IsDone steps o one → (asked : List (List ℕ)) × Did steps o one asked
 did_one steps o one is =
     let asked = asked_for steps o.input is.frames one.stop is.gave in (
       asked.0,
@@ -66,20 +66,17 @@ items_of v = v.items
 
 module _ {S : Type 0} {steps : S → Option (List ℕ) → S → Type 0} {limits : Bounds} {first : List Pair} {inputs : List S}
     {batches : List (List Pair)} {report : RunReport} (run : IsRun steps limits first inputs batches report) where
-  abbrev IsOne : Feed S → Done → Type 0
-  IsOne o one = IsDone steps o.port o.input one
-
   -- there is an end for each port, before the run and after it
   pub many_ins : (length run.feeds ≡ limits.ports) × (length run.done ≡ limits.ports)
   many_ins =
       let ports = length-map run.feeds (λ (o : Feed S). o.port) in
       let all = ap length run.ports_are in
       let ins = run.opened.ends.enough_ins in
-      let done = pairwise_length IsOne run.feeds run.done run.offered in
+      let done = pairwise_length (IsDone steps) run.feeds run.done run.offered in
       (omega arith, omega arith)
 
   chosen : (cs : List (List (List ℕ))) × (length cs ≡ length run.feeds) × Chosen (Did steps) run.feeds run.done cs
-  chosen = choose IsOne (Did steps) run.feeds run.done (did_one steps) run.offered
+  chosen = choose (IsDone steps) (Did steps) run.feeds run.done (did_one steps) run.offered
 
   -- by port, the frames that were asked for
   pub asked_frames : List (List (List ℕ))

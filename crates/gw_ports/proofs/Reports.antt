@@ -33,6 +33,7 @@ module _ {S : Type 0} (steps : S → Option (List ℕ) → S → Type 0) (limits
       sent = sent run (port_out run) (own run (asked_frames run) (port_in run));
       lanes = lanes_are run (asked_frames run) (port_in run);
       copies = copied run (asked_frames run) (port_in run);
+      room = run.room;
       balances = run.closed.balances;
     };
   }

@@ -2,7 +2,7 @@
 -- in ascending order, from 0 on; a list of batches, and one of frames, has the oldest first.
 use Rattle.std.specs.Prelude.{◌≡◌, ℕ, ◌+◌, ◌<◌, ◌≤◌, List, [], ◌∷◌, fold, length, map, reverse, take, slice_index_or}
 use Rattle.std.specs.Prelude.{Option, Some, None, IfSome, MatchOption, All, filter, flat_map, not, replicate, sum_by, ◌++◌, ◌==◌}
-use Rattle.std.specs.Prelude.{if◌then◌else◌}
+use Rattle.std.specs.Prelude.{if◌then◌else◌, slice_index, slice_set, sum, vec_capacity}
 use Rattle.std.specs.List.{range_with_len}
 use Rattle.std.specs.Iterator.{Drains, Yields}
 use Rattle.gw_board.specs.Refusals.{PortsBelow}
@@ -50,6 +50,16 @@ copies_to ingress egress [] outcomes = []
 copies_to ingress egress (octets ∷ frames) [] = []
 copies_to ingress egress (octets ∷ frames) (outcome ∷ outcomes) =
     placed_copy ingress egress octets outcome ++ copies_to ingress egress frames outcomes
+
+-- of counts by port, the sum without that of one port
+abbrev pub sum_of_others : ℕ → List ℕ → ℕ
+sum_of_others port counts = sum (slice_set counts port 0)
+
+-- at each port there was room for a copy of each frame that another port took, so no copy stayed on its lane for want of room
+abbrev pub HasRoom : ℕ → RunReport → Type 0
+HasRoom ports report = (egress : ℕ) → egress < ports
+    → sum_of_others egress (map (λ outcomes. length outcomes.items) report.outcomes.items)
+    ≤ slice_index (map (λ copies. vec_capacity copies) report.out.items) egress
 
 -- the lanes of a gateway, by ingress port and then egress port: one from each port to each other
 abbrev pub lanes_between : ℕ → List (ℕ × ℕ)
@@ -129,6 +139,7 @@ pub record IsReport (limits : Bounds) (first : List Pair) (inputs : List (List (
   pub lanes : map (λ lane. (lane.from, lane.to)) report.report.lanes.items ≡ lanes_between limits.ports
   pub copies : All (λ lane. from_port lane.from (copies_of report lane.to) ++ lane.left.items
       ≡ copies_to lane.from lane.to (frames_of inputs lane.from) (outcomes_of report lane.from)) report.report.lanes.items
+  pub room : HasRoom limits.ports report
   pub balances : AreBalanced report.report.ins.items report.report.outs.items
       (sum_by (λ lane. length lane.left.items) report.report.lanes.items)
 

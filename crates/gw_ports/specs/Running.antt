@@ -59,24 +59,25 @@ abbrev pub Gives : {S : Type 0} → (S → Option (List ℕ) → S → Type 0) �
 Gives steps input frames None = Drains steps input frames
 Gives {S} steps input frames (Some why) = (refused : List ℕ) × (rest : S) × Yields steps input (frames ++ refused ∷ []) rest
 
--- the port offered the frames of its input, up to the one that was refused
-pub record IsDone {S : Type 0} (steps : S → Option (List ℕ) → S → Type 0) (port : Ingress) (input : S) (done : Done) : Type
-    0 where
+-- the port offered the frames of its input, up to the one that was refused, and there was room for their outcomes
+pub record IsDone {S : Type 0} (steps : S → Option (List ℕ) → S → Type 0) (feed : Feed S) (done : Done) : Type 0 where
   pub frames : List (List ℕ)
-  pub gave : Gives steps input frames done.stop
-  pub offers : Offers [] port frames done.outcomes.items done.port
-  pub same : end_in done.port ≡ end_in port
+  pub gave : Gives steps feed.input frames done.stop
+  pub offers : Offers [] feed.port frames done.outcomes.items done.port
+  pub same : end_in done.port ≡ end_in feed.port
   pub spent : done.stop ≡ Some FramesSpent → done.port.ledger.taken ≡ done.port.frames
+  pub room : length done.outcomes.items ≤ vec_capacity feed.outcomes
 
 -- the copies left the port one after another
 abbrev pub Takes : Egress → List FrameCopy → Egress → Type 0
 Takes old [] new = new ≡ old
 Takes old (copy ∷ copies) new = (ingress : ℕ) × (next : Egress) × Sends ingress old copy next × Takes next copies new
 
--- the port took these copies out
-pub record HasTaken (port : Egress) (drain : Drain) : Type 0 where
-  pub takes : Takes port drain.out.items drain.port
-  pub same : end_out drain.port ≡ end_out port
+-- the port took copies out, into the room that was made for them
+pub record HasTaken (before after : Drain) : Type 0 where
+  pub takes : Takes before.port after.out.items after.port
+  pub same : end_out after.port ≡ end_out before.port
+  pub room : vec_capacity after.out ≡ vec_capacity before.out
 
 -- the operator with more batches published
 abbrev pub with_batches : Publishing → List (List Pair) → Publishing

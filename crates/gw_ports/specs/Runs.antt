@@ -9,6 +9,7 @@ use Rattle.gw_ports.specs.Making.{AreNewEnds, AreOfOneGateway}
 use Rattle.gw_ports.specs.Closing.{Closes}
 use Rattle.gw_ports.specs.Running.{HasTaken, IsDone, Pairwise, Publishes, with_batches}
 use Rattle.gw_ports.specs.Refusals.{make_refusal_number}
+use Rattle.gw_ports.specs.Reports.{HasRoom}
 use Rattle.gw_ports.specs.declared.running.RunRefusal.{RunRefusal}
 use Rattle.gw_ports.specs.declared.running.RunRefusal.TheVariants.{NotMade, NoSuchPort, NotPublished, OutOfMemory, NoThread}
 use Rattle.gw_ports.specs.declared.running.RunRefusal.TheVariants.{NoReading}
@@ -37,16 +38,17 @@ pub record IsRun {S : Type 0} (steps : S → Option (List ℕ) → S → Type 0)
   pub ports_are : map (λ feed. feed.port) feeds ≡ ins
   pub inputs_are : map (λ feed. feed.input) feeds ≡ inputs
   pub done : List Done
-  pub offered : Pairwise (λ feed one. IsDone steps feed.port feed.input one) feeds done
+  pub offered : Pairwise (IsDone steps) feeds done
   pub drains : List Drain
   pub outs_are : map (λ drain. drain.port) drains ≡ outs
   pub drained : List Drain
-  pub took : Pairwise (λ drain one. HasTaken drain.port one) drains drained
+  pub took : Pairwise HasTaken drains drained
   pub closing : Publishing
   pub published : Publishes operator batches report.fronts.items report.refused closing
   pub outcomes_are : report.outcomes.items ≡ map (λ one. one.outcomes) done
   pub stops_are : report.stops.items ≡ map (λ one. one.stop) done
   pub out_is : report.out.items ≡ map (λ one. one.out) drained
+  pub room : HasRoom limits.ports report
   pub closed : Closes closing (map (λ one. one.port) done) (map (λ one. one.port) drained) report.report
 
 -- why there was no run, or no report of one. Whether the first batch names a port that is not there is seen once the gateway is

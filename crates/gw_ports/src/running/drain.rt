@@ -31,7 +31,7 @@ impl Drain {
     // Takes copies until a round over the lanes that began after the last offer gave none.
     fn empty_lanes<R: Wait>(self, rt: &R, is_over: &AtomicBool, lane: u32) -> Drain
         requires { self.out.items ≡ [] }
-        ensures { HasTaken self.port result }
+        ensures { HasTaken self result }
     {
         let Drain { mut port, mut out } = self;
         for _ in rt.forever() {
@@ -59,6 +59,7 @@ fn pause(lane: u32) {
 // Takes the next copy, if there is one and room for it. There is room for all that the other ports may enqueue.
 fn dequeue(port: &mut PortOut, out: &mut Vec<FrameCopy>) -> bool
     ensures end { end_out port.new ≡ end_out port.old }
+    ensures room { vec_capacity out.new ≡ vec_capacity out.old }
     ensures taken { MatchBool result
         ((copy : FrameCopy) × (ingress : ℕ) × Sends ingress port.old copy port.new × (out.new.items ≡ out.old.items ++ copy ∷ []))
         ((port.new ≡ port.old) × (out.new.items ≡ out.old.items)) }
@@ -82,7 +83,7 @@ struct DrainPromise(Snapshot<Drain>);
 impl Promise<Drain> for DrainPromise {
     ghost use Rattle.gw_ports.specs.Running.{HasTaken};
 
-    ghost kept_by = { λ p drained. HasTaken p.0.value.port drained };
+    ghost kept_by = { λ p drained. HasTaken p.0.value drained };
 }
 
 /// What the threads of a run begin with.
@@ -109,10 +110,9 @@ where
     G: Gate,
     I: Iterator<Item = Frame> + Send,
     requires ready { CanRun I.can_next I.remaining work }
-    ensures taken { IfSome result (λ r. Pairwise (λ t one. HasTaken t.port one) work.drains.items r.0.items
+    ensures taken { IfSome result (λ r. Pairwise HasTaken work.drains.items r.0.items
         × (vec_capacity r.0 ≡ vec_capacity work.drained)) }
-    ensures done { IfSome result (λ r. Pairwise (λ o one. IsDone I.next_gives o.port o.input one)
-        work.intake.feeds.items r.1.items) }
+    ensures done { IfSome result (λ r. Pairwise (IsDone I.next_gives) work.intake.feeds.items r.1.items) }
     ensures published { IfSome result (λ r. Publishes work.intake.publishing.operator work.intake.publishing.batches.items
         r.2.fronts.items r.2.refused r.2.operator) }
 {
@@ -155,9 +155,8 @@ where
     G: Gate,
     I: Iterator<Item = Frame> + Send,
     requires ready { CanRun I.can_next I.remaining work }
-    ensures taken { IfSome result (λ r. Pairwise (λ t one. HasTaken t.port one) work.drains.items r.0.items) }
-    ensures done { IfSome result (λ r. Pairwise (λ o one. IsDone I.next_gives o.port o.input one)
-        work.intake.feeds.items r.1.items) }
+    ensures taken { IfSome result (λ r. Pairwise HasTaken work.drains.items r.0.items) }
+    ensures done { IfSome result (λ r. Pairwise (IsDone I.next_gives) work.intake.feeds.items r.1.items) }
     ensures published { IfSome result (λ r. Publishes work.intake.publishing.operator work.intake.publishing.batches.items
         r.2.fronts.items r.2.refused r.2.operator) }
 {

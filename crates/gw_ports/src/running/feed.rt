@@ -44,13 +44,13 @@ struct FeedPromise<I>(Snapshot<Feed<I>>);
 impl<I: Iterator<Item = Frame>> Promise<Done> for FeedPromise<I> {
     ghost use Rattle.gw_ports.specs.Running.{IsDone};
 
-    ghost kept_by = { λ p done. IsDone I.next_gives p.0.value.port p.0.value.input done };
+    ghost kept_by = { λ p done. IsDone I.next_gives p.0.value done };
 }
 
 // Offers the frames of a port, until one is refused.
 fn offer_frames<I: Iterator<Item = Frame>, G: Gate>(feed: Feed<I>, gate: &G) -> Done
     requires { CanOffer I.can_next I.remaining feed }
-    ensures { IsDone I.next_gives feed.port feed.input result }
+    ensures { IsDone I.next_gives feed result }
 {
     let Feed {
         mut port,
@@ -93,7 +93,7 @@ where
     G: Gate,
     I: Iterator<Item = Frame> + Send + 's,
     requires ready { CanFeed I.can_next I.remaining intake }
-    ensures done { IfSome result (λ r. Pairwise (λ o one. IsDone I.next_gives o.port o.input one) intake.feeds.items r.0.items
+    ensures done { IfSome result (λ r. Pairwise (IsDone I.next_gives) intake.feeds.items r.0.items
         × (vec_capacity r.0 ≡ vec_capacity intake.done)) }
     ensures published { IfSome result (λ r. Publishes intake.publishing.operator intake.publishing.batches.items
         r.1.fronts.items r.1.refused r.1.operator) }
@@ -130,7 +130,7 @@ where
     G: Gate,
     I: Iterator<Item = Frame> + Send,
     requires ready { CanFeed I.can_next I.remaining intake }
-    ensures done { IfSome result (λ r. Pairwise (λ o one. IsDone I.next_gives o.port o.input one) intake.feeds.items r.0.items) }
+    ensures done { IfSome result (λ r. Pairwise (IsDone I.next_gives) intake.feeds.items r.0.items) }
     ensures published { IfSome result (λ r. Publishes intake.publishing.operator intake.publishing.batches.items
         r.1.fronts.items r.1.refused r.1.operator) }
 {

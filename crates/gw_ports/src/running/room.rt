@@ -1,7 +1,8 @@
 //! Room for what a run reports, made before its threads start.
 
-ghost use Rattle.std.specs.Prelude.{◌≡◌, ◌<◌, ◌≤◌, ℕ, [], All, IfOk, length, map, min, slice_index, slice_index_or};
+ghost use Rattle.std.specs.Prelude.{◌≡◌, ◌<◌, ◌≤◌, ◌^◌, ℕ, [], All, IfOk, length, map, min, slice_index, slice_index_or};
 ghost use Rattle.std.specs.Prelude.{vec_capacity, vec_len};
+ghost use Rattle.gw_ports.specs.Reports.{sum_of_others};
 
 use super::drain::Drain;
 use super::feed::{Done, Feed};
@@ -32,13 +33,17 @@ pub(super) fn prepare<I: Iterator>(
     batches: usize,
 ) -> Result<Prepared<I>, AllocError>
     requires count { (vec_len inputs ≡ vec_len ins) × (length sizes.now ≡ vec_len ins) × (vec_len outs ≡ vec_len ins) }
+    requires few { vec_len ins ≤ 16 }
     ensures ports { IfOk result (λ p. map (λ o. o.port) p.feeds.items ≡ ins.items) }
     ensures inputs { IfOk result (λ p. map (λ o. o.input) p.feeds.items ≡ inputs.items) }
     ensures empty { IfOk result (λ p. All (λ o. o.outcomes.items ≡ []) p.feeds.items) }
     ensures room { IfOk result (λ p. (k : ℕ) (d : Feed I) → k < length p.feeds.items
-        → min (slice_index sizes.now k) limits.frames ≤ vec_capacity (slice_index_or p.feeds.items k d).outcomes) }
+        → vec_capacity (slice_index_or p.feeds.items k d).outcomes ≡ min (slice_index sizes.now k) limits.frames) }
     ensures outs { IfOk result (λ p. map (λ t. t.port) p.drains.items ≡ outs.items) }
     ensures drains { IfOk result (λ p. All (λ t. t.out.items ≡ []) p.drains.items) }
+    ensures copies { IfOk result (λ p. (k : ℕ) (d : Drain) → k < length p.drains.items
+        → sum_of_others k (map (λ size. min size limits.frames) sizes.now)
+        ≡ vec_capacity (slice_index_or p.drains.items k d).out) }
     ensures done { IfOk result (λ p. (p.done.items ≡ []) × (vec_len ins ≤ vec_capacity p.done)) }
     ensures drained { IfOk result (λ p. (p.drained.items ≡ []) × (vec_len ins ≤ vec_capacity p.drained)) }
     ensures fronts { IfOk result (λ p. (p.fronts.items ≡ []) × (batches ≤ vec_capacity p.fronts)) }
@@ -73,7 +78,7 @@ fn feeds<I: Iterator>(
     ensures inputs { IfOk result (λ made. map (λ o. o.input) made.items ≡ inputs.items) }
     ensures empty { IfOk result (λ made. All (λ o. o.outcomes.items ≡ []) made.items) }
     ensures room { IfOk result (λ made. (k : ℕ) (d : Feed I) → k < length made.items
-        → min (slice_index sizes.now k) limits.frames ≤ vec_capacity (slice_index_or made.items k d).outcomes) }
+        → vec_capacity (slice_index_or made.items k d).outcomes ≡ min (slice_index sizes.now k) limits.frames) }
 {
     let mut feeds = Vec::with_capacity(alloc, ins.len())?;
     let mut inputs = inputs.into_iter();
@@ -99,8 +104,11 @@ fn drains(
     outs: Vec<PortOut>,
     sizes: &[usize],
 ) -> Result<Vec<Drain>, AllocError>
+    requires few { length sizes.now ≤ 16 }
     ensures ports { IfOk result (λ made. map (λ t. t.port) made.items ≡ outs.items) }
     ensures empty { IfOk result (λ made. All (λ t. t.out.items ≡ []) made.items) }
+    ensures room { IfOk result (λ made. (k : ℕ) (d : Drain) → k < length made.items
+        → sum_of_others k (map (λ size. min size limits.frames) sizes.now) ≡ vec_capacity (slice_index_or made.items k d).out) }
 {
     let mut drains = Vec::with_capacity(alloc, outs.len())?;
     for port in outs {
@@ -112,17 +120,21 @@ fn drains(
 
 /// How many of so many frames a port takes at most.
 fn most_taken(limits: Limits, size: usize) -> usize
-    ensures { result ≡ min size limits.frames }
+    ensures value { result ≡ min size limits.frames }
+    ensures few { result < 2 ^ 32 }
 {
     size.min(limits.frames() as usize)
 }
 
 /// How many copies the other ports enqueue for an egress port at most.
-fn most_copies(limits: Limits, sizes: &[usize], egress: usize) -> usize {
+fn most_copies(limits: Limits, sizes: &[usize], egress: usize) -> usize
+    requires few { length sizes.now ≤ 16 }
+    ensures { result ≡ sum_of_others egress (map (λ size. min size limits.frames) sizes.now) }
+{
     let mut copies: usize = 0;
     for (port, size) in sizes.iter().enumerate() {
         if port != egress {
-            copies = copies.saturating_add(most_taken(limits, *size));
+            copies += most_taken(limits, *size);
         }
     }
     copies

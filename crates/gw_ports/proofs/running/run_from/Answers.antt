@@ -1,16 +1,27 @@
-use Rattle.std.proofs.Common.{◌≡◌, ◌∙◌, ◌<◌, ℕ, List, arith, ap, length, map, slice_index, subst}
+use Rattle.std.proofs.Common.{◌≡◌, ◌∙◌, ◌<◌, ℕ, List, arith, ap, length, map, min, slice_index, slice_index_or, subst, vec_capacity}
 use Rattle.std.specs.Iterator.{UpTo}
 use Rattle.std.proofs.lemmas.List.{length-map}
 use Rattle.gw_ports.specs.Closing.{Closes}
 use Rattle.gw_ports.specs.Ends.{Ingress, Egress, end_in, end_out}
+use Rattle.gw_ports.specs.Reports.{sum_of_others}
 use Rattle.gw_ports.specs.Running.{HasTaken, IsDone}
 use Rattle.gw_ports.specs.declared.running.feed.Done.{Done}
 use Rattle.gw_ports.specs.declared.running.feed.Feed.{Feed}
 use Rattle.gw_ports.specs.declared.running.drain.Drain.{Drain}
 use Rattle.gw_ports.proofs.Opening.{ends_after_offers, ends_after_takes, input_at, ready_ports, same_gateway}
 use Rattle.gw_ports.proofs.Reports.{reported}
+use Rattle.gw_ports.proofs.Room.{has_room}
 use Rattle.gw_ports.proofs.Runs.{pairwise_length}
 use Rattle.gw_ports.proofs.running.run_from.Goals as goal
+
+pub prepare-requires-clause-few : goal.prepare-requires-clause-few
+prepare-requires-clause-few g c =
+    let one = c.in-Ok.ensures.opened.one in
+    let few = one.few in
+    let many = one.enough_ins in
+    let ins = length-map c.in-Ok.parts.ins.items end_in in
+    let size = c.in-Ok.parts.ins.ok.0 in
+    omega arith
 
 pub start_drains-requires-clause-ready : goal.start_drains-requires-clause-ready
 start_drains-requires-clause-ready g c κs within =
@@ -52,7 +63,7 @@ start_drains-requires-clause-ready g c κs within =
 
 pub gather-ingress-requires-clause-room : goal.gather-ingress-requires-clause-room
 gather-ingress-requires-clause-room g c =
-    let R : Feed g.row.I.Denot → Done → Type 0 = λ o one. IsDone g.I.Iterator.next_gives o.port o.input one in
+    let R : Feed g.row.I.Denot → Done → Type 0 = IsDone g.I.Iterator.next_gives in
     let feeds = c.in-Ok-prepare.prepared.feeds.items in
     let many = pairwise_length R feeds c.in-Some.done.items c.in-Some.ensures.done in
     let count = c.in-Some.done.ok.0 in
@@ -67,9 +78,8 @@ gather-ingress-requires-clause-room g c =
 
 pub gather-egress-requires-clause-room : goal.gather-egress-requires-clause-room
 gather-egress-requires-clause-room g c =
-    let R : Drain → Drain → Type 0 = λ t one. HasTaken t.port one in
     let drains = c.in-Ok-prepare.prepared.drains.items in
-    let many = pairwise_length R drains c.in-Some.drained.items c.in-Some.ensures.taken in
+    let many = pairwise_length HasTaken drains c.in-Some.drained.items c.in-Some.ensures.taken in
     let count = c.in-Some.drained.ok.0 in
     let ports = length-map drains (λ (t : Drain). t.port) in
     let outs = ap length c.in-Ok-prepare.ensures.outs in
@@ -103,6 +113,29 @@ returns-in-Ok-close_ends-clause-ran g c =
     let some = c.in-Some in
     let closing = some.published.operator in
     let report = c.in-Ok-close_ends.report in
+    let made = c.in-Ok-prepare.ensures in
+    let frames = c.args.limits.frames in
+    let feeds = prepared.feeds.items in
+    let drains = prepared.drains.items in
+    let room =
+    subst
+    (λ (l : List ℕ). (k : ℕ) (d : Feed g.row.I.Denot) → k < length feeds
+    → vec_capacity (slice_index_or feeds k d).outcomes ≡ min (slice_index l k) frames)
+    c.deref.ensures.value made.room in
+    let copies =
+    subst
+    (λ (l : List ℕ). (k : ℕ) (d : Drain) → k < length drains
+    → sum_of_others k (map (λ size. min size frames) l) ≡ vec_capacity (slice_index_or drains k d).out)
+    c.deref.ensures.value made.copies in
+    let ends = c.in-Ok.ensures.opened.ends in
+    let ins_many = ends.enough_ins in
+    let outs_many = ends.enough_outs in
+    let ins = ap length made.ports in
+    let ports = length-map feeds (λ (o : Feed g.row.I.Denot). o.port) in
+    let outs = ap length made.outs in
+    let ports' = length-map drains (λ (t : Drain). t.port) in
+    let sizes = c.args.sizes.ok.0 in
+    let asked = c.requires.count.1 in
     record {
       operator = parts.operator;
       ins = parts.ins.items;
@@ -122,6 +155,18 @@ returns-in-Ok-close_ends-clause-ran g c =
       outcomes_are = c.gather-ingress.ensures.outcomes;
       stops_are = c.gather-ingress.ensures.stops;
       out_is = c.gather-egress.ensures.out;
+      room =
+          has_room g.I.Iterator.next_gives c.args.limits.frames c.args.sizes.items prepared.feeds.items some.done.items
+          prepared.drains.items some.drained.items c.args.limits.ports (record {
+            outcomes = c.gather-ingress.result.outcomes;
+            stops = c.gather-ingress.result.stops;
+            fronts = some.published.fronts;
+            refused = some.published.refused;
+            out = c.gather-egress.result.out;
+            report = report;
+          })
+          some.ensures.done some.ensures.taken (omega arith) (omega arith) room copies
+          c.gather-ingress.ensures.outcomes c.gather-egress.ensures.out;
       closed =
           subst (λ (l : List Ingress). Closes closing l (map (λ (t : Drain). t.port) some.drained.items) report)
           c.gather-ingress.ensures.ports

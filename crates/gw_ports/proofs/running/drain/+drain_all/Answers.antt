@@ -4,9 +4,6 @@ use Rattle.gw_ports.specs.declared.running.drain.Drain.{Drain}
 use Rattle.gw_ports.proofs.Runs.{all_last, pairwise_length, pairwise_push}
 use Rattle.gw_ports.proofs.running.drain.+drain_all.Goals as goal
 
-abbrev Took : Drain → Drain → Type 0
-Took drain one = HasTaken drain.port one
-
 pub drain_all-others-requires-clause-ready : goal.drain_all-others-requires-clause-ready
 drain_all-others-requires-clause-ready g t c κs within =
     let asks = c.requires.ready in
@@ -25,7 +22,7 @@ drain_all-others-requires-clause-ready g t c κs within =
 pub push_reserved-requires : goal.push_reserved-requires
 push_reserved-requires g t c =
     let others = c.in_ok-drained-in-Some.ensures.taken in
-    let many = pairwise_length Took c.pop.new.self.items c.in_ok-drained-in-Some.drained.items others.0 in
+    let many = pairwise_length HasTaken c.pop.new.self.items c.in_ok-drained-in-Some.drained.items others.0 in
     let room = others.1 in
     let size = c.in_ok-drained-in-Some.drained.ok.0 in
     let rest = c.pop.new.self.ok.0 in
@@ -37,9 +34,9 @@ pub returns-in_ok-drained-in-Some-clause-taken : goal.returns-in_ok-drained-in-S
 returns-in_ok-drained-in-Some-clause-taken g t c =
     let others = c.in_ok-drained-in-Some.ensures.taken in
     let value = ap (λ p. p.0.value) c.in-Ok.ensures.ok ∙ c.of.ensures in
-    let own : Took c.in-Some.drain c.join-one.result =
-    subst (λ (o : Drain). Took o c.join-one.result) value c.join-one.ensures in (
-      pairwise_push Took c.pop.new.self.items c.args.work.drains.items c.in_ok-drained-in-Some.drained.items
+    let own : HasTaken c.in-Some.drain c.join-one.result =
+    subst (λ (o : Drain). HasTaken o c.join-one.result) value c.join-one.ensures in (
+      pairwise_push HasTaken c.pop.new.self.items c.args.work.drains.items c.in_ok-drained-in-Some.drained.items
           c.push_reserved.new.self.items c.in-Some.drain c.join-one.result c.in-Some.ensures.items
           c.push_reserved.ensures.items others.0 own,
       c.push_reserved.ensures.capacity ∙ others.1,

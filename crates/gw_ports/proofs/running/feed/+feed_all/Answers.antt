@@ -8,7 +8,7 @@ use Rattle.gw_ports.proofs.running.feed.+feed_all.Goals as goal
 
 pub returns-in-None-clause-done : goal.returns-in-None-clause-done
 returns-in-None-clause-done g t c =
-    let R : Feed g.row.I.Denot → Done → Type 0 = λ o one. IsDone g.I.Iterator.next_gives o.port o.input one in
+    let R : Feed g.row.I.Denot → Done → Type 0 = IsDone g.I.Iterator.next_gives in
     let size = c.args.intake.feeds.ok.0 in
     let none : c.args.intake.feeds.items ≡ [] =
     nil_from_length c.args.intake.feeds.items (let count = c.in-None.ensures.cases.0 in omega arith) in (
@@ -41,7 +41,7 @@ feed_all-others-requires-clause-ready g t c κs within =
 
 pub push_reserved-requires : goal.push_reserved-requires
 push_reserved-requires g t c =
-    let R : Feed g.row.I.Denot → Done → Type 0 = λ o one. IsDone g.I.Iterator.next_gives o.port o.input one in
+    let R : Feed g.row.I.Denot → Done → Type 0 = IsDone g.I.Iterator.next_gives in
     let others = c.in_ok-done-in-Some.ensures.done in
     let many = pairwise_length R c.pop.new.self.items c.in_ok-done-in-Some.done.items others.0 in
     let room = others.1 in
@@ -53,7 +53,7 @@ push_reserved-requires g t c =
 
 pub returns-in_ok-done-in-Some-clause-done : goal.returns-in_ok-done-in-Some-clause-done
 returns-in_ok-done-in-Some-clause-done g t c =
-    let R : Feed g.row.I.Denot → Done → Type 0 = λ o one. IsDone g.I.Iterator.next_gives o.port o.input one in
+    let R : Feed g.row.I.Denot → Done → Type 0 = IsDone g.I.Iterator.next_gives in
     let others = c.in_ok-done-in-Some.ensures.done in
     let value = ap (λ p. p.0.value) c.in-Ok.ensures.ok ∙ c.of.ensures in
     let own : R c.in-Some.feed c.join-one.result =

@@ -52,6 +52,7 @@ returns-in-Err g c =
       );
       offers = subst (λ (p : Ingress). Offers [] start at.yielded at.outcomes.items p) (sym same) inv.3;
       same = c.in-Err.ensures.end ∙ inv.4;
+      room = (let fits = at.outcomes.ok.1 in let size = at.outcomes.ok.0 in let same = inv.8 in omega arith);
       spent = λ is. subst (λ (p : Ingress). p.ledger.taken ≡ p.frames) (sym same)
           (c.in-Err.ensures.spent.0 (ap (λ w. Err w) (cc is)));
     }

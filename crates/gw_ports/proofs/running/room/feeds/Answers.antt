@@ -19,10 +19,10 @@ loop-port-preserved g c =
       list_push (λ (o : O). o.port) old now new _ _ _ items c.in-Some.ensures.steps.0 at.invariant.0,
       list_push (λ (o : O). o.input) old now new _ _ _ items c.in-Some-next.ensures.items at.invariant.1,
       all_push (λ (o : O). o.outcomes.items ≡ []) old now new items at.invariant.2 c.in_ok-outcomes.ensures.items,
-      each_push (λ k (o : O). min (slice_index c.args.sizes.now k) c.args.limits.frames ≤ vec_capacity o.outcomes) old now new
+      each_push (λ k (o : O). vec_capacity o.outcomes ≡ min (slice_index c.args.sizes.now k) c.args.limits.frames) old now new
           items
           at.invariant.3
-          (let exact = c.in_ok-outcomes.ensures.exact ∙ c.most_taken.ensures in
+          (let exact = c.in_ok-outcomes.ensures.exact ∙ c.most_taken.ensures.value in
           let size = ap (λ n. min (slice_index c.args.sizes.now n) c.args.limits.frames) (here ∙ count) in omega arith),
     )
 

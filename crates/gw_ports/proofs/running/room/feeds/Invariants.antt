@@ -1,4 +1,4 @@
-use Rattle.std.proofs.Common.{◌≡◌, ◌++◌, ◌<◌, ◌≤◌, ℕ, [], length, map, min, slice_index, slice_index_or, vec_capacity}
+use Rattle.std.proofs.Common.{◌≡◌, ◌++◌, ◌<◌, ℕ, [], length, map, min, slice_index, slice_index_or, vec_capacity}
 use Rattle.std.specs.List.{All}
 use Rattle.std.specs.Vec.Iter.{into_iter_items}
 use Rattle.gw_ports.specs.declared.running.feed.Feed.{Feed}
@@ -10,4 +10,4 @@ invariant-loop-port g l =
     × (map (λ o. o.input) l.feeds.items ++ into_iter_items l.inputs ≡ l.fn.inputs.items)
     × All (λ o. o.outcomes.items ≡ []) l.feeds.items
     × ((k : ℕ) (d : Feed g.row.I.Denot) → k < length l.feeds.items
-    → min (slice_index l.sizes k) l.limits.frames ≤ vec_capacity (slice_index_or l.feeds.items k d).outcomes)
+    → vec_capacity (slice_index_or l.feeds.items k d).outcomes ≡ min (slice_index l.sizes k) l.limits.frames)

@@ -11,4 +11,5 @@ loop-preserved g c =
       subst (λ (o : List FrameCopy). Takes c.args.self.port o c.dequeue.new.port) (sym one.3)
           (takes_more c.args.self.port c.loop.out.items c.loop.port one.0 one.1 c.dequeue.new.port inv.0 one.2),
       c.dequeue.ensures.end ∙ inv.1,
+      c.dequeue.ensures.room ∙ inv.2,
     )
