@@ -18,6 +18,7 @@ pub mod Room
 pub mod Opening
 pub mod Judged
 pub mod Copied
+pub mod Losing
 pub mod Lanes
 pub mod ReportPublishing
 pub mod ReportOutcomes

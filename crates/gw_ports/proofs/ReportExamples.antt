@@ -1,14 +1,15 @@
 -- Worked examples of what a run reports.
-use Rattle.std.proofs.Common.{◌≡◌, ℕ, true, false, List, [], ◌∷◌, ◌++◌, Some, None, refl, arith}
+use Rattle.std.proofs.Common.{◌≡◌, ◌≤◌, ℕ, take, true, false, List, [], ◌∷◌, ◌++◌, Some, None, refl, arith}
 use Rattle.std.proofs.Math.ListN.{replicate}
-use Rattle.std.specs.List.{fold}
+use Rattle.std.specs.List.{count_by, fold}
 use Rattle.gw_board.specs.declared.refusals.ReplaceRefusal.TheVariants.{VersionsSpent}
 use Rattle.gw_ledger.specs.Bounds.{Bounds}
 use Rattle.gw_ledger.specs.Ledgers.{ledger_with}
+use Rattle.gw_ledger.specs.Ports.{has_port}
 use Rattle.gw_ledger.specs.declared.outcome.FrameCopy.{FrameCopy}
 use Rattle.gw_ledger.specs.declared.outcome.Outcome.{Outcome}
 use Rattle.gw_ports.specs.Making.{nothing_counted}
-use Rattle.gw_ports.specs.Reports.{EndsAt, RefusesNext, copies_to, from_port, lanes_between, sent_by}
+use Rattle.gw_ports.specs.Reports.{EndsAt, Loses, RefusesNext, copies_to, from_port, lanes_between, sent_by, sum_of_others}
 use Rattle.gw_ports.specs.declared.refusals.OfferRefusal.TheVariants.{FramesSpent}
 
 -- a frame that was allowed to two ports, of which one had a full lane; and a local one
@@ -24,6 +25,20 @@ counts_of_two = refl
 
 abbrev limits : Bounds
 limits = record { ports = 3; lane = 1; versions = 2; frames = 2 }
+
+-- a second copy to port 1 is lost where a lane has room for one
+abbrev late : Outcome
+late = record { number = 2; front = 2; local = false; allowed = 1 ∷ []; placed = [] }
+
+is_lost : Loses 1 late
+is_lost = (refl, refl)
+
+one_before : limits.lane ≤ count_by (λ outcome. has_port 1 outcome.placed) (take 2 (copied ∷ kept ∷ late ∷ []))
+one_before = omega arith
+
+-- where three ports took 2, 1 and 4 frames, as many copies can come out at port 1 as the two others took
+room_at_1 : sum_of_others 1 (2 ∷ 1 ∷ 4 ∷ []) ≡ 6
+room_at_1 = refl
 
 abbrev frame : ℕ → List ℕ
 frame ingress = 0x8C ∷ 0xF0 ∷ 0x04 ∷ ingress ∷ 0 ∷ 0 ∷ 0 ∷ 0 ∷ []

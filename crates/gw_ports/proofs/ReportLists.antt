@@ -66,6 +66,7 @@ reported_of_more limits first inputs more batches report is longer = record {
   judged = λ port below.
       judged_of_more limits.ports port (batches_of first batches report) (frames_of inputs port) (frames_of more port)
       (outcomes_of report port) (longer port below).0 (is.judged port below);
+  lost = is.lost;
   stops = λ port below.
       ends_on_more limits (frames_of inputs port) (frames_of more port) (outcomes_of report port) (stop_of report port)
       (longer port below).0 (longer port below).1 (is.stops port below);

@@ -12,7 +12,7 @@ use Rattle.gw_ports.specs.Ends.{Ingress, end_in}
 use Rattle.gw_ports.specs.Making.{IsNewIngress}
 use Rattle.gw_ports.specs.Running.{Gives, IsDone, Offers}
 use Rattle.gw_ports.specs.Runs.{IsRun}
-use Rattle.gw_ports.specs.Reports.{AreJudged, Asks, EndsAt, batches_of, frames_of, outcomes_of, stop_of}
+use Rattle.gw_ports.specs.Reports.{AreJudged, Asks, EndsAt, LosesOnFullLanes, batches_of, frames_of, outcomes_of, stop_of}
 use Rattle.gw_ports.specs.declared.refusals.OfferRefusal.{OfferRefusal}
 use Rattle.gw_ports.specs.declared.refusals.OfferRefusal.TheVariants.{FramesSpent, NoReading}
 use Rattle.gw_ports.specs.declared.running.RunReport.{RunReport}
@@ -20,6 +20,7 @@ use Rattle.gw_ports.specs.declared.running.feed.Done.{Done}
 use Rattle.gw_ports.specs.declared.running.feed.Feed.{Feed}
 use Rattle.gw_ports.proofs.Elementwise.{Chosen, choose, there}
 use Rattle.gw_ports.proofs.Judged.{are_judged, as_many_outcomes, frames_taken, judged_of_more}
+use Rattle.gw_ports.proofs.Losing.{lost_when_full, new_holds}
 use Rattle.gw_ports.proofs.ReportPublishing.{published_is}
 use Rattle.gw_ports.proofs.Runs.{pairwise_length}
 
@@ -92,6 +93,7 @@ module _ {S : Type 0} {steps : S → Option (List ℕ) → S → Type 0} {limits
     pub did : Did steps feed one asked
     pub outcomes_are : outcomes_of report port ≡ one.outcomes.items
     pub judged : AreJudged limits.ports port (batches_of first batches report) asked (outcomes_of report port)
+    pub lost : LosesOnFullLanes limits.lane (outcomes_of report port)
     pub stopped : EndsAt limits asked (outcomes_of report port) (stop_of report port)
     pub asks : (d : S) → Asks steps (get_or inputs port d) (stop_of report port) asked
 
@@ -170,6 +172,14 @@ module _ {S : Type 0} {steps : S → Option (List ℕ) → S → Type 0} {limits
         })
         did_at.done begins))
 
+    lost_at : LosesOnFullLanes limits.lane (outcomes_of report port)
+    lost_at =
+        subst (λ (l : List Outcome). LosesOnFullLanes limits.lane l) (sym outcomes_at) (λ k egress d below loses.
+        let least =
+        lost_when_full limits.lane egress 0 [] o.0.port did_at.frames one_at.0.outcomes.items one_at.0.port did_at.done
+        (new_holds limits.lane o.0.port.lanes new_at.empty egress) k d below loses in
+        omega arith)
+
     stopped_at : EndsAt limits asked (outcomes_of report port) (stop_of report port)
     stopped_at =
         let taken = frames_taken [] o.0.port did_at.frames one_at.0.outcomes.items one_at.0.port did_at.done in
@@ -201,6 +211,7 @@ module _ {S : Type 0} {steps : S → Option (List ℕ) → S → Type 0} {limits
       did = did_at;
       outcomes_are = outcomes_at;
       judged = judged_at;
+      lost = lost_at;
       stopped = stopped_at;
       asks = asks_at;
     }

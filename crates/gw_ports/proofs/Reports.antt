@@ -25,6 +25,7 @@ module _ {S : Type 0} (steps : S → Option (List ℕ) → S → Type 0) (limits
         ap length run.stops_are ∙ length-map run.done (λ (x : Done). x.stop) ∙ (many_ins run).1,
       );
       judged = λ port below. (port_in run port below).judged;
+      lost = λ port below. (port_in run port below).lost;
       stops = λ port below. (port_in run port below).stopped;
       fronts = fronts_are run;
       published = published_until run;

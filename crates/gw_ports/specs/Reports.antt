@@ -2,7 +2,7 @@
 -- in ascending order, from 0 on; a list of batches, and one of frames, has the oldest first.
 use Rattle.std.specs.Prelude.{◌≡◌, ℕ, ◌+◌, ◌<◌, ◌≤◌, List, [], ◌∷◌, fold, length, map, reverse, take, slice_index_or}
 use Rattle.std.specs.Prelude.{Option, Some, None, IfSome, MatchOption, All, filter, flat_map, not, replicate, sum_by, ◌++◌, ◌==◌}
-use Rattle.std.specs.Prelude.{if◌then◌else◌, slice_index, slice_set, sum, vec_capacity}
+use Rattle.std.specs.Prelude.{count_by, false, if◌then◌else◌, IsTrue, slice_index, slice_set, sum, vec_capacity}
 use Rattle.std.specs.List.{range_with_len}
 use Rattle.std.specs.Iterator.{Drains, Yields}
 use Rattle.gw_board.specs.Refusals.{PortsBelow}
@@ -50,6 +50,16 @@ copies_to ingress egress [] outcomes = []
 copies_to ingress egress (octets ∷ frames) [] = []
 copies_to ingress egress (octets ∷ frames) (outcome ∷ outcomes) =
     placed_copy ingress egress octets outcome ++ copies_to ingress egress frames outcomes
+
+-- a frame was allowed to an egress port, and no copy of it was placed there
+abbrev pub Loses : ℕ → Outcome → Type 0
+Loses egress outcome = IsTrue (has_port egress outcome.allowed) × (has_port egress outcome.placed ≡ false)
+
+-- the outcomes of a port lose a copy only where those before placed as many for the egress port as a lane has room for
+abbrev pub LosesOnFullLanes : ℕ → List Outcome → Type 0
+LosesOnFullLanes lane outcomes = (k egress : ℕ) (d : Outcome) → k < length outcomes
+    → Loses egress (slice_index_or outcomes k d)
+    → lane ≤ count_by (λ outcome. has_port egress outcome.placed) (take k outcomes)
 
 -- of counts by port, the sum without that of one port
 abbrev pub sum_of_others : ℕ → List ℕ → ℕ
@@ -125,6 +135,7 @@ pub record IsReport (limits : Bounds) (first : List Pair) (inputs : List (List (
   pub ports : (length report.outcomes.items ≡ limits.ports) × (length report.stops.items ≡ limits.ports)
   pub judged : (port : ℕ) → port < limits.ports
       → AreJudged limits.ports port (batches_of first batches report) (frames_of inputs port) (outcomes_of report port)
+  pub lost : (port : ℕ) → port < limits.ports → LosesOnFullLanes limits.lane (outcomes_of report port)
   pub stops : (port : ℕ) → port < limits.ports
       → EndsAt limits (frames_of inputs port) (outcomes_of report port) (stop_of report port)
   pub fronts : report.fronts.items ≡ range_with_len 2 (length report.fronts.items)
