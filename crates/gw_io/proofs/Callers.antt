@@ -1,12 +1,13 @@
 -- For whoever reads in pieces or writes: what was read or written so far, with more behind it.
-use Rattle.std.proofs.Common.{◌≡◌, ◌<◌, ◌-◌, ℕ, Bool, true, false, List, [], ◌++◌, length, length-drop, take, drop, Option, Some}
+use Rattle.std.proofs.Common.{◌≡◌, ◌<◌, ◌≤◌, ◌+◌, ◌-◌, ℕ, Bool, true, false, List, [], ◌++◌, length, length-append, length-drop}
+use Rattle.std.proofs.Common.{take, drop, Option, Some}
 use Rattle.std.proofs.Common.{None, Ok}
 use Rattle.std.proofs.Common.{sym, ap, ◌∙◌, subst, refl}
 use Rattle.std.proofs.Common.{append_assoc, append-nil, arith}
 use Rattle.std.specs.Io.KnownBytes.{Appends, Consumes, IsAtEnd, Keeps}
 use Rattle.std.proofs.Math.Seq.{take-length}
 use Rattle.std.proofs.lemmas.List.{take_all}
-use Rattle.gw_io.specs.Pieces.{IsNextPiece}
+use Rattle.gw_io.specs.Pieces.{IsNextPiece, GivesAtLeast}
 use Rattle.gw_io.specs.Written.{WritesPart}
 
 -- no read gave nothing
@@ -37,6 +38,27 @@ met_end a b piece more e h = subst (λ m. IsNextPiece a b piece (Ok m)) e h
 pub met_piece : (a b : Option (List ℕ)) (piece : List ℕ) (more : Bool) → more ≡ true → IsNextPiece a b piece (Ok more)
     → Consumes a b piece × (0 < length piece)
 met_piece a b piece more e h = subst (λ m. IsNextPiece a b piece (Ok m)) e h
+
+-- before the first read a reader gave no octet
+pub gives_nothing : (a : Option (List ℕ)) (n : ℕ) → n ≡ 0 → GivesAtLeast a a n
+gives_nothing a n none = record { octets = []; consumed = consumed_nothing a; enough = omega arith }
+
+-- each read that gave a piece gave one octet at least
+pub gives_more : (a b c : Option (List ℕ)) (n m : ℕ) (piece : List ℕ) → GivesAtLeast a b n
+    → Consumes b c piece × (0 < length piece) → m ≡ n + 1 → GivesAtLeast a c m
+gives_more a b c n m piece h read one = record {
+  octets = h.octets ++ piece;
+  consumed = consumed_more a b c h.octets piece h.consumed read.0;
+  enough = let more = read.1 in let before = h.enough in omega (arith, length-append h.octets piece);
+}
+
+-- and one that failed gave none
+pub gives_kept : (a b c : Option (List ℕ)) (n m : ℕ) → GivesAtLeast a b n → Keeps b c → m ≡ n → GivesAtLeast a c m
+gives_kept a b c n m h kept same = record {
+  octets = h.octets;
+  consumed = consumed_kept a b c h.octets h.consumed kept;
+  enough = let before = h.enough in omega arith;
+}
 
 -- one text written behind another
 pub appended_on : (a b c : Option (List ℕ)) (xs ys : List ℕ) → Appends a b xs → Appends b c ys → Appends a c (xs ++ ys)

@@ -1,5 +1,5 @@
 -- What a reader gives, piece by piece: `before` and `after` are what it has left.
-use Rattle.std.specs.Prelude.{◌<◌, ℕ, Bool, true, false, List, length, Option, Result, Ok, Err}
+use Rattle.std.specs.Prelude.{◌<◌, ◌≤◌, ℕ, Bool, true, false, List, length, Option, Result, Ok, Err}
 use Rattle.std.specs.Io.KnownBytes.{Consumes, IsAtEnd, Keeps}
 use Rattle.gw_io.specs.declared.pieces.ReadFault.{ReadFault}
 use Rattle.gw_io.specs.declared.pieces.TheConstants.{MAX_READS}
@@ -18,3 +18,9 @@ abbrev pub IsNextPiece : Option (List ℕ) → Option (List ℕ) → List ℕ �
 IsNextPiece before after piece (Ok true) = Consumes before after piece × (0 < length piece)
 IsNextPiece before after piece (Ok false) = Keeps before after × IsAtEnd after
 IsNextPiece before after piece (Err fault) = Keeps before after
+
+-- the reader gave so many octets at least
+pub record GivesAtLeast (before after : Option (List ℕ)) (least : ℕ) : Type 0 where
+  pub octets : List ℕ
+  pub consumed : Consumes before after octets
+  pub enough : least ≤ length octets

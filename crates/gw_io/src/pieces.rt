@@ -1,6 +1,6 @@
 //! What a reader gives, piece by piece.
 
-ghost use Rattle.std.specs.Prelude.{◌≡◌, ◌≤◌, ◌+◌, ◌⊎◌, true, OnOk, OnErr};
+ghost use Rattle.std.specs.Prelude.{◌≡◌, ◌≤◌, ◌+◌, ◌⊎◌, true, length, OnOk, OnErr};
 ghost use Rattle.gw_io.specs.Pieces.{IsNextPiece, most_reads};
 ghost use Rattle.gw_io.specs.Tries.{inner_of, has_failed, reads_of};
 
@@ -54,6 +54,7 @@ impl Pieces {
     pub fn read<R: Read>(&mut self, reader: &mut Tried<R>) -> Result<bool, ReadFault>
         ensures piece { IsNextPiece (R.remaining (inner_of reader.old)) (R.remaining (inner_of reader.new))
             self.new.piece result }
+        ensures short { length self.new.piece ≤ 65536 }
         ensures whole { OnOk result (has_failed reader.new ≡ has_failed reader.old) }
         ensures fault { OnErr result ((has_failed reader.new ≡ true) ⊎ (self.old.left ≡ 0)) }
         ensures left { OnOk result (self.new.left + 1 ≡ self.old.left) }

@@ -1,7 +1,7 @@
 -- What is kept between two pieces of a trace, and what a piece adds.
 use Rattle.std.specs.Io.KnownBytes.{Consumes, IsAtEnd}
 use Rattle.std.specs.Prelude.{◌≡◌, ◌⊎◌, Bool, true, Ok, Err, ℕ, ◌+◌, ◌<◌, List, [], ◌++◌, length, Option, Some, None}
-use Rattle.gw_io.specs.Pieces.{most_reads}
+use Rattle.gw_io.specs.Pieces.{most_reads, GivesAtLeast}
 use Rattle.gw_trace.specs.declared.byte_order.Endian.{Endian}
 use Rattle.gw_trace.specs.declared.stage.Stage.{Stage}
 use Rattle.gw_trace.specs.declared.stage.Stage.TheVariants.{Header, Records, Failed}
@@ -84,8 +84,9 @@ pub record IsNoTrace (before after : Option (List ℕ)) (fault : TraceRefusal) :
   pub end : IsAtEnd after
   pub refused : whole_trace octets ≡ Err fault
 
--- why a trace was not read whole: memory was wanting; a read failed or there were too many; else what is wrong with it
+-- why a trace was not read whole: memory was wanting; a read failed, or 16777216 reads each gave an octet at least; else what is
+-- wrong with it
 abbrev pub IsUnread : Option (List ℕ) → Option (List ℕ) → Bool → ℕ → TraceRefusal → Type 0
 IsUnread before after failed reads OutOfMemory = Unit {0}
-IsUnread before after failed reads ReadFault = (failed ≡ true) ⊎ (reads ≡ most_reads)
+IsUnread before after failed reads ReadFault = (failed ≡ true) ⊎ ((reads ≡ most_reads) × GivesAtLeast before after most_reads)
 IsUnread before after failed reads fault = IsNoTrace before after fault
