@@ -7,7 +7,7 @@ use Rattle.std.specs.Prelude.{option_copied, OnErr, OnOk, is_ok, is_err, if◌th
 use Rattle.std.proofs.lemmas.List.Elements.{All-append, All-nil}
 use Rattle.gw_input.specs.Lines.{is_line_feed, without_return, ended_line, lines_of}
 use Rattle.gw_replay.specs.Replies.{SessionState}
-use Rattle.gw_replay.specs.Scripts.{meaning_of, Told, Answers, AreAnswers, BeginsAnswer, IsAnswer}
+use Rattle.gw_replay.specs.Scripts.{meaning_of, Told, Answers, AreAnswers, BeginsAnswer, IsAnswer, AnswersEnded}
 use Rattle.gw_replay.specs.Standing.{StandsIn, IsAnswered}
 use Rattle.gw_replay.specs.Reached.{joined, HasNoEnd, HasReached, AnswersKept, most_kept, Passes}
 use Rattle.gw_replay.specs.Reached.{FeedsLine, FedSo}
@@ -40,6 +40,17 @@ begins octets more text p h = record {
   later = lines_of (h.rest ++ more);
   lines = ap (λ front. lines_of (front ++ more)) h.cut ∙ ap lines_of (append_assoc (joined h.lines) h.rest more)
       ∙ lines_behind h.lines (h.rest ++ more) h.whole;
+  session = h.session;
+  answers = h.answers;
+}
+
+-- they are those of the lines that were ended
+pub ended_of : (octets text : List ℕ) (p : ScriptReader) → HasReached octets p text → AnswersEnded octets text
+ended_of octets text p h = record {
+  ended = map without_return h.lines;
+  unfinished = h.rest;
+  lines = ap lines_of h.cut ∙ lines_behind h.lines h.rest h.whole ∙ ap (λ last. map without_return h.lines ++ last)
+      (one_line h.rest h.endless);
   session = h.session;
   answers = h.answers;
 }
@@ -120,6 +131,7 @@ reached_line octets before p mid q h a script answers empty = record {
 pub whole_answer : (octets before : List ℕ) (p mid : ScriptReader) → (h : HasReached octets p (before ++ p.answers.items))
     → AnswersKept h.session (ended_line false p.kept.items) p mid
     → IsAnswer octets (before ++ mid.answers.items)
+unfolding ended_of
 whole_answer octets before p mid h a =
     let told = answers_more (reverse (map without_return h.lines)) h.rest (before ++ p.answers.items) a.text
     h.session a.session h.answers
@@ -127,8 +139,7 @@ whole_answer octets before p mid h a =
     let all : (before ++ p.answers.items) ++ a.text ≡ before ++ mid.answers.items =
     append_assoc before p.answers.items a.text ∙ ap (λ said. before ++ said) (sym a.appended) in
     let lines : lines_of octets ≡ map without_return h.lines ++ h.rest ∷ [] =
-    ap lines_of h.cut ∙ lines_behind h.lines h.rest h.whole ∙ ap (λ last. map without_return h.lines ++ last)
-    (one_line h.rest h.endless) in
+    (ended_of octets (before ++ p.answers.items) p h).lines in
     record {
       session = a.session;
       answers =

@@ -77,6 +77,7 @@ HasFed octets piece text (Err e) new = BeginsAnswer (octets ++ piece) (text ++ n
 -- the script's last answers were written
 abbrev pub EndsWith : {A : Type 0} → List ℕ → List ℕ → Option (List ℕ) → Option (List ℕ) → Result A ReplayFault → Type 0
 EndsWith octets text old new (Ok done) = (all : List ℕ) × IsAnswer octets (text ++ all) × Appends old new all
+EndsWith octets text old new (Err OutOfMemory) = (all : List ℕ) × BeginsAnswer octets (text ++ all) × Appends old new all
 EndsWith octets text old new (Err e) = (all : List ℕ) × BeginsAnswer octets (text ++ all) × WritesPart old new all
 
 -- what may end it then

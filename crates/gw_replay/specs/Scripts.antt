@@ -1,5 +1,5 @@
 -- The answers of a script: each line is judged after the lines before it.
-use Rattle.std.specs.Prelude.{◌≡◌, ℕ, ◌==◌, Bool, true, not, ◌&&◌, nat_le, nat_lt, if◌then◌else◌, List, [], ◌∷◌, ◌++◌}
+use Rattle.std.specs.Prelude.{◌≡◌, ◌≤◌, ℕ, ◌==◌, Bool, true, not, ◌&&◌, nat_le, nat_lt, if◌then◌else◌, List, [], ◌∷◌, ◌++◌}
 use Rattle.std.specs.Prelude.{length, reverse, codes, Option, Some, None, Result, Err}
 use Rattle.std.specs.List.{list_all}
 use Rattle.std.specs.Option.{option_map_or}
@@ -101,3 +101,23 @@ pub record BeginsAnswer (script text : List ℕ) : Type 0 where
   pub lines : lines_of script ≡ first ++ later
   pub session : Option SessionState
   pub answers : AreAnswers (reverse first) (record { text = text; session = session })
+
+-- the answers of the lines that a line feed ends in a script: what stands behind the last line feed has none
+pub record AnswersEnded (script text : List ℕ) : Type 0 where
+  pub ended : List (List ℕ)
+  pub unfinished : List ℕ
+  pub lines : lines_of script ≡ ended ++ unfinished ∷ []
+  pub session : Option SessionState
+  pub answers : AreAnswers (reverse ended) (record { text = text; session = session })
+
+-- the answers of a script's first lines: of all that a line feed ends before its last 65536 octets, and maybe of more
+pub record AnswersMost (script text : List ℕ) : Type 0 where
+  pub front : List ℕ
+  pub piece : List ℕ
+  pub cut : script ≡ front ++ piece
+  pub short : length piece ≤ 65536
+  pub early : List ℕ
+  pub late : List ℕ
+  pub ended : AnswersEnded front early
+  pub whole : text ≡ early ++ late
+  pub begins : BeginsAnswer script text

@@ -1,9 +1,8 @@
 //! Whole scripts, from a reader to a writer.
 
-ghost use Rattle.std.specs.Prelude.{◌≡◌, ◌≤◌, false, IfErr, OnOk, OnErr};
+ghost use Rattle.std.specs.Prelude.{◌≡◌, false};
 ghost use Rattle.gw_io.specs.Tries.{inner_of, has_failed, reads_of};
-ghost use Rattle.gw_replay.specs.Written.{IsReplayed, IsPartlyReplayed, IsReplayFault};
-ghost use Rattle.gw_io.specs.Pieces.{most_reads};
+ghost use Rattle.gw_replay.specs.Written.{HasReplayed};
 ghost use Rattle.gw_replay.specs.declared.whole.ReplayFault.TheVariants as replay;
 
 use crate::script_reader::ScriptReader;
@@ -76,14 +75,9 @@ pub fn replay<R: Read, W: Write>(
     requires reader { has_failed reader.old ≡ false }
     requires unread { reads_of reader.old ≡ 0 }
     requires writer { has_failed writer.old ≡ false }
-    ensures replayed { OnOk result (IsReplayed (R.remaining (inner_of reader.old)) (R.remaining (inner_of reader.new))
-        (W.contents (inner_of writer.old)) (W.contents (inner_of writer.new))) }
-    ensures part { OnErr result (IsPartlyReplayed (R.remaining (inner_of reader.old)) (R.remaining (inner_of reader.new))
-        (W.contents (inner_of writer.old)) (W.contents (inner_of writer.new))) }
-    ensures fault { IfErr result (IsReplayFault (has_failed reader.new) (reads_of reader.new) (has_failed writer.new)) }
-    ensures read { OnOk result (has_failed reader.new ≡ false) }
-    ensures written { OnOk result (has_failed writer.new ≡ false) }
-    ensures reads { reads_of reader.new ≤ most_reads }
+    ensures { HasReplayed (R.remaining (inner_of reader.old)) (R.remaining (inner_of reader.new))
+        (W.contents (inner_of writer.old)) (W.contents (inner_of writer.new))
+        (has_failed reader.new) (reads_of reader.new) (has_failed writer.new) result }
 {
     replay_told(alloc, reader, writer, &mut Tried::new(io::sink()))
 }
@@ -98,14 +92,9 @@ pub fn replay_told<R: Read, W: Write, F: Write>(
     requires reader { has_failed reader.old ≡ false }
     requires unread { reads_of reader.old ≡ 0 }
     requires writer { has_failed writer.old ≡ false }
-    ensures replayed { OnOk result (IsReplayed (R.remaining (inner_of reader.old)) (R.remaining (inner_of reader.new))
-        (W.contents (inner_of writer.old)) (W.contents (inner_of writer.new))) }
-    ensures part { OnErr result (IsPartlyReplayed (R.remaining (inner_of reader.old)) (R.remaining (inner_of reader.new))
-        (W.contents (inner_of writer.old)) (W.contents (inner_of writer.new))) }
-    ensures fault { IfErr result (IsReplayFault (has_failed reader.new) (reads_of reader.new) (has_failed writer.new)) }
-    ensures read { OnOk result (has_failed reader.new ≡ false) }
-    ensures written { OnOk result (has_failed writer.new ≡ false) }
-    ensures reads { reads_of reader.new ≤ most_reads }
+    ensures { HasReplayed (R.remaining (inner_of reader.old)) (R.remaining (inner_of reader.new))
+        (W.contents (inner_of writer.old)) (W.contents (inner_of writer.new))
+        (has_failed reader.new) (reads_of reader.new) (has_failed writer.new) result }
 {
     let mut script_reader = ScriptReader::new(alloc);
     let mut pieces = Pieces::new();

@@ -1,7 +1,5 @@
 use Rattle.std.proofs.Common.{sym, ◌∙◌}
-use Rattle.gw_io.specs.Tries.{inner_of}
 use Rattle.gw_replay.proofs.Reaching.{last_begins, whole_answer, on_err, on_ok}
-use Rattle.gw_io.proofs.Callers.{whole_part}
 use Rattle.gw_replay.proofs.script_reader.ScriptReader.end.Goals as goal
 
 pub returns-then-is_err-clause-ended : goal.returns-then-is_err-clause-ended
@@ -24,7 +22,5 @@ returns-in-Err-clause-ended g c = λ octets text h. (
   c.answer_kept-answered.new.self.answers.items,
   last_begins c.answer_kept-answered.result octets text c.args.self.now c.answer_kept-answered.new.self h
       c.answer_kept-answered.ensures.answered c.answer_kept-answered.ensures.refused,
-  whole_part (g.W.Write.contents (inner_of c.args.writer.now)) (g.W.Write.contents (inner_of c.write.new.writer))
-      c.answer_kept-answered.new.self.answers.items (on_ok c.write.result (sym c.is_err.ensures.value ∙ c.if-is_err.false)
-      c.write.ensures.written),
+  on_ok c.write.result (sym c.is_err.ensures.value ∙ c.if-is_err.false) c.write.ensures.written,
 )
