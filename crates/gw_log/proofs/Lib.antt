@@ -2,5 +2,8 @@ pub mod DigitValues
 pub mod Parts
 pub mod DigitTexts
 pub mod RoundTrip
+pub mod WordByWord
+pub mod ShownOctets
 mod FrameExamples
 mod TextExamples
+mod LineExamples

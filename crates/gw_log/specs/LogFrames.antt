@@ -9,6 +9,7 @@ use Rattle.hex.specs.Hex.{hex_digit_value, is_hex_digit}
 use Rattle.gw_log.specs.declared.refusal.LogRefusal.{LogRefusal}
 use Rattle.gw_log.specs.declared.refusal.LogRefusal.TheVariants.{CanFd, NoFrame, NoDigit, BadDigits, WideId, OddDigits}
 use Rattle.gw_log.specs.declared.refusal.LogRefusal.TheVariants.{BadLength, BadRemote, BadCode}
+use Rattle.gw_log.specs.declared.refusal.LogRefusal.TheVariants.{OpenTime, WordsBefore, DigitsBehind, LongLine}
 
 -- the flags of an identifier word
 abbrev pub extended : ℕ
@@ -141,7 +142,10 @@ frame_of text = frame_in (parted 35 text)
 -- the number by which a refusal is told
 abbrev pub refusal_number : LogRefusal → ℕ
 refusal_number CanFd = 101
+refusal_number OpenTime = 102
 refusal_number NoFrame = 103
+refusal_number WordsBefore = 104
+refusal_number DigitsBehind = 105
 refusal_number NoDigit = 106
 refusal_number BadDigits = 107
 refusal_number WideId = 108
@@ -149,3 +153,4 @@ refusal_number OddDigits = 109
 refusal_number BadLength = 110
 refusal_number BadRemote = 111
 refusal_number BadCode = 112
+refusal_number LongLine = 113

@@ -28,7 +28,7 @@ pub fn parted(octet: u8, text: &[u8]) -> Option<(&[u8], &[u8])>
 }
 
 /// Where the first octet of this value stands.
-fn place_of(octet: u8, text: &[u8]) -> Option<usize>
+pub fn place_of(octet: u8, text: &[u8]) -> Option<usize>
     ensures place { result ≡ position (λ c. c == octet) text.now }
     ensures within { IfSome result (λ at. at < length text.now) }
 {

@@ -1,6 +1,6 @@
 //! Frames from candump's form.
 
-ghost use Rattle.std.specs.Prelude.{◌≡◌, ◌==◌, ◌<◌, ◌≤◌, length, slice_index, IfOk};
+ghost use Rattle.std.specs.Prelude.{◌≡◌, ◌==◌, ◌<◌, ◌≤◌, Some, length, slice_index, IfOk};
 ghost use Rattle.gw_log.specs.LogFrames.{
   record_of,
   has_flag,
@@ -59,7 +59,7 @@ fn carried(word: u32, behind: &[u8]) -> Result<Frame, LogRefusal>
 }
 
 /// The identifier word of 3 or 8 digits.
-fn identifier(digits: &[u8]) -> Result<u32, LogRefusal>
+pub fn identifier(digits: &[u8]) -> Result<u32, LogRefusal>
     ensures word { result ≡ identifier digits.now }
     ensures bound { IfOk result (λ word. word < 0xA000_0000) }
 {
@@ -112,9 +112,18 @@ fn remote_frame(word: u32, text: &[u8]) -> Result<Frame, LogRefusal>
     requires { word < 0xA000_0000 }
     ensures { result ≡ remote_of word (remote_length text.now) }
 {
-    let Some(len) = payload::remote_length(text) else {
-        return Err(LogRefusal::BadRemote);
-    };
+    match payload::remote_length(text) {
+        Some(len) => requested(word, len),
+        None => Err(LogRefusal::BadRemote),
+    }
+}
+
+/// The remote frame of an identifier word and a length.
+pub fn requested(word: u32, len: usize) -> Result<Frame, LogRefusal>
+    requires bound { word < 0xA000_0000 }
+    requires few { len ≤ 8 }
+    ensures { result ≡ remote_of word (Some len) }
+{
     if word / ERROR_FLAG % 2 == 1 {
         return Err(LogRefusal::BadRemote);
     }
@@ -122,7 +131,7 @@ fn remote_frame(word: u32, text: &[u8]) -> Result<Frame, LogRefusal>
 }
 
 /// The frame of an identifier word and a payload.
-fn frame(word: u32, payload: &[u8]) -> Frame
+pub fn frame(word: u32, payload: &[u8]) -> Frame
     requires { length payload.now ≤ 8 }
     ensures { result ≡ record_of word payload.now }
 {

@@ -1,0 +1,82 @@
+-- The words of a text, one after another.
+use Rattle.std.proofs.Common.{◌≡◌, ℕ, zero, suc, ◌+◌, ◌<◌, ◌≤◌, Bool, true, false, not, List, [], ◌∷◌, length, take, drop}
+use Rattle.std.proofs.Common.{refl, sym, ap, ◌∙◌, subst, inl, inr, arith}
+use Rattle.std.specs.List.{filter, slice_split, position_or_len, prefix_len}
+use Rattle.std.proofs.lemmas.Bool.{cases_Bool}
+use Rattle.gw_log.specs.LogLines.{is_blank, has_octets, words_of, behind_blanks}
+
+-- how many octets stand before the first blank, and how many blanks in front
+abbrev pub word_length : List ℕ → ℕ
+word_length text = position_or_len is_blank text
+
+abbrev blanks : List ℕ → ℕ
+blanks text = prefix_len is_blank text
+
+one_more : (n : ℕ) → 1 + n ≡ suc n
+one_more n = omega arith
+
+-- a blank in front parts no words
+blank_in_front : (c : ℕ) (cs : List ℕ) → is_blank c ≡ true → words_of (c ∷ cs) ≡ words_of cs
+unfolding words_of
+blank_in_front c cs blank = rw blank refl
+
+-- the octets before the first blank are the first part, and the words of what stands behind them those of the others
+record Parts (text : List ℕ) : Type 0 where
+  rest : List (List ℕ)
+  parts : slice_split is_blank text ≡ take (word_length text) text ∷ rest
+  words : filter has_octets rest ≡ words_of (drop (word_length text) text)
+
+first_part : (text : List ℕ) → Parts text
+unfolding words_of
+first_part [] = record { rest = []; parts = refl; words = refl }
+first_part (c ∷ cs) =
+    let next = first_part cs in
+    elim (cases_Bool (is_blank c)) [
+      | inl blank ↦ record {
+        rest = slice_split is_blank cs;
+        parts = rw blank refl;
+        words = rw blank (sym (blank_in_front c cs blank));
+      }
+      | inr other ↦ record {
+        rest = next.rest;
+        parts = rw (other, one_more (word_length cs), next.parts) refl;
+        words = rw (other, one_more (word_length cs)) next.words;
+      }
+    ]
+
+-- the words of a text that no blank begins
+begun : (c : ℕ) (cs : List ℕ) → is_blank c ≡ false
+    → words_of (c ∷ cs) ≡ (c ∷ take (word_length cs) cs) ∷ words_of (drop (word_length cs) cs)
+unfolding words_of
+begun c cs other =
+    let next = first_part cs in
+    rw (other, next.parts) (ap (λ (ws : List (List ℕ)). (c ∷ take (word_length cs) cs) ∷ ws) next.words)
+
+-- blanks alone have no words
+pub no_word : (text : List ℕ) → length (behind_blanks text) ≡ 0 → words_of text ≡ []
+unfolding words_of
+no_word [] none = refl
+no_word (c ∷ cs) none =
+    elim (cases_Bool (is_blank c)) [
+      | inl blank ↦ rw blank (no_word cs (rw (blank, one_more (blanks cs)) at none))
+      | inr other ↦ absurd (let all : suc (length cs) ≡ 0 = rw other at none in omega arith)
+    ]
+
+-- the first word stands behind the blanks in front, and ends at the next one
+pub word_in_front : (text : List ℕ) → 0 < length (behind_blanks text)
+    → (words_of text ≡ take (word_length (behind_blanks text)) (behind_blanks text)
+    ∷ words_of (drop (word_length (behind_blanks text)) (behind_blanks text)))
+    × (0 < word_length (behind_blanks text))
+word_in_front [] some = absurd (omega arith)
+word_in_front (c ∷ cs) some =
+    elim (cases_Bool (is_blank c)) [
+      | inl blank ↦
+          let next = word_in_front cs (rw (blank, one_more (blanks cs)) at some) in
+          (rw (blank, one_more (blanks cs)) (blank_in_front c cs blank ∙ next.0), rw (blank, one_more (blanks cs)) next.1)
+      | inr other ↦
+          let there : behind_blanks (c ∷ cs) ≡ c ∷ cs = rw other refl in
+          let len : word_length (c ∷ cs) ≡ suc (word_length cs) = rw (other, one_more (word_length cs)) refl in
+          let Front : List ℕ → Type 0 = λ rest. (words_of (c ∷ cs) ≡ take (word_length rest) rest
+          ∷ words_of (drop (word_length rest) rest)) × (0 < word_length rest) in
+          subst Front (sym there) (rw len (begun c cs other), rw len (omega arith))
+    ]

@@ -1,0 +1,187 @@
+//! Lines of a log.
+
+ghost use Rattle.std.specs.Prelude.{◌≡◌, ◌<◌, ◌==◌, [], length, if◌then◌else◌};
+ghost use Rattle.gw_log.specs.LogLines.{
+  words_of,
+  word_at,
+  entry,
+  is_torn,
+  logged,
+  displayed,
+  in_words,
+  timed,
+  said,
+  line_of,
+};
+
+use crate::digits::are_digits;
+use crate::display;
+use crate::payload::place_of;
+use crate::reading::read_frame;
+use crate::refusal::LogRefusal;
+use crate::words::{behind_blanks, is_bracketed, marked_place, word_at};
+use gw_frame::Frame;
+use std::marker::Model;
+
+/// The most octets of a line.
+pub const MAX_LINE: usize = 65_536;
+
+/// What a line of a log says.
+#[derive(Drop)]
+pub struct LogLine<'a> {
+    time: &'a [u8],
+    interface: &'a [u8],
+    frame: Frame,
+}
+
+impl<'a> Model for LogLine<'a> {
+    ghost use Rattle.gw_log.specs.LogLines.{Entry};
+
+    ghost Value = { Entry };
+
+    ghost view = { λ l. record { time = l.time.now; interface = l.interface.now; octets = l.frame } };
+}
+
+impl<'a> LogLine<'a> {
+    /// The time as it stands, brackets and all. Where the line has none, no octets.
+    pub fn time(&self) -> &'a [u8]
+        ensures { result.now ≡ self.now.time }
+    {
+        self.time
+    }
+
+    /// The interface. Where the line has none, no octets.
+    pub fn interface(&self) -> &'a [u8]
+        ensures { result.now ≡ self.now.interface }
+    {
+        self.interface
+    }
+
+    /// The frame.
+    pub fn frame(&self) -> &Frame
+        ensures { result.now ≡ self.now.octets }
+    {
+        &self.frame
+    }
+}
+
+/// What a line of a log says, with its end or without it. None for blanks alone, and for a comment, which `#` begins.
+///
+/// `(time) interface frame` and the display form of candump are read, and a frame alone too. 101 to 113 (`LogRefusal`) refuse
+/// any other line.
+#[tactic(auto, unfolding(crate::specs::LogLines::line_of))]
+pub fn read_line(line: &[u8]) -> Result<Option<LogLine<'_>>, LogRefusal>
+    ensures { result ≡ line_of line.now }
+{
+    if line.len() > MAX_LINE {
+        return Err(LogRefusal::LongLine);
+    }
+    said(behind_blanks(line))
+}
+
+/// What a line says that no blank begins.
+fn said(text: &[u8]) -> Result<Option<LogLine<'_>>, LogRefusal>
+    ensures { result ≡ said text.now }
+{
+    match text {
+        [] | [b'#', ..] => Ok(None),
+        [b'(', ..] => timed(text),
+        _ => in_words(&[], text),
+    }
+}
+
+/// What a line says that a time begins.
+fn timed(text: &[u8]) -> Result<Option<LogLine<'_>>, LogRefusal>
+    ensures { result ≡ timed text.now }
+{
+    let Some(end) = place_of(b')', text) else {
+        return Err(LogRefusal::OpenTime);
+    };
+    in_words(&text[..end + 1], &text[end + 1..])
+}
+
+/// What the words behind a time say.
+fn in_words<'a>(time: &'a [u8], text: &'a [u8]) -> Result<Option<LogLine<'a>>, LogRefusal>
+    ensures { result ≡ in_words time.now (words_of text.now) }
+{
+    let Some(place) = marked_place(text) else {
+        return Err(LogRefusal::NoFrame);
+    };
+    if is_bracketed(word_at(text, place)) {
+        displayed(time, text, place)
+    } else {
+        logged(time, text, place)
+    }
+}
+
+/// What a line says that has its frame in one word.
+fn logged<'a>(
+    time: &'a [u8],
+    text: &'a [u8],
+    place: usize,
+) -> Result<Option<LogLine<'a>>, LogRefusal>
+    requires { place < length text.now }
+    ensures { result ≡ logged time.now (words_of text.now) place }
+{
+    if place > 1 {
+        return Err(LogRefusal::WordsBefore);
+    }
+    if is_torn(word_at(text, place + 1)) {
+        return Err(LogRefusal::DigitsBehind);
+    }
+    entry(
+        time,
+        interface_before(text, place),
+        read_frame(word_at(text, place)),
+    )
+}
+
+/// The interface before a frame, if one stands there.
+fn interface_before(text: &[u8], place: usize) -> &[u8]
+    ensures { result.now ≡ (if place == 1 then word_at (words_of text.now) 0 else []) }
+{
+    if place == 1 { word_at(text, 0) } else { &[] }
+}
+
+/// What a line of the display says.
+fn displayed<'a>(
+    time: &'a [u8],
+    text: &'a [u8],
+    place: usize,
+) -> Result<Option<LogLine<'a>>, LogRefusal>
+    requires { place < length text.now }
+    ensures { result ≡ displayed time.now (words_of text.now) place }
+{
+    let len = display::bracketed(word_at(text, place))?;
+    let (interface, id) = display::named(text, place)?;
+    entry(
+        time,
+        interface,
+        display::shown_frame(id, text, place + 1, len),
+    )
+}
+
+/// Whether a word is octets that a blank parts from their frame.
+pub fn is_torn(word: &[u8]) -> bool
+    ensures { result ≡ is_torn word.now }
+{
+    word.len() >= 2 && are_digits(word)
+}
+
+/// The line of a time, an interface and a frame.
+fn entry<'a>(
+    time: &'a [u8],
+    interface: &'a [u8],
+    frame: Result<Frame, LogRefusal>,
+) -> Result<Option<LogLine<'a>>, LogRefusal>
+    ensures { result ≡ entry time.now interface.now frame }
+{
+    match frame {
+        Ok(frame) => Ok(Some(LogLine {
+            time,
+            interface,
+            frame,
+        })),
+        Err(why) => Err(why),
+    }
+}
