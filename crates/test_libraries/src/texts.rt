@@ -234,9 +234,18 @@ fn of_logs(rt: HostRuntime) -> Result<(), Fail> {
             LogRefusal::CanFd,
             "`##` begins a frame of CAN FD, and a classic one has one `#`",
         ),
+        (LogRefusal::OpenTime, "a time ends with `)`"),
         (
             LogRefusal::NoFrame,
             "no `#` stands between an identifier and a payload",
+        ),
+        (
+            LogRefusal::WordsBefore,
+            "between the time and the frame stands an interface at most",
+        ),
+        (
+            LogRefusal::DigitsBehind,
+            "a blank stands between the octets of a payload",
         ),
         (
             LogRefusal::NoDigit,
@@ -263,6 +272,7 @@ fn of_logs(rt: HostRuntime) -> Result<(), Fail> {
             LogRefusal::BadCode,
             "behind `_` stands one digit of 9 to F, and before it 8 octets",
         ),
+        (LogRefusal::LongLine, "a line has at most 65536 octets"),
     ];
     for (refusal, text) in &refusals {
         let told = format!(in rt.alloc(); "{text}{form}")?;
