@@ -1,6 +1,6 @@
 -- What was placed is what was sent and what is left, lane by lane and in sums.
-use Rattle.std.proofs.Common.{◌≡◌, ◌∙◌, ℕ, zero, suc, ◌+◌, ◌-◌, ◌*◌, ◌<◌, ◌≤◌, ◌^◌, List, [], ◌∷◌, ◌++◌, length, map, drop}
-use Rattle.std.proofs.Common.{get_or, sum, sum_by, Option, Some, None, sym, ap, subst, refl, arith, length-append}
+use Rattle.std.proofs.Common.{◌≡◌, ◌∙◌, ℕ, suc, ◌+◌, ◌<◌, ◌≤◌, ◌^◌, List, [], ◌∷◌, length, map, drop}
+use Rattle.std.proofs.Common.{get_or, sum, sum_by, Option, Some, None, sym, ap, refl, arith, length-append}
 use Rattle.std.specs.List.{All}
 use Rattle.std.proofs.Math.Nat.{min-eq_left, zero-add}
 use Rattle.std.proofs.lemmas.List.Sums.{sum_by-append, sum_by-cons}
@@ -13,7 +13,7 @@ use Rattle.gw_lanes.specs.Ends.{Inlet, Outlet}
 use Rattle.gw_ports.specs.Ends.{Ingress, Egress, lane_at, ring_to, ring_from, placed_on, taken_from, count_of}
 use Rattle.gw_ports.specs.Ends.{IsSoundIngress, IsSoundEgress}
 use Rattle.gw_ports.specs.Closing.{Lane, lane_of, lanes_to, lanes_of, rows_of, columns_of, heads, tails}
-use Rattle.gw_ports.specs.Closing.{Match, IsLeft, AreLeft}
+use Rattle.gw_ports.specs.Closing.{Match, AreLeft}
 use Rattle.gw_ports.specs.declared.closing.LaneLeft.{LaneLeft}
 
 abbrev pub placed_in : Lane → ℕ

@@ -1,5 +1,5 @@
 -- The copies of a run: those that outcomes placed on a lane, and those that were taken from it.
-use Rattle.std.proofs.Common.{◌≡◌, ◌∙◌, ℕ, ◌+◌, ◌<◌, ◌≤◌, Bool, true, false, cond, MatchBool, List, [], ◌∷◌, ◌++◌, length}
+use Rattle.std.proofs.Common.{◌≡◌, ◌∙◌, ℕ, ◌≤◌, Bool, true, false, cond, MatchBool, List, [], ◌∷◌, ◌++◌, length}
 use Rattle.std.proofs.Common.{get_or, if◌then◌else◌, Option, Some, None, sym, ap, subst, refl, arith, ⊎_elim, append-nil}
 use Rattle.std.proofs.Common.{append_assoc, length-append, eq-eqb, ne_eqb}
 use Rattle.std.proofs.lemmas.Bool.{cases_eq}

@@ -1,5 +1,5 @@
 -- What one more frame, one more lane and one more copy keep of the counts.
-use Rattle.std.proofs.Common.{◌≡◌, ◌∙◌, ℕ, ◌+◌, ◌-◌, ◌*◌, ◌<◌, ◌≤◌, ◌^◌, min, Bool, true, false, if◌then◌else◌, List, [], ◌∷◌}
+use Rattle.std.proofs.Common.{◌≡◌, ◌∙◌, ℕ, ◌+◌, ◌-◌, ◌<◌, ◌≤◌, ◌^◌, Bool, true, false, if◌then◌else◌, List, [], ◌∷◌}
 use Rattle.std.proofs.Common.{◌++◌, length, get_or, sum_by, Option, Some, None, ⊎_elim, sym, ap, refl, arith, length-append}
 use Rattle.std.specs.List.{All}
 use Rattle.std.proofs.Math.Nat.{min-eq_left, min-eq_right}
@@ -12,7 +12,7 @@ use Rattle.gw_ledger.specs.declared.ledger.InLedger.{InLedger}
 use Rattle.gw_ledger.specs.declared.ledger.OutLedger.{OutLedger}
 use Rattle.gw_ledger.specs.declared.outcome.FrameCopy.{FrameCopy}
 use Rattle.gw_ledger.specs.declared.outcome.Outcome.{Outcome}
-use Rattle.gw_lanes.specs.Ends.{Inlet, Outlet, new_inlet}
+use Rattle.gw_lanes.specs.Ends.{Inlet, Outlet}
 use Rattle.gw_ports.specs.Ends.{lane_at, placed_on, taken_from, count_of, IsCounted, CountsSent}
 use Rattle.gw_ports.specs.Making.{IsNewLane}
 use Rattle.gw_ports.specs.Sending.{PopsFrom, sent_with}

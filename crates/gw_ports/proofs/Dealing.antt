@@ -5,7 +5,7 @@ use Rattle.std.specs.List.{All}
 use Rattle.std.proofs.lemmas.Bool.{cases_eq, cases_lt}
 use Rattle.std.proofs.lemmas.List.{get_or-set_same, get_or-set_other, get_or_default, get_or_append_left, get_or_past}
 use Rattle.std.proofs.lemmas.List.{get_or_push, length-set}
-use Rattle.std.proofs.lemmas.List.Elements.{All-head, All-tail, All-nil}
+use Rattle.std.proofs.lemmas.List.Elements.{All-head, All-tail}
 use Rattle.gw_board.proofs.Callers.{All-push}
 use Rattle.gw_lanes.specs.Ends.{Inlet, Outlet, new_inlet, new_outlet}
 use Rattle.gw_ports.specs.Ends.{Egress, lane_at}

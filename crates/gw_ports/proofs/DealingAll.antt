@@ -1,6 +1,6 @@
 -- Dealing out the lanes, port by port.
-use Rattle.std.proofs.Common.{◌≡◌, ◌≢◌, ◌∙◌, ℕ, suc, ◌+◌, ◌-◌, ◌*◌, ◌<◌, ◌≤◌, List, [], ◌∷◌, ◌++◌, length, map, get_or, Option}
-use Rattle.std.proofs.Common.{option_map, ⊎_elim, sym, ap, subst, refl, arith, length-append, append_assoc}
+use Rattle.std.proofs.Common.{◌≡◌, ◌∙◌, ℕ, suc, ◌+◌, ◌-◌, ◌*◌, ◌<◌, List, [], ◌∷◌, ◌++◌, length, map, get_or}
+use Rattle.std.proofs.Common.{option_map, ⊎_elim, sym, ap, subst, arith, length-append, append_assoc}
 use Rattle.std.specs.List.{All}
 use Rattle.std.proofs.lemmas.Bool.{cases_eq}
 use Rattle.std.proofs.lemmas.List.{get_or_append_left, get_or_push, length-map, map-append}
@@ -8,7 +8,7 @@ use Rattle.std.proofs.Math.Nat.{suc-mul}
 use Rattle.std.proofs.Math.ListN.{get_or-map}
 use Rattle.gw_board.specs.Ends.{Board, Known}
 use Rattle.gw_lanes.specs.Ends.{Inlet, Outlet, new_outlet}
-use Rattle.gw_ports.specs.Ends.{Ingress, Egress, lane_at, lane_to}
+use Rattle.gw_ports.specs.Ends.{Ingress, Egress, lane_to}
 use Rattle.gw_ports.specs.Making.{IsNewIngress, AreNewEnds, known_at, lanes_from, new_egress, egress_with}
 use Rattle.gw_ports.proofs.Dealing.{AreNew}
 

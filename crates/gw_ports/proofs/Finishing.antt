@@ -1,10 +1,10 @@
 -- Finishing lanes, one behind the other.
-use Rattle.std.proofs.Common.{◌≡◌, ◌∙◌, ℕ, suc, ◌+◌, ◌<◌, ◌≤◌, List, [], ◌∷◌, ◌++◌, length, map, drop, get_or, Option, Some, None}
-use Rattle.std.proofs.Common.{vec_capacity, sym, ap, subst, refl, arith, append_assoc, append-nil}
+use Rattle.std.proofs.Common.{◌≡◌, ◌∙◌, ℕ, suc, ◌+◌, ◌<◌, ◌≤◌, List, [], ◌∷◌, ◌++◌, length, map, drop, get_or, Option, None}
+use Rattle.std.proofs.Common.{sym, ap, subst, arith, append_assoc, append-nil}
 use Rattle.gw_lanes.specs.Ends.{Inlet, Outlet}
 use Rattle.gw_ports.specs.Ends.{lane_at, ring_to, ring_from}
 use Rattle.std.proofs.lemmas.List.{drop_more, get_or-map, length-map}
-use Rattle.gw_ports.specs.Closing.{Lane, lane_of, lanes_to, lanes_of, heads, tails, Match, IsRoomOf, AreRooms}
+use Rattle.gw_ports.specs.Closing.{Lane, lane_of, lanes_to, lanes_of, heads, tails, Match, AreRooms}
 use Rattle.gw_ports.specs.Closing.{IsLeft, AreLeft, Finishes}
 use Rattle.gw_ports.specs.declared.closing.LaneLeft.{LaneLeft}
 use Rattle.gw_ports.proofs.Rooms.{Passed, each-append, row_behind, row_next, row_end}

@@ -1,5 +1,5 @@
 -- The outcomes of a port's frames, in plain data.
-use Rattle.std.proofs.Common.{◌≡◌, ◌∙◌, ℕ, zero, suc, ◌+◌, ◌<◌, ◌≤◌, Bool, true, false, IsTrue, MatchBool, List, [], ◌∷◌, ◌++◌}
+use Rattle.std.proofs.Common.{◌≡◌, ◌∙◌, ℕ, zero, suc, ◌+◌, ◌<◌, ◌≤◌, Bool, true, false, IsTrue, MatchBool, List, [], ◌∷◌}
 use Rattle.std.proofs.Common.{true≢false, length, get_or, reverse, take, Option, sym, ap, subst, refl, arith}
 use Rattle.std.proofs.lemmas.List.{get_or_append_left, take-append-le, take_at}
 use Rattle.std.specs.List.{fold}

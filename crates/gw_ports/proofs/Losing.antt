@@ -1,6 +1,6 @@
 -- Copies that are lost, in plain data: each was allowed to a port whose lane was full.
-use Rattle.std.proofs.Common.{◌≡◌, ◌∙◌, ℕ, zero, suc, ◌+◌, ◌<◌, ◌≤◌, Bool, true, false, true≢false, cond, IsTrue, MatchBool, IfSome}
-use Rattle.std.proofs.Common.{List, [], ◌∷◌, ◌++◌, length, get_or, take, Option, Some, None, sym, ap, subst, arith, add-zero}
+use Rattle.std.proofs.Common.{◌≡◌, ℕ, zero, suc, ◌+◌, ◌<◌, ◌≤◌, Bool, true, false, true≢false, cond, IsTrue, MatchBool, IfSome}
+use Rattle.std.proofs.Common.{List, [], ◌∷◌, length, get_or, take, Option, Some, None, sym, ap, subst, arith, add-zero}
 use Rattle.std.proofs.Common.{length-append}
 use Rattle.std.proofs.lemmas.List.Elements.{All-head, All-tail}
 use Rattle.std.proofs.lemmas.List.Sums.{sum_by-cons}

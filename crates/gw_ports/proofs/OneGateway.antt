@@ -1,6 +1,6 @@
 -- The parts of one gateway, and that they stay so.
 use Rattle.std.proofs.Common.{◌≡◌, ◌∙◌, ℕ, suc, ◌+◌, ◌<◌, ◌≤◌, Bool, true, false, List, [], ◌∷◌, length, map, drop, slice_set}
-use Rattle.std.proofs.Common.{get_or, Option, Some, None, IsTrue, option_map, sym, ap, subst, refl, arith}
+use Rattle.std.proofs.Common.{get_or, Option, Some, None, option_map, sym, ap, subst, refl, arith}
 use Rattle.std.specs.List.{All}
 use Rattle.std.proofs.lemmas.List.{get_or-map, get_or-drop, length-map, map-set, same_lists, set-get_or}
 use Rattle.gw_board.specs.Ends.{Board, Publishing}
@@ -8,7 +8,7 @@ use Rattle.gw_ledger.specs.Ports.{has_port}
 use Rattle.gw_ledger.specs.declared.outcome.FrameCopy.{FrameCopy}
 use Rattle.gw_lanes.specs.Ends.{Inlet, Outlet, Ring, new_outlet}
 use Rattle.gw_ports.specs.Ends.{Ingress, Egress, EndIn, EndOut, end_in, end_out, lane_at, lane_to, ring_to, ring_from}
-use Rattle.gw_ports.specs.Making.{AreEnds, AreNewEnds, AreOfOneGateway, IsEndIn, IsEndOut, lanes_from, new_egress}
+use Rattle.gw_ports.specs.Making.{AreEnds, AreNewEnds, AreOfOneGateway, IsEndIn, IsEndOut, lanes_from}
 use Rattle.gw_ports.specs.Placing.{PlacesCopies}
 use Rattle.gw_ports.specs.Sending.{PopsFrom}
 use Rattle.gw_ports.specs.Closing.{Match, rows_of, columns_of, heads, tails}

@@ -1,15 +1,15 @@
 -- Placing copies, lane by lane.
-use Rattle.std.proofs.Common.{◌≡◌, ℕ, ◌+◌, ◌<◌, ◌≤◌, ◌==◌, ◌||◌, ◌∙◌, ◌++◌, ◌∷◌, length-append, Bool, true, false, List, []}
-use Rattle.std.proofs.Common.{length, slice_set, get_or, Option, None, IsSome, IsTrue, MatchBool, ⊎_elim, sym, ap, subst, refl}
+use Rattle.std.proofs.Common.{◌≡◌, ℕ, ◌+◌, ◌<◌, ◌≤◌, ◌∙◌, ◌++◌, ◌∷◌, length-append, Bool, true, false, List, []}
+use Rattle.std.proofs.Common.{length, slice_set, Option, None, IsSome, IsTrue, MatchBool, ⊎_elim, sym, ap, subst, refl}
 use Rattle.std.proofs.Common.{arith}
-use Rattle.std.proofs.lemmas.Bool.{cases_eq, cases_lt, eq-eqb, ne_eqb}
+use Rattle.std.proofs.lemmas.Bool.{cases_eq, cases_lt}
 use Rattle.std.proofs.lemmas.List.{get_or-set_same, get_or-set_other, get_or_append_left, get_or_past, get_or_push, length-set}
 use Rattle.gw_ledger.specs.Ports.{has_port}
 use Rattle.gw_ledger.specs.declared.outcome.FrameCopy.{FrameCopy}
 use Rattle.gw_lanes.specs.Ends.{Inlet, Outlet}
 use Rattle.gw_ports.specs.Ends.{lane_at, HasLanes}
 use Rattle.gw_ports.specs.Sending.{PopsFrom}
-use Rattle.gw_ports.specs.Placing.{Appends, WasFull, PlacesCopies, PlacesAt}
+use Rattle.gw_ports.specs.Placing.{Appends, WasFull, PlacesCopies}
 
 -- `PlacesAt`, where only the lanes to the ports below a number were looked at
 abbrev pub At : ℕ → List ℕ → FrameCopy → ℕ → Option Inlet → Option Inlet → Bool → Type 0

@@ -1,6 +1,5 @@
 -- Ingress a copy out of one of several lanes.
 use Rattle.std.proofs.Common.{◌≡◌, ◌∙◌, ℕ, ◌<◌, List, length, slice_set, get_or, Option, Some, None, MatchOption, sym, ap, subst}
-use Rattle.std.proofs.Common.{refl}
 use Rattle.std.proofs.lemmas.List.{get_or-set_same, get_or_default, set-get_or}
 use Rattle.gw_ledger.specs.declared.outcome.FrameCopy.{FrameCopy}
 use Rattle.gw_lanes.specs.Ends.{Outlet}

@@ -1,8 +1,8 @@
 -- The room for the copies of a run: by port, as many as the frames that the other ports take.
 use Rattle.std.proofs.Common.{◌≡◌, ◌∙◌, ℕ, suc, ◌+◌, ◌<◌, ◌≤◌, List, [], ◌∷◌, length, map, get_or, min, slice_set, take, Vec, Global}
-use Rattle.std.proofs.Common.{Option, vec_capacity, ⊎_elim, sym, ap, subst, arith}
+use Rattle.std.proofs.Common.{Option, vec_capacity, ⊎_elim, sym, ap, arith}
 use Rattle.std.proofs.lemmas.Bool.{cases_eq}
-use Rattle.std.proofs.lemmas.List.{get_or-map, get_or-set_other, get_or-set_same, length-map, length-set, take_all}
+use Rattle.std.proofs.lemmas.List.{get_or-map, get_or-set_other, get_or-set_same, length-map, length-set}
 use Rattle.std.proofs.lemmas.List.Sums.{sum_by-cons, sum_by_more}
 use Rattle.std.specs.List.{sum}
 use Rattle.gw_ledger.specs.declared.outcome.FrameCopy.{FrameCopy}

@@ -1,13 +1,12 @@
 -- Room for what is left, lane by lane.
-use Rattle.std.proofs.Common.{◌≡◌, ◌∙◌, ℕ, zero, suc, ◌+◌, ◌<◌, ◌≤◌, List, [], ◌∷◌, ◌++◌, length, map, drop, get_or, Option, Some}
-use Rattle.std.proofs.Common.{None, slice_set, vec_capacity, ⊎_elim, sym, ap, subst, refl, arith, append_assoc, append-nil}
-use Rattle.std.proofs.Common.{length-append, add-one}
+use Rattle.std.proofs.Common.{◌≡◌, ◌∙◌, ℕ, zero, suc, ◌+◌, ◌<◌, ◌≤◌, List, [], ◌∷◌, ◌++◌, length, map, drop, get_or, Option}
+use Rattle.std.proofs.Common.{None, slice_set, ⊎_elim, sym, ap, subst, refl, arith, append_assoc, append-nil}
 use Rattle.std.proofs.lemmas.Bool.{cases_eq}
 use Rattle.std.proofs.lemmas.List.{drop_more, ext_get_or, get_or-map, get_or-set_same, get_or-set_other, length-map, length-set}
 use Rattle.gw_lanes.specs.Ends.{Inlet, Outlet}
 use Rattle.gw_ports.specs.Ends.{Ingress, Egress, lane_at, ring_to, ring_from}
 use Rattle.gw_ports.specs.Closing.{Lane, lane_of, lanes_to, lanes_of, column_at, columns_of, rows_of, heads, tails}
-use Rattle.gw_ports.specs.Closing.{Match, EachOf, IsRoomOf, IsWaiting}
+use Rattle.gw_ports.specs.Closing.{Match, EachOf, IsRoomOf}
 use Rattle.gw_ports.specs.declared.closing.LaneLeft.{LaneLeft}
 
 -- the two lists of one relation, one behind the other

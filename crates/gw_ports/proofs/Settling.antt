@@ -1,5 +1,5 @@
 -- A reading as long as what was told is what was told.
-use Rattle.std.proofs.Common.{◌≡◌, ◌≤◌, List, length, arith, sym, subst, refl}
+use Rattle.std.proofs.Common.{◌≡◌, List, length, arith, sym, subst, refl}
 use mathlib.Core.List.{IsPrefix}
 use Rattle.gw_board.specs.Ends.{Board}
 use Rattle.gw_policy.specs.Batches.{Pair}

@@ -1,14 +1,14 @@
 -- How many copies were placed on all lanes of a port.
-use Rattle.std.proofs.Common.{◌≡◌, ◌∙◌, ℕ, zero, suc, ◌+◌, ◌-◌, ◌<◌, ◌≤◌, Bool, true, false, if◌then◌else◌, List, [], ◌∷◌, ◌++◌}
-use Rattle.std.proofs.Common.{length, take, get_or, sum_by, Option, Some, None, IsTrue, MatchBool, sym, ap, subst, refl, arith}
-use Rattle.std.proofs.Common.{length-append, append-nil}
+use Rattle.std.proofs.Common.{◌≡◌, ◌∙◌, ℕ, zero, suc, ◌+◌, ◌-◌, ◌≤◌, Bool, true, false, if◌then◌else◌, List, [], ◌∷◌, ◌++◌}
+use Rattle.std.proofs.Common.{length, take, sum_by, Option, None, IsTrue, MatchBool, ap, subst, refl, arith}
+use Rattle.std.proofs.Common.{length-append}
 use Rattle.std.proofs.lemmas.List.{take_more, take_all}
 use Rattle.std.proofs.lemmas.List.Sums.{sum_by-append}
 use Rattle.gw_ledger.specs.Ports.{has_port, ports_below, IsPortSet}
 use Rattle.gw_ledger.specs.declared.outcome.FrameCopy.{FrameCopy}
 use Rattle.gw_lanes.specs.Ends.{Inlet}
 use Rattle.gw_ports.specs.Ends.{lane_at, placed_on}
-use Rattle.gw_ports.specs.Placing.{Appends, WasFull, PlacesCopies, PlacesAt}
+use Rattle.gw_ports.specs.Placing.{Appends, WasFull, PlacesCopies}
 
 abbrev flag : Bool → ℕ
 flag b = if b then 1 else 0

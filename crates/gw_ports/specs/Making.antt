@@ -4,7 +4,7 @@ use Rattle.std.specs.Prelude.{IfSome, All}
 use Rattle.gw_board.specs.Ends.{Board, Known, Publishing}
 use Rattle.gw_claims.specs.Holders.{HoldsAfter}
 use Rattle.gw_ledger.specs.declared.ledger.InLedger.{InLedger}
-use Rattle.gw_lanes.specs.Ends.{Ring, Inlet, Outlet, new_inlet, new_outlet}
+use Rattle.gw_lanes.specs.Ends.{Inlet, Outlet, new_inlet, new_outlet}
 use Rattle.gw_ports.specs.Ends.{Ingress, Egress, EndIn, EndOut, end_in, end_out, HasLanes, lane_at, lane_to}
 
 -- the batches that a port knows, and its board

@@ -1,12 +1,12 @@
-use Rattle.std.proofs.Common.{◌≡◌, ◌∙◌, ◌<◌, ◌==◌, ◌||◌, ℕ, Bool, true, false, List, [], length, slice_set, get_or, Option, None}
-use Rattle.std.proofs.Common.{IsTrue, IsSome, MatchBool, sym, ap, subst, refl, arith, rules}
+use Rattle.std.proofs.Common.{◌≡◌, ◌∙◌, ◌<◌, ◌==◌, ◌||◌, ℕ, length, slice_set, get_or, Option, None}
+use Rattle.std.proofs.Common.{IsTrue, IsSome, MatchBool, sym, ap, subst, refl, arith}
 use Rattle.std.proofs.lemmas.Bool.{eq-eqb, ne_eqb}
 use Rattle.std.proofs.lemmas.List.{length-set, get_or_default}
 use Rattle.gw_ledger.specs.Ports.{has_port}
 use Rattle.gw_lanes.specs.Ends.{Inlet}
 use Rattle.gw_ports.specs.Ends.{lane_at}
 use Rattle.gw_ports.specs.Placing.{Appends, WasFull}
-use Rattle.gw_ports.proofs.Placing.{Next, PlacesBelow, not_yet, one_more_lane}
+use Rattle.gw_ports.proofs.Placing.{Next, not_yet, one_more_lane}
 use Rattle.gw_ports.proofs.enqueue.enqueue.Goals as goal
 use Rattle.gw_ports.proofs.enqueue.enqueue.Goals.{then-enqueue_on, else-enqueue_on}
 

@@ -1,6 +1,4 @@
-use Rattle.std.proofs.Common.{◌≡◌, ℕ, ◌<◌, ◌≤◌, length, IsTrue, MatchBool}
-use Rattle.gw_ledger.specs.Ports.{has_port}
-use Rattle.gw_ports.specs.Ends.{lane_at}
+use Rattle.std.proofs.Common.{◌≡◌, length}
 use Rattle.gw_ports.proofs.Placing.{PlacesBelow}
 use Rattle.gw_ports.proofs.enqueue.enqueue.Given as goal
 

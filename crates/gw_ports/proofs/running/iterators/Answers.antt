@@ -1,4 +1,4 @@
-use Rattle.std.proofs.Common.{◌≡◌, ◌∙◌, ◌<◌, ◌∷◌, ℕ, [], List, Vec, Global, arith, ap, get_or, length, map, sym}
+use Rattle.std.proofs.Common.{◌≡◌, ◌∙◌, ◌∷◌, ℕ, [], List, Vec, Global, arith, ap, get_or, length, map, sym}
 use Rattle.std.specs.Vec.Iter.{into_iter_items, into_iter_len}
 use Rattle.std.specs.declared.vec.IntoIter.{IntoIter}
 use Rattle.std.proofs.lemmas.List.{get_or_append_left, get_or_push}

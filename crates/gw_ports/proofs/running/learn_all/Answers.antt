@@ -4,7 +4,7 @@ use mathlib.Core.List.{IsPrefix}
 use Rattle.gw_board.specs.Lists.{longer}
 use Rattle.gw_policy.specs.Batches.{Pair}
 use Rattle.gw_ports.specs.Ends.{Ingress}
-use Rattle.gw_ports.proofs.SettlingAll.{Settles, SettledBelow, one_more_settled}
+use Rattle.gw_ports.proofs.SettlingAll.{Settles, one_more_settled}
 use Rattle.gw_ports.proofs.running.learn_all.Goals as goal
 
 longer_nothing : (batches : List (List Pair)) → longer [] batches ≡ batches

@@ -1,8 +1,7 @@
-use Rattle.std.proofs.Common.{◌≡◌, ◌∙◌, ◌++◌, ◌∷◌, [], ℕ, suc, List, Option, drop, take, length, map, arith, ap, sym, subst}
+use Rattle.std.proofs.Common.{◌≡◌, ◌∙◌, ◌++◌, ◌∷◌, [], suc, List, Option, drop, take, length, map, arith, ap, sym, subst}
 use Rattle.std.specs.Vec.Iter.{into_iter_items}
 use Rattle.std.proofs.lemmas.List.{length-map, nil_from_length, with_items_is}
 use Rattle.gw_lanes.specs.Ends.{Inlet, Outlet}
-use Rattle.gw_ports.specs.Ends.{Ingress}
 use Rattle.gw_ports.specs.Closing.{AreRooms, Finishes, Match, heads, tails, lanes_of, lanes_to, rows_of}
 use Rattle.gw_ports.specs.declared.closing.LaneLeft.{LaneLeft}
 use Rattle.gw_ports.proofs.Finishing.{port_goes_on, all_finished, finishes_nothing}

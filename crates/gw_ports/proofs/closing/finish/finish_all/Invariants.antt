@@ -1,4 +1,4 @@
-use Rattle.std.proofs.Common.{◌≡◌, ℕ, ◌+◌, ◌≤◌, List, length, map, vec_capacity, vec_len}
+use Rattle.std.proofs.Common.{ℕ, ◌+◌, ◌≤◌, List, length, map, vec_capacity, vec_len}
 use Rattle.std.specs.Vec.Iter.{into_iter_items}
 use Rattle.gw_ports.specs.Closing.{AreRooms, Finishes, Match, lanes_of, rows_of}
 use Rattle.gw_ports.specs.declared.closing.LaneLeft.{LaneLeft}

@@ -1,11 +1,10 @@
-use Rattle.std.proofs.Common.{◌≡◌, ◌<◌, ◌≤◌, ◌∙◌, ◌+◌, ◌++◌, ◌∷◌, [], ℕ, List, Option, drop, get_or, slice_set, length, map}
-use Rattle.std.proofs.Common.{arith, ap, sym, subst}
+use Rattle.std.proofs.Common.{◌≡◌, ◌<◌, ◌≤◌, ◌∙◌, ◌+◌, ◌++◌, [], drop, get_or, slice_set, length, map}
+use Rattle.std.proofs.Common.{arith, ap, sym}
 use Rattle.std.specs.Vec.Iter.{into_iter_items}
 use Rattle.std.proofs.lemmas.List.{get_or-map, length-map, map-set}
-use Rattle.gw_lanes.specs.Ends.{Outlet}
 use Rattle.gw_ports.specs.Ends.{lane_at}
 use Rattle.gw_ports.specs.Closing.{heads}
-use Rattle.gw_ports.proofs.Rooms.{Passed, one_passed, all_passed, row_behind}
+use Rattle.gw_ports.proofs.Rooms.{one_passed, all_passed, row_behind}
 use Rattle.gw_ports.proofs.Finishing.{TakesNext, takes_next, columns_of_row, rooms_split, row_goes_on, row_is_done}
 use Rattle.gw_ports.proofs.closing.finish.finish_from.Goals as goal
 

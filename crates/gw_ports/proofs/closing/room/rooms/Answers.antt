@@ -1,7 +1,7 @@
-use Rattle.std.proofs.Common.{◌≡◌, ◌<◌, ◌≤◌, ◌∙◌, ◌++◌, [], List, Option, drop, length, slice_index_or, slice_set, arith, ap}
+use Rattle.std.proofs.Common.{◌≡◌, ◌<◌, ◌≤◌, ◌∙◌, [], List, Option, length, slice_index_or, slice_set, arith, ap}
 use Rattle.std.proofs.Common.{refl, sym, subst}
 use Rattle.std.proofs.lemmas.List.{set-get_or}
-use Rattle.gw_lanes.specs.Ends.{Inlet, Outlet}
+use Rattle.gw_lanes.specs.Ends.{Outlet}
 use Rattle.gw_ports.specs.Closing.{EachOf, IsRoomOf, Match, column_at, columns_of, lanes_of, lanes_to, rows_of}
 use Rattle.gw_ports.specs.declared.closing.LaneLeft.{LaneLeft}
 use Rattle.gw_ports.proofs.Rooms.{AllDone, all_end, columns_from, columns_from_first, no_rows, rooms_go_on, row_pairs}

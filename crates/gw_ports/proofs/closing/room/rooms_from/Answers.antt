@@ -1,8 +1,8 @@
-use Rattle.std.proofs.Common.{◌≡◌, ◌<◌, ◌≤◌, ◌∙◌, ◌++◌, List, Option, None, length, slice_set, slice_index_or, arith, ap, sym}
+use Rattle.std.proofs.Common.{◌≡◌, ◌<◌, ◌≤◌, ◌∙◌, List, Option, None, length, slice_set, slice_index_or, arith, ap, sym}
 use Rattle.std.proofs.Common.{subst}
 use Rattle.std.proofs.lemmas.List.{get_or-map, length-map, set-get_or}
-use Rattle.gw_lanes.specs.Ends.{Inlet, Outlet}
-use Rattle.gw_ports.specs.Ends.{Ingress, Egress, lane_at, ring_to, ring_from}
+use Rattle.gw_lanes.specs.Ends.{Outlet}
+use Rattle.gw_ports.specs.Ends.{Ingress, Egress, lane_at}
 use Rattle.gw_ports.specs.Closing.{EachOf, IsRoomOf, column_at, lane_of}
 use Rattle.gw_ports.proofs.Rooms.{outs_of_row, pair_at, row_ends, row_more}
 use Rattle.gw_ports.proofs.closing.room.rooms_from.Goals as goal

@@ -1,5 +1,5 @@
-use Rattle.std.proofs.Common.{rules, ◌≡◌, ℕ, ◌∙◌, ◌≤◌, ◌<◌, ◌+◌, ◌∷◌, ◌++◌, [], List, length, take, drop, get_or, Option}
-use Rattle.std.proofs.Common.{option_map, All, sym, ap, subst, refl, arith}
+use Rattle.std.proofs.Common.{◌≡◌, ℕ, ◌∙◌, ◌<◌, ◌+◌, ◌∷◌, ◌++◌, [], List, length, take, drop, get_or, Option}
+use Rattle.std.proofs.Common.{option_map, All, sym, ap, subst, arith}
 use Rattle.std.proofs.lemmas.List.{with_items_is}
 use Rattle.std.specs.Vec.Iter.{into_iter_items}
 use Rattle.gw_lanes.specs.Ends.{Inlet, new_outlet}

@@ -1,7 +1,6 @@
-use Rattle.std.proofs.Common.{◌≡◌, ◌∙◌, sym, ap, subst, refl, arith, slice_set, get_or, ◌++◌, ◌∷◌, [], Some, None, map, List}
+use Rattle.std.proofs.Common.{◌≡◌, ◌∙◌, sym, ap, get_or, ◌∷◌, Some, None, map, List}
 use Rattle.std.specs.Vec.Iter.{into_iter_items}
 use Rattle.gw_lanes.specs.Ends.{Inlet, Outlet, new_outlet}
-use Rattle.gw_ports.specs.Ends.{Egress}
 use Rattle.gw_ports.specs.Making.{egress_with}
 use Rattle.gw_ports.proofs.Dealing.{next_dealt}
 use Rattle.gw_ports.proofs.parts.deal.deal_from.Goals as goal

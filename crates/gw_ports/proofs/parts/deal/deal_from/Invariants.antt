@@ -1,4 +1,3 @@
-use Rattle.std.proofs.Common.{◌≡◌}
 use Rattle.std.specs.Vec.Iter.{into_iter_items}
 use Rattle.gw_ports.proofs.Dealing.{Dealt}
 use Rattle.gw_ports.proofs.parts.deal.deal_from.Given as goal

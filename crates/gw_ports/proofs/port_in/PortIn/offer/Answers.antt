@@ -1,6 +1,6 @@
-use Rattle.std.proofs.Common.{◌≡◌, ◌≢◌, ◌<◌, ◌≤◌, ◌+◌, ◌∙◌, ◌++◌, ℕ, Bool, true, false, List, length, map, take, drop}
+use Rattle.std.proofs.Common.{◌≡◌, ◌<◌, ◌≤◌, ◌∙◌, ◌++◌, ℕ, false, List, length, map, take, drop}
 use Rattle.std.proofs.Common.{reverse, Option}
-use Rattle.std.proofs.Common.{IsTrue, IsSome, sum_by, sym, ap, subst, refl, arith}
+use Rattle.std.proofs.Common.{IsTrue, IsSome, sym, ap, subst, refl, arith}
 use Rattle.std.proofs.lemmas.List.{with_items_is}
 use Rattle.gw_policy.specs.Allowed.{allowed_ports}
 use Rattle.gw_claims.specs.Claims.{is_local}
@@ -8,7 +8,7 @@ use Rattle.gw_claims.specs.Holders.{HoldsAfter}
 use Rattle.gw_ledger.specs.Ports.{has_port}
 use Rattle.gw_ledger.specs.declared.outcome.FrameCopy.{FrameCopy}
 use Rattle.gw_lanes.specs.Ends.{Inlet}
-use Rattle.gw_ports.specs.Ends.{Ingress, end_in, lane_at, ring_to, placed_on, HasLanes, CountsPlaced}
+use Rattle.gw_ports.specs.Ends.{Ingress, end_in, lane_at, ring_to, HasLanes, CountsPlaced}
 use Rattle.gw_ports.specs.Placing.{PlacesCopies}
 use Rattle.gw_ports.specs.Offers.{Offered}
 use Rattle.gw_ports.proofs.Judging.{allowed_elsewhere}

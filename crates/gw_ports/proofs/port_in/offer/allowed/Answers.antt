@@ -1,6 +1,5 @@
-use Rattle.std.proofs.Common.{◌≡◌, ◌∙◌, ◌==◌, ◌&&◌, not, ℕ, Bool, List, sym, subst}
+use Rattle.std.proofs.Common.{◌∙◌, ◌==◌, ◌&&◌, not, ℕ, Bool, sym}
 use Rattle.gw_policy.specs.Batches.{passes, policy_at}
-use Rattle.gw_ledger.specs.Ports.{ports_below}
 use Rattle.gw_ports.proofs.Judging.{none_yet, one_more_passes, one_more_blocked}
 use Rattle.gw_ports.proofs.port_in.offer.allowed.Goals as goal
 use Rattle.gw_ports.proofs.port_in.offer.allowed.Goals.{then-may_leave, else-may_leave}

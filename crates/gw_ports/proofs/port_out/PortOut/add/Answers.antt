@@ -1,4 +1,4 @@
-use Rattle.std.proofs.Common.{◌≡◌, ◌++◌, ◌∷◌, ◌<◌, [], List, Option, length, arith, sym, subst, ap, ◌∙◌}
+use Rattle.std.proofs.Common.{◌≡◌, ◌<◌, List, Option, length, arith, sym, subst, ap, ◌∙◌}
 use Rattle.gw_lanes.specs.Ends.{Outlet}
 use Rattle.gw_ports.specs.Ends.{HasLanes, CountsSent}
 use Rattle.gw_ports.proofs.Placing.{has_one_more}

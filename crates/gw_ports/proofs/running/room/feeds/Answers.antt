@@ -1,5 +1,5 @@
-use Rattle.std.proofs.Common.{◌≡◌, ◌∙◌, ◌≤◌, ◌+◌, ◌++◌, ℕ, [], append-nil, arith, ap, length, length-append, map, min}
-use Rattle.std.proofs.Common.{slice_index, subst, sym, vec_capacity}
+use Rattle.std.proofs.Common.{◌≡◌, ◌∙◌, ◌++◌, [], append-nil, arith, ap, length, length-append, map, min}
+use Rattle.std.proofs.Common.{slice_index, sym, vec_capacity}
 use Rattle.std.specs.Vec.Iter.{into_iter_items}
 use Rattle.std.proofs.lemmas.List.{length-map, nil_from_length}
 use Rattle.gw_ports.specs.declared.running.feed.Feed.{Feed}

@@ -1,4 +1,4 @@
-use Rattle.std.proofs.Common.{◌≡◌, ◌∙◌, ◌<◌, ℕ, arith, get_or, length, map, min}
+use Rattle.std.proofs.Common.{◌≡◌, ◌∙◌, ◌<◌, arith, get_or, length, map, min}
 use Rattle.std.proofs.lemmas.List.{get_or-map, length-map}
 use Rattle.gw_ports.proofs.Room.{other_counted, own_left_out}
 use Rattle.gw_ports.proofs.running.room.most_copies.Goals as goal

@@ -1,4 +1,4 @@
-use Rattle.std.proofs.Common.{◌≡◌, ◌∙◌, ℕ, ◌+◌, ◌<◌, ◌++◌, ◌∷◌, [], append_assoc, length, length-append, arith, ap, sym}
+use Rattle.std.proofs.Common.{◌∙◌, ◌++◌, ◌∷◌, [], append_assoc, length, length-append, arith, ap, sym}
 use Rattle.std.specs.Vec.Iter.{into_iter_items}
 use Rattle.gw_ports.proofs.Runs.{more_batches, numbered_more, refused_next}
 use Rattle.gw_ports.proofs.running.publishing.Publishing.publish.Goals as goal
