@@ -14,6 +14,7 @@ use Rattle.gw_replay.specs.Replies.{SessionState}
 use Rattle.gw_replay.specs.Scripts.{asks, meaning_of, Answers}
 use Rattle.gw_replay.specs.Standing.{HasState, IsDone, Done, Begins, StandsIn, IsObeyed, IsAnswered}
 use Rattle.gw_replay.proofs.Sessions.{unless_map}
+use Rattle.gw_replay.proofs.OneAnswer.{reply_told}
 
 -- a command of a gateway
 pub obeyed_on : (s : Option SessionState) (session : Option Session) (old new : Session) (request : Request)
@@ -26,7 +27,7 @@ obeyed_on (Some t) session old new request said is stands done =
     (done t (subst (λ r. StandsIn r (Some t)) is stands))
     (λ kept d. record {
       session = Some d.session;
-      obeys = (record { said = kept; session = d.session }, d.replies, refl);
+      obeys = reply_told t request (record { said = kept; session = d.session }) d.replies;
       stands = d.stands;
     })
 

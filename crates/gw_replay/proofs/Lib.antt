@@ -8,3 +8,6 @@ pub mod Answering
 pub mod OneListing
 pub mod OneRead
 pub mod OneAnswer
+pub mod SomeListing
+pub mod SomeCause
+pub mod SomeAnswer

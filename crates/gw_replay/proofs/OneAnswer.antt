@@ -2,75 +2,59 @@
 use Rattle.std.proofs.Common.{ℕ, ◌≡◌, List, [], ◌∷◌, ◌++◌, reverse, codes, Option, Some, None, Result, Ok, Err, refl, subst, sym}
 use Rattle.std.proofs.Common.{ap, ◌∙◌, append_assoc}
 use Rattle.std.proofs.lemmas.List.{append-nil, reverse-append}
-use Rattle.gw_core.specs.declared.event.Event.TheVariants as event
 use Rattle.gw_policy.specs.Filter.{Filter}
 use Rattle.gw_replay.specs.declared.fault.Fault.{Fault}
 use Rattle.gw_input.specs.declared.records.RecordFault.{RecordFault}
-use Rattle.gw_replay.specs.Faults.{line_of}
-use Rattle.gw_input.specs.Refused.{refused_line}
 use Rattle.gw_input.specs.Lines.{lines_of}
 use Rattle.gw_replay.specs.Requests.{Request, limits_of, program_of, table_of, publish_all, take_at, step_at, send_to, ledger_of}
-use Rattle.gw_replay.specs.Replies.{SessionState, Reply, Replies, after_event, after_taking, after_joining, joined_line}
-use Rattle.gw_replay.specs.Scripts.{Meaning, silent, wrong, asks, meaning_of, Told, Obeys, Answers, AreAnswers, IsAnswer}
-use Rattle.gw_replay.specs.Scripts.{BeginsAnswer}
-use Rattle.gw_replay.proofs.OneRead.{OneRefusal, told_policy, told_record, program_alone, table_alone, record_alone}
-
--- what a script tells of a reply
-abbrev told_of : Reply → Told
-told_of reply = record { text = line_of reply.said; session = Some reply.session }
-
--- what a script tells of a policy that was read: it joins the open batch, or the line of its refusal
-abbrev joined : SessionState → List ℕ → ℕ → Result Filter (List ℕ) → Told
-joined s line port (Ok filter) = told_of (after_joining s line port (Ok filter))
-joined s line port (Err text) = record { text = text; session = Some s }
+use Rattle.gw_replay.specs.Replies.{SessionState, Reply, Replies, after_taking, after_joining, joined_line}
+use Rattle.gw_replay.specs.Scripts.{Meaning, silent, wrong, asks, meaning_of, Told, told_of, told_joining, told_taking, Tells}
+use Rattle.gw_replay.specs.Scripts.{Obeys, Answers, AreAnswers, IsAnswer, BeginsAnswer}
+use Rattle.gw_replay.proofs.OneRead.{OneRefusal, told_policy, told_record, program_alone, program_tells, hex_told}
+use Rattle.gw_replay.proofs.OneRead.{record_spelled}
 
 -- the reply to a policy depends on what was read only as far as a script tells that
 joins : (s : SessionState) (line : List ℕ) (port : ℕ) (read : Result Filter Fault)
-    → told_of (after_joining s line port read) ≡ joined s line port (told_policy read)
+    → told_of (after_joining s line port read) ≡ told_joining s line port (told_policy read)
 joins s line port (Ok filter) = refl
 joins s line port (Err why) = refl
 
--- so readings that are told alike have one reply
-join_alone : (s : SessionState) (line : List ℕ) (port : ℕ) (read other : Result Filter Fault)
-    → told_policy read ≡ told_policy other
-    → told_of (after_joining s line port read) ≡ told_of (after_joining s line port other)
-join_alone s line port read other same =
-    joins s line port read ∙ ap (joined s line port) same ∙ sym (joins s line port other)
-
--- what a script tells of a record that was read: the answer to its taking, or the number of its fault
-abbrev taken : SessionState → ℕ → Result (List ℕ) ℕ → Told
-taken s port (Ok octets) = told_of (after_event s (event.Take port octets))
-taken s port (Err number) = record { text = refused_line number []; session = Some s }
-
--- the reply to a record depends on what was read only as far as a script tells that
+-- and so does the reply to a record
 takes : (s : SessionState) (port : ℕ) (read : Result (List ℕ) RecordFault)
-    → told_of (after_taking s port read) ≡ taken s port (told_record read)
+    → told_of (after_taking s port read) ≡ told_taking s port (told_record read)
 takes s port (Ok octets) = refl
 takes s port (Err why) = refl
 
--- so readings that are told alike have one reply
-take_alone : (s : SessionState) (port : ℕ) (read other : Result (List ℕ) RecordFault) → told_record read ≡ told_record other
-    → told_of (after_taking s port read) ≡ told_of (after_taking s port other)
-take_alone s port read other same = takes s port read ∙ ap (taken s port) same ∙ sym (takes s port other)
+-- what a command replies is told
+pub reply_told : (s : SessionState) (request : Request) (reply : Reply) → Replies s request reply
+    → Tells s request (told_of reply)
+reply_told s (limits_of ports lane versions frames) reply h = ap told_of h
+reply_told s (program_of port listing) reply h = (
+  told_policy h.0,
+  program_tells listing h.0 h.1,
+  ap told_of h.2 ∙ joins s (joined_line (codes "program ") port) port h.0,
+)
+reply_told s (table_of port hex) reply h =
+    ap told_of h.2 ∙ joins s (joined_line (codes "table ") port) port h.0
+    ∙ ap (told_joining s (joined_line (codes "table ") port) port) (hex_told hex h.0 h.1)
+reply_told s publish_all reply h = ap told_of h
+reply_told s (take_at port hex) reply h =
+    ap told_of h.2 ∙ takes s port h.0 ∙ ap (told_taking s port) (record_spelled hex h.0 h.1)
+reply_told s (step_at port) reply h = ap told_of h
+reply_told s (send_to to from) reply h = ap told_of h
+reply_told s (ledger_of port) reply h = ap told_of h
 
--- a command has one reply
-replies_alone : OneRefusal → (s : SessionState) (request : Request) (p q : Reply) → Replies s request p → Replies s request q
-    → told_of p ≡ told_of q
-replies_alone law s (limits_of ports lane versions frames) p q h k = ap told_of (h ∙ sym k)
-replies_alone law s (program_of port listing) p q h k =
-    ap told_of h.2
-    ∙ join_alone s (joined_line (codes "program ") port) port h.0 k.0 (program_alone law listing h.0 k.0 h.1 k.1)
-    ∙ sym (ap told_of k.2)
-replies_alone law s (table_of port hex) p q h k =
-    ap told_of h.2
-    ∙ join_alone s (joined_line (codes "table ") port) port h.0 k.0 (table_alone hex h.0 k.0 h.1 k.1)
-    ∙ sym (ap told_of k.2)
-replies_alone law s publish_all p q h k = ap told_of (h ∙ sym k)
-replies_alone law s (take_at port hex) p q h k =
-    ap told_of h.2 ∙ take_alone s port h.0 k.0 (record_alone hex h.0 k.0 h.1 k.1) ∙ sym (ap told_of k.2)
-replies_alone law s (step_at port) p q h k = ap told_of (h ∙ sym k)
-replies_alone law s (send_to to from) p q h k = ap told_of (h ∙ sym k)
-replies_alone law s (ledger_of port) p q h k = ap told_of (h ∙ sym k)
+-- a command has one answer
+tells_alone : OneRefusal → (s : SessionState) (request : Request) (a b : Told) → Tells s request a → Tells s request b → a ≡ b
+tells_alone law s (limits_of ports lane versions frames) a b h k = h ∙ sym k
+tells_alone law s (program_of port listing) a b h k =
+    h.2 ∙ ap (told_joining s (joined_line (codes "program ") port) port) (program_alone law listing h.0 k.0 h.1 k.1) ∙ sym k.2
+tells_alone law s (table_of port hex) a b h k = h ∙ sym k
+tells_alone law s publish_all a b h k = h ∙ sym k
+tells_alone law s (take_at port hex) a b h k = h ∙ sym k
+tells_alone law s (step_at port) a b h k = h ∙ sym k
+tells_alone law s (send_to to from) a b h k = h ∙ sym k
+tells_alone law s (ledger_of port) a b h k = h ∙ sym k
 
 -- a line has one answer
 answers_alone : OneRefusal → (s : Option SessionState) (meaning : Meaning) (a b : Told) → Answers s meaning a
@@ -82,7 +66,7 @@ answers_alone law s (asks request) a b h k = obeyed s h k
   where
     obeyed : (s : Option SessionState) → Obeys s request a → Obeys s request b → a ≡ b
     obeyed None h k = h ∙ sym k
-    obeyed (Some s) h k = h.2 ∙ replies_alone law s request h.0 k.0 h.1 k.1 ∙ sym k.2
+    obeyed (Some s) h k = tells_alone law s request a b h k
 
 -- what stands after one line more
 abbrev after_one : Told → Told → Told

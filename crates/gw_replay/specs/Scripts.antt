@@ -1,6 +1,6 @@
 -- The answers of a script: each line is judged after the lines before it.
 use Rattle.std.specs.Prelude.{◌≡◌, ◌≤◌, ℕ, ◌==◌, Bool, true, not, ◌&&◌, nat_le, nat_lt, if◌then◌else◌, List, [], ◌∷◌, ◌++◌}
-use Rattle.std.specs.Prelude.{length, reverse, codes, Option, Some, None, Result, Err}
+use Rattle.std.specs.Prelude.{length, reverse, codes, Option, Some, None, Result, Ok, Err}
 use Rattle.std.specs.List.{list_all}
 use Rattle.std.specs.Option.{option_map_or}
 use Rattle.gw_ledger.specs.Bounds.{Bounds}
@@ -9,8 +9,13 @@ use Rattle.gw_replay.specs.declared.fault.Fault.TheVariants as fault
 use Rattle.gw_replay.specs.Faults.{line_of}
 use Rattle.gw_input.specs.declared.bounds.TheConstants.{MAX_INPUT}
 use Rattle.gw_input.specs.Lines.{lines_of}
-use Rattle.gw_replay.specs.Requests.{Request, limits_of, request_of}
-use Rattle.gw_replay.specs.Replies.{SessionState, Reply, Replies}
+use Rattle.gw_policy.specs.Filter.{Filter}
+use Rattle.gw_core.specs.declared.event.Event.TheVariants as event
+use Rattle.gw_input.specs.Refused.{refused_line}
+use Rattle.gw_replay.specs.Requests.{Request, limits_of, program_of, table_of, publish_all, take_at, step_at, send_to, ledger_of}
+use Rattle.gw_replay.specs.Requests.{request_of}
+use Rattle.gw_replay.specs.Telling.{TellsProgram, table_told, record_told}
+use Rattle.gw_replay.specs.Replies.{SessionState, Reply, after_event, after_joining, after_publishing, joined_line, ledger_said}
 
 -- what a line says by itself: nothing, no command, or a command
 pub data Meaning : Type 0 where
@@ -70,11 +75,37 @@ first_told (limits_of ports lane versions frames) =
     after_limits (record { ports = ports; lane = lane; versions = versions; frames = frames })
 first_told _ = told_without (Err fault.NoLimits)
 
+-- what a script tells of a reply
+abbrev pub told_of : Reply → Told
+told_of reply = record { text = line_of reply.said; session = Some reply.session }
+
+-- of a policy's text: the policy joins the open batch, or the line says why there is none
+abbrev pub told_joining : SessionState → List ℕ → ℕ → Result Filter (List ℕ) → Told
+told_joining s line port (Ok filter) = told_of (after_joining s line port (Ok filter))
+told_joining s line port (Err text) = record { text = text; session = Some s }
+
+-- of a record's text: the frame is taken, or the line has the number of its refusal
+abbrev pub told_taking : SessionState → ℕ → Result (List ℕ) ℕ → Told
+told_taking s port (Ok octets) = told_of (after_event s (event.Take port octets))
+told_taking s port (Err number) = record { text = refused_line number []; session = Some s }
+
+-- the answer of a command once limits were accepted, and what stands afterwards
+abbrev pub Tells : SessionState → Request → Told → Type 0
+Tells s (limits_of ports lane versions frames) told = told ≡ told_of (record { said = Err fault.SecondLimits; session = s })
+Tells s (program_of port listing) told =
+    (read : Result Filter (List ℕ)) × TellsProgram listing read
+    × (told ≡ told_joining s (joined_line (codes "program ") port) port read)
+Tells s (table_of port hex) told = told ≡ told_joining s (joined_line (codes "table ") port) port (table_told hex)
+Tells s publish_all told = told ≡ told_of (after_publishing s)
+Tells s (take_at port hex) told = told ≡ told_taking s port (record_told hex)
+Tells s (step_at port) told = told ≡ told_of (after_event s (event.Step port))
+Tells s (send_to to from) told = told ≡ told_of (after_event s (event.Send to from))
+Tells s (ledger_of port) told = told ≡ told_of (record { said = ledger_said s port; session = s })
+
 -- the answer of a command, and what stands afterwards
 abbrev pub Obeys : Option SessionState → Request → Told → Type 0
 Obeys None request told = told ≡ first_told request
-Obeys (Some s) request told =
-    (reply : Reply) × Replies s request reply × (told ≡ record { text = line_of reply.said; session = Some reply.session })
+Obeys (Some s) request told = Tells s request told
 
 -- the answer of a line by its meaning
 abbrev pub Answers : Option SessionState → Meaning → Told → Type 0

@@ -11,5 +11,5 @@ mod script_reader;
 mod session;
 mod whole;
 
-pub use laws::scripts_have_one_answer;
+pub use laws::{scripts_are_answered, scripts_have_one_answer};
 pub use whole::{ReplayFault, replay, replay_told};
