@@ -5,13 +5,12 @@ ghost use Rattle.clap.specs.Values.{kind_of};
 ghost use Rattle.gw_io.specs.Tries.{inner_of, has_failed, reads_of};
 ghost use Rattle.gw_commands.specs.Commands.{Does, WritesText};
 ghost use Rattle.gw_commands.specs.Verdicts.{AnswersVerdict, RefusesVerdict};
-ghost use Rattle.gw_cli.specs.Asked.{AnswersWords, DoesAsked, DoesWords};
+ghost use Rattle.gw_cli.specs.Asked.{AnswersWords, DoesWords};
 
 use crate::arguments::{Request, read_arguments};
-use crate::run_arguments::wrong;
 use clap::Error;
 use clap::error::ErrorKind;
-use gw_commands::{Refusal, asm, check, claims, list, replay, respond, table, verdict};
+use gw_commands::{Query, Refusal, answer_query, replay, respond};
 use gw_io::{Tried, WriteFault, write_all};
 use std::alloc::Global;
 use std::convert::AsStr;
@@ -41,45 +40,16 @@ pub fn command<S: AsStr, R: Read, W: Write, F: Write>(
         (F.contents (inner_of faults.old)) (F.contents (inner_of faults.new)) (has_failed faults.new) result }
 {
     if words.is_empty() {
-        return verdict(alloc, 0, None, input, output, faults);
+        let first = Query::Verdict {
+            port: 0,
+            record: None,
+        };
+        return answer_query(alloc, first, input, output, faults);
     }
     match read_arguments(alloc, words) {
-        Ok(request) => do_asked(alloc, request, input, output, faults),
+        Ok(Request::Query(query)) => answer_query(alloc, query, input, output, faults),
+        Ok(Request::Replay) => replay(alloc, input, output, faults),
         Err(error) => answer_words(alloc, &error, output, faults),
-    }
-}
-
-/// Does what is asked for. Arguments that name `run`, but not first, are wrong.
-fn do_asked<R: Read, W: Write, F: Write>(
-    alloc: Global,
-    request: Request,
-    input: &mut Tried<R>,
-    output: &mut Tried<W>,
-    faults: &mut Tried<F>,
-) -> u8
-    requires unread { reads_of input.old ≡ 0 }
-    requires input { has_failed input.old ≡ false }
-    requires output { has_failed output.old ≡ false }
-    requires faults { has_failed faults.old ≡ false }
-    ensures { DoesAsked request.entry (R.remaining (inner_of input.old)) (R.remaining (inner_of input.new))
-        (has_failed input.new) (reads_of input.new)
-        (W.contents (inner_of output.old)) (W.contents (inner_of output.new)) (has_failed output.new)
-        (F.contents (inner_of faults.old)) (F.contents (inner_of faults.new)) (has_failed faults.new) result }
-{
-    match request {
-        Request::Verdict { port, record } => verdict(alloc, port, record, input, output, faults),
-        Request::Check => check(alloc, input, output, faults),
-        Request::Asm => asm(alloc, input, output, faults),
-        Request::List => list(alloc, input, output, faults),
-        Request::Claims => claims(alloc, input, output, faults),
-        Request::Replay => replay(alloc, input, output, faults),
-        Request::Table { port, frame, why } => {
-            table(alloc, port, frame, why, input, output, faults)
-        }
-        Request::Run => {
-            let error = wrong(alloc, "`run` must be the first word");
-            answer_words(alloc, &error, output, faults)
-        }
     }
 }
 

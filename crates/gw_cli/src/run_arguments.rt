@@ -2,7 +2,7 @@
 
 ghost use Rattle.std.specs.Prelude.{◌≡◌, length, vec_len, IfOk};
 
-use crate::arguments::matched;
+use crate::arguments::{described, flag, matched, valued};
 use clap::error::ErrorKind;
 use clap::{Arg, ArgAction, ArgMatches, Command, Error, value_parser};
 use gw_commands::PolicySource;
@@ -26,93 +26,70 @@ pub struct RunRequest<'a> {
     pub progress: bool,
 }
 
-// The options stand in functions of their own: a function of all seven takes the prover minutes.
-
 /// The command `run`, as `clap` reads it and shows its help.
 pub fn run_arguments<'a>(alloc: Global) -> Result<Command<'a>, AllocError> {
-    described(alloc)
-        .arg(ports_option(alloc))?
-        .arg(lane_option(alloc))?
-        .arg(program_option(alloc))?
-        .arg(table_option(alloc))?
-        .arg(listing_option(alloc))?
-        .arg(lanes_option(alloc))?
-        .arg(progress_option(alloc))
-}
-
-/// The command without its options.
-fn described<'a>(alloc: Global) -> Command<'a> {
-    Command::new(alloc, "run")
-        .about(
-            "Forwards the frames of a trace in threads, and tells what each port took and let leave",
-        )
-        .override_usage(
-            "gw run --ports N [--lane N] [--program LISTING] [--table P=FILE].. [--listing P=FILE].. \
-            [--lanes] [--progress] < TRACE",
-        )
-        .after_help("Example: gw run --ports 2 --program '1,6 0 0 1,' < TRACE")
+    described(
+        alloc,
+        "run",
+        "Forwards the frames of a trace in threads, and tells what each port took and let leave",
+        "gw run --ports N [--lane N] [--program LISTING] [--table P=FILE].. [--listing P=FILE].. \
+        [--lanes] [--progress] < TRACE",
+        "Example: gw run --ports 2 --program '1,6 0 0 1,' < TRACE",
+    )
+    .arg(ports_option(alloc))?
+    .arg(lane_option(alloc))?
+    .arg(valued(
+        alloc,
+        "program",
+        "LISTING",
+        "The listing of a program that decides what leaves at each port that no other option names",
+    ))?
+    .arg(file_option(
+        alloc,
+        "table",
+        "A table that decides what leaves at port P; once for each port",
+    ))?
+    .arg(file_option(
+        alloc,
+        "listing",
+        "A file with a program's listing that decides what leaves at port P; once for each port",
+    ))?
+    .arg(flag(
+        alloc,
+        "lanes",
+        "Tells behind the ports what was placed and lost on the way from each port to each other",
+    ))?
+    .arg(flag(
+        alloc,
+        "progress",
+        "Tells on stderr, once a second, how many frames are done",
+    ))
 }
 
 fn ports_option<'a>(alloc: Global) -> Arg<'a> {
-    Arg::new(alloc, "ports")
-        .long("ports")
-        .value_name("N")
-        .required(true)
-        .value_parser(value_parser!(u32).range(2..=16))
-        .help("The number of ports, 2 to 16; frame i of the trace is taken at port i mod N")
+    valued(
+        alloc,
+        "ports",
+        "N",
+        "The number of ports, 2 to 16; frame i of the trace is taken at port i mod N",
+    )
+    .required(true)
+    .value_parser(value_parser!(u32).range(2..=16))
 }
 
 fn lane_option<'a>(alloc: Global) -> Arg<'a> {
-    Arg::new(alloc, "lane")
-        .long("lane")
-        .value_name("N")
-        .value_parser(value_parser!(u32).range(1..=1024))
-        .help(
-            "How many copies may wait on the way from one port to another, 1 to 1024 [default: 64]",
-        )
+    valued(
+        alloc,
+        "lane",
+        "N",
+        "How many copies may wait on the way from one port to another, 1 to 1024 [default: 64]",
+    )
+    .value_parser(value_parser!(u32).range(1..=1024))
 }
 
-fn program_option<'a>(alloc: Global) -> Arg<'a> {
-    Arg::new(alloc, "program")
-        .long("program")
-        .value_name("LISTING")
-        .help(
-            "The listing of a program that decides what leaves at each port that no other option names",
-        )
-}
-
-fn table_option<'a>(alloc: Global) -> Arg<'a> {
-    Arg::new(alloc, "table")
-        .long("table")
-        .value_name("P=FILE")
-        .action(ArgAction::Append)
-        .help("A table that decides what leaves at port P; once for each port")
-}
-
-fn listing_option<'a>(alloc: Global) -> Arg<'a> {
-    Arg::new(alloc, "listing")
-        .long("listing")
-        .value_name("P=FILE")
-        .action(ArgAction::Append)
-        .help(
-            "A file with a program's listing that decides what leaves at port P; once for each port",
-        )
-}
-
-fn lanes_option<'a>(alloc: Global) -> Arg<'a> {
-    Arg::new(alloc, "lanes")
-        .long("lanes")
-        .action(ArgAction::SetTrue)
-        .help(
-            "Tells behind the ports what was placed and lost on the way from each port to each other",
-        )
-}
-
-fn progress_option<'a>(alloc: Global) -> Arg<'a> {
-    Arg::new(alloc, "progress")
-        .long("progress")
-        .action(ArgAction::SetTrue)
-        .help("Tells on stderr, once a second, how many frames are done")
+/// An option that names a file for a port, once for each.
+fn file_option<'a>(alloc: Global, name: &'a str, help: &'a str) -> Arg<'a> {
+    valued(alloc, name, "P=FILE", help).action(ArgAction::Append)
 }
 
 /// What the arguments ask for where they name the command `run`, or `clap`'s answer to them: help, or what is wrong.
@@ -130,14 +107,37 @@ pub fn read_run<'a, S: AsStr>(alloc: Global, words: &'a [S]) -> Result<RunReques
 fn asked<'a>(alloc: Global, run: &ArgMatches<'a>) -> Result<RunRequest<'a>, Error>
     ensures { IfOk result (λ run. vec_len run.sources ≡ run.limits.ports) }
 {
+    let limits = asked_limits(alloc, run)?;
+    let sources = asked_sources(alloc, run, limits.ports() as usize)?;
+    Ok(RunRequest {
+        limits,
+        sources,
+        lanes: run.get_flag("lanes"),
+        progress: run.get_flag("progress"),
+    })
+}
+
+/// The limits of the gateway.
+fn asked_limits(alloc: Global, run: &ArgMatches) -> Result<Limits, Error> {
     let ports = run.get_one::<u32>("ports").unwrap_or(2);
     let lane = run.get_one::<u32>("lane").unwrap_or(LANE);
-    let Ok(limits) = Limits::new(ports, lane, 1, FRAMES) else {
-        return Err(wrong(
+    match Limits::new(ports, lane, 1, FRAMES) {
+        Ok(limits) => Ok(limits),
+        Err(_) => Err(wrong(
             alloc,
             "a gateway has 2 to 16 ports, and lanes of 1 to 1024 copies",
-        ));
-    };
+        )),
+    }
+}
+
+/// Where the policy of each of so many ports comes from.
+fn asked_sources<'a>(
+    alloc: Global,
+    run: &ArgMatches<'a>,
+    ports: usize,
+) -> Result<Vec<PolicySource<'a>>, Error>
+    ensures { IfOk result (λ sources. vec_len sources ≡ ports) }
+{
     let program = run.get_str("program");
     let tables = run.get_strs("table").unwrap_or(&[]);
     let listings = run.get_strs("listing").unwrap_or(&[]);
@@ -148,15 +148,10 @@ fn asked<'a>(alloc: Global, run: &ArgMatches<'a>) -> Result<RunRequest<'a>, Erro
         ));
     }
     let others = program.map_or(PolicySource::Opening, PolicySource::Program);
-    let mut sources = vec![in alloc; others; limits.ports() as usize]?;
+    let mut sources = vec![in alloc; others; ports]?;
     name_files(alloc, tables, FileKind::Table, &mut sources)?;
     name_files(alloc, listings, FileKind::Listing, &mut sources)?;
-    Ok(RunRequest {
-        limits,
-        sources,
-        lanes: run.get_flag("lanes"),
-        progress: run.get_flag("progress"),
-    })
+    Ok(sources)
 }
 
 /// What a file of a source has.
@@ -176,7 +171,10 @@ fn name_files<'a>(
     ensures { length sources.new ≡ length sources.old }
 {
     for word in words {
-        let (port, file) = named_port(alloc, word, sources)?;
+        let (port, file) = match named_port(word, sources) {
+            Ok(named) => named,
+            Err(fault) => return Err(wrong(alloc, &told(alloc, word, sources.len(), fault)?)),
+        };
         if let Some(place) = sources.get_mut(port) {
             *place = match kind {
                 FileKind::Table => PolicySource::Table(file),
@@ -187,35 +185,50 @@ fn name_files<'a>(
     Ok(())
 }
 
+/// Why a word names no port and its file.
+#[derive(Clone, Copy)]
+enum WordFault<'a> {
+    /// It is no `P=FILE`.
+    NoFile,
+    /// The port is not there.
+    NoPort,
+    /// A file is named for this port before.
+    Twice(&'a str),
+}
+
 /// The port and the file of `P=FILE`, where the port is there and no file is named for it before.
 fn named_port<'a>(
-    alloc: Global,
     word: &'a str,
     sources: &[PolicySource],
-) -> Result<(usize, &'a str), Error> {
-    let Some((port, file)) = word.split_once('=') else {
-        let text = format!(in alloc;
-            "`{word}` is no `P=FILE`: write the number of a port, `=` and the name of a file"
-        )?;
-        return Err(wrong(alloc, &text));
+) -> Result<(usize, &'a str), WordFault<'a>> {
+    let Some((number, file)) = word.split_once('=') else {
+        return Err(WordFault::NoFile);
     };
-    let found = port.parse::<usize>().ok();
-    match found.and_then(|port| sources.get(port)) {
-        Some(PolicySource::Table(_) | PolicySource::Listing(_)) => {
-            let text = format!(in alloc;
-                "port {port} is named twice: give it one table or one listing"
-            )?;
-            Err(wrong(alloc, &text))
-        }
-        Some(_) => Ok((found.unwrap_or(0), file)),
-        None => {
-            let ports = sources.len();
+    let Ok(port) = number.parse::<usize>() else {
+        return Err(WordFault::NoPort);
+    };
+    match sources.get(port) {
+        Some(PolicySource::Table(_) | PolicySource::Listing(_)) => Err(WordFault::Twice(number)),
+        Some(_) => Ok((port, file)),
+        None => Err(WordFault::NoPort),
+    }
+}
+
+/// What is told of a word that names no one of so many ports.
+fn told(alloc: Global, word: &str, ports: usize, fault: WordFault) -> Result<String, AllocError> {
+    match fault {
+        WordFault::NoFile => format!(in alloc;
+            "`{word}` is no `P=FILE`: write the number of a port, `=` and the name of a file"
+        ),
+        WordFault::NoPort => {
             let most = ports.saturating_sub(1);
-            let text = format!(in alloc;
+            format!(in alloc;
                 "`{word}` names no port of {ports}: write a number from 0 to {most} before the `=`"
-            )?;
-            Err(wrong(alloc, &text))
+            )
         }
+        WordFault::Twice(port) => format!(in alloc;
+            "port {port} is named twice: give it one table or one listing"
+        ),
     }
 }
 

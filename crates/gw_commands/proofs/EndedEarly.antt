@@ -9,12 +9,12 @@ use Rattle.gw_replay.specs.Written.{IsPartlyReplayed, IsReplayFault}
 use Rattle.gw_commands.specs.declared.refusal.Refusal.{Refusal}
 use Rattle.gw_io.specs.Written.{WritesPart}
 use Rattle.gw_commands.specs.Commands.{Writes}
-use Rattle.gw_commands.specs.Refusals.{refusal_line}
+use Rattle.gw_commands.specs.Refusals.{refusal_text}
 use Rattle.gw_commands.specs.Replays.{Replays, fault_line}
 
 -- the line was written behind the answers, or a beginning of it where a write failed
 pub ended_early : (before after : Option (List ℕ)) (read_failed : Bool) (reads : ℕ) (old middle new : Option (List ℕ))
-    (write_failed : Bool) (status : ℕ) (why : ReplayFault) (r : Refusal) → refusal_line r ≡ fault_line why
+    (write_failed : Bool) (status : ℕ) (why : ReplayFault) (r : Refusal) → refusal_text r ≡ fault_line why
     → IsReplayFault read_failed reads write_failed why → IsPartlyReplayed before after old middle
     → Writes (Err r) status middle new write_failed → Replays before after read_failed reads old new write_failed status
 ended_early before after read_failed reads old middle new false status why r same is answers written =

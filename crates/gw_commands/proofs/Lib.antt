@@ -4,5 +4,5 @@ pub mod EndedEarly
 pub mod FirstBatch
 pub mod Forwarded
 pub mod Forwards
-pub mod Found
 pub mod PathsTold
+pub mod RefusalTexts

@@ -1,5 +1,5 @@
 -- What the command `check` answers, and how it explains a refusal.
-use Rattle.std.specs.Prelude.{◌≡◌, ℕ, Bool, List, [], ◌∷◌, ◌++◌, length, codes, decimal, Option, Some, None, Result, Err}
+use Rattle.std.specs.Prelude.{◌≡◌, ℕ, List, [], ◌∷◌, ◌++◌, length, codes, decimal, Some, None}
 use Rattle.std.specs.List.{flat_map}
 use Rattle.gw_insn.specs.declared.insn.Insn.{Insn}
 use Rattle.gw_insn.specs.Listing.{IsListing}
@@ -11,10 +11,10 @@ use Rattle.gw_verify.specs.Accepted.{IsRefusal}
 use Rattle.gw_commands.specs.declared.answer.Answer.{Answer}
 use Rattle.gw_commands.specs.declared.answer.Answer.TheVariants.{Accepted}
 use Rattle.gw_commands.specs.declared.refusal.Refusal.{Refusal}
-use Rattle.gw_commands.specs.declared.refusal.Refusal.TheVariants.{Program, OutOfMemory}
+use Rattle.gw_commands.specs.declared.refusal.Refusal.TheVariants.{Program, Explained, OutOfMemory}
 use Rattle.gw_input.specs.Programs.{NamesProgram}
-use Rattle.gw_commands.specs.Commands.{IsFound, WritesText, found_status, found_text}
-use Rattle.gw_commands.specs.Refusals.{refusal_line}
+use Rattle.gw_input.specs.Refused.{refused_line, cause_details}
+use Rattle.gw_verify.specs.Cause.{cause_number}
 use Rattle.gw_commands.specs.Verdicts.{IsProgramRefusal}
 
 -- the number of instructions of the accepted program
@@ -25,6 +25,11 @@ AnswersCheck input _ = ⊥
 -- `path` and the places
 abbrev pub path_line : List ℕ → List ℕ
 path_line places = codes "path" ++ flat_map (λ n. 32 ∷ decimal n) places ++ 10 ∷ []
+
+-- the line of a path stands before that of the refusal
+abbrev pub explained_lines : Refused → List ℕ → List ℕ
+explained_lines refused places =
+    path_line places ++ refused_line (cause_number refused.why) (cause_details refused.why refused.place)
 
 -- a scratch word that may be unset
 abbrev pub IsUnset : Cause → Type 0
@@ -40,23 +45,13 @@ LeavesUnset _ forms place places = ⊥
 abbrev pub Refuses : List ℕ → Refused → Type 0
 Refuses input refused = IsListing input refused.code.items × IsRefusal (forms_of refused.code.items) refused.why refused.place
 
--- an unset word has a path, and for that memory may be wanting; no other refusal has one
+-- an unset word has a path, whose line stands before that of the refusal, and for that memory may be wanting; no other refusal
+-- has one
 abbrev pub RefusesCheck : List ℕ → Refusal → Type 0
-RefusesCheck input (Program refused (Some path)) =
+RefusesCheck input (Explained refused path lines) =
     Refuses input refused × LeavesUnset refused.why (forms_of refused.code.items) refused.place path.places.items
+    × (lines.items ≡ explained_lines refused path.places.items)
+RefusesCheck input (Program refused (Some path)) = ⊥
 RefusesCheck input (Program refused None) = Refuses input refused × (IsUnset refused.why → ⊥)
 RefusesCheck input OutOfMemory = (refused : Refused) × Refuses input refused × IsUnset refused.why
 RefusesCheck input refusal = IsProgramRefusal input refusal
-
--- the output for what was found: the line of a path stands before that of its refusal
-abbrev pub check_text : Result Answer Refusal → List ℕ
-check_text (Err (Program refused (Some path))) = path_line path.places.items ++ refusal_line (Program refused (Some path))
-check_text found = found_text found
-
--- what the command found is written, and tells the status: `before` and `after` are what its reader has left, `old` and `new`
--- what its writer took
-pub record Checks (before after : Option (List ℕ)) (failed : Bool) (old new : Option (List ℕ)) (write_failed : Bool) (status : ℕ)
-    : Type 0 where
-  pub found : Result Answer Refusal
-  pub is_found : IsFound AnswersCheck RefusesCheck before after failed found
-  pub written : WritesText (check_text found) (found_status found) status old new write_failed

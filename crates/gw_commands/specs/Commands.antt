@@ -7,7 +7,7 @@ use Rattle.gw_commands.specs.declared.answer.Answer.{Answer}
 use Rattle.gw_commands.specs.declared.refusal.Refusal.{Refusal}
 use Rattle.gw_commands.specs.declared.refusal.Refusal.TheVariants.{ReadFault, TooMuchInput, OutOfMemory}
 use Rattle.gw_commands.specs.Answers.{answer_text}
-use Rattle.gw_commands.specs.Refusals.{refusal_line}
+use Rattle.gw_commands.specs.Refusals.{refusal_text}
 
 -- the reader gave this input, has no more, and never failed
 pub record IsInput (before after : Option (List ℕ)) (failed : Bool) (input : List ℕ) : Type 0 where
@@ -52,7 +52,7 @@ IsFound Answers Refuses before after failed found =
 -- the output for what was found, and the status
 abbrev pub found_text : Result Answer Refusal → List ℕ
 found_text (Ok answer) = answer_text answer
-found_text (Err refusal) = refusal_line refusal
+found_text (Err refusal) = refusal_text refusal
 
 abbrev pub found_status : Result Answer Refusal → ℕ
 found_status (Ok answer) = 0

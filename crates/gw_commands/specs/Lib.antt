@@ -5,6 +5,7 @@ pub mod Checks
 pub mod ClaimLines
 pub mod Commands
 pub mod Forwarding
+pub mod Queries
 pub mod Refusals
 pub mod Replays
 pub mod Tables

@@ -12,7 +12,7 @@ use Rattle.gw_trace.specs.declared.refusal.TraceRefusal.{TraceRefusal}
 use Rattle.gw_trace.specs.declared.refusal.TraceRefusal.TheVariants.{BadRecord}
 use Rattle.gw_commands.specs.declared.refusal.Refusal.{Refusal}
 use Rattle.gw_commands.specs.declared.refusal.Refusal.TheVariants as refusal
-use Rattle.gw_commands.specs.declared.refusal.Refusal.TheVariants.{Record, RecordOnLine, Listing, Program, Assembler}
+use Rattle.gw_commands.specs.declared.refusal.Refusal.TheVariants.{Record, RecordOnLine, Listing, Program, Explained, Assembler}
 use Rattle.gw_commands.specs.declared.refusal.Refusal.TheVariants.{Table, Trace, Run, Stopped}
 use Rattle.gw_commands.specs.declared.refusal.Refusal.TheVariants.{ReadFault, TooMuchInput, NotUtf8}
 use Rattle.gw_input.specs.Records.{record_number}
@@ -24,6 +24,7 @@ number_of (Record fault) = record_number fault
 number_of (RecordOnLine line fault) = record_number fault
 number_of (Listing why) = listing.refusal_number why
 number_of (Program refused path) = cause_number refused.why
+number_of (Explained refused path lines) = cause_number refused.why
 number_of (Assembler why text) = asm.refusal_number why
 number_of ReadFault = 96
 number_of (Table why) = table.refusal_number why
@@ -50,6 +51,7 @@ abbrev pub details_of : Refusal → List ℕ
 details_of (RecordOnLine line fault) = line ∷ []
 details_of (Listing why) = listing_details why
 details_of (Program refused path) = cause_details refused.why refused.place
+details_of (Explained refused path lines) = cause_details refused.why refused.place
 details_of (Assembler why text) = line_details (asm.refusal_line why)
 details_of (Table why) = table_details why
 details_of (Trace why) = trace_details why
@@ -57,3 +59,8 @@ details_of _ = []
 
 abbrev pub refusal_line : Refusal → List ℕ
 refusal_line r = refused_line (number_of r) (details_of r)
+
+-- the output for a refusal: its line, and before it that of the path that explains it
+abbrev pub refusal_text : Refusal → List ℕ
+refusal_text (Explained refused path lines) = lines.items
+refusal_text r = refusal_line r

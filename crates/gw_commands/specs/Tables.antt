@@ -9,10 +9,10 @@ use Rattle.gw_table.specs.Emission.{emission}
 use Rattle.gw_input.specs.Tables.{IsTable}
 use Rattle.gw_commands.specs.declared.answer.Answer.{Answer}
 use Rattle.gw_commands.specs.declared.answer.Answer.TheVariants.{Passes, Text}
-use Rattle.gw_input.specs.declared.records.RecordFault.{RecordFault}
 use Rattle.gw_commands.specs.declared.refusal.Refusal.{Refusal}
-use Rattle.gw_commands.specs.declared.refusal.Refusal.TheVariants.{Record, NotUtf8, Table, OutOfMemory}
-use Rattle.gw_input.specs.Records.{NamesRecord, IsRecordFault}
+use Rattle.gw_commands.specs.declared.refusal.Refusal.TheVariants.{NotUtf8, Table, OutOfMemory}
+use Rattle.gw_input.specs.Records.{NamesRecord}
+use Rattle.gw_commands.specs.Verdicts.{RefusesRecord}
 
 -- the listing of a table's program, and a line feed
 abbrev pub compiled_line : Meaning → List ℕ
@@ -37,5 +37,5 @@ RefusesText input _ = ⊥
 abbrev pub RefusesTable : Option (List ℕ) → List ℕ → Refusal → Type 0
 RefusesTable None input refusal = RefusesText input refusal
 RefusesTable (Some frame) input refusal =
-    ((fault : RecordFault) × (refusal ≡ Record fault) × IsRecordFault frame fault)
+    RefusesRecord frame refusal
     ⊎ ((octets : List ℕ) × NamesRecord frame octets × RefusesText input refusal)

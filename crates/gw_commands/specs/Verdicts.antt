@@ -54,10 +54,14 @@ IsProgramRefusal listing (Program refused path) =
     × IsPathFor refused.why (forms_of refused.code.items) refused.place path
 IsProgramRefusal listing _ = ⊥
 
+-- what refuses the text of a record
+abbrev pub RefusesRecord : List ℕ → Refusal → Type 0
+RefusesRecord text refusal = (fault : RecordFault) × (refusal ≡ Record fault) × IsRecordFault text fault
+
 -- the first refusal: the record's, or with a record the listing's
 abbrev pub IsVerdictRefusal : List ℕ → List ℕ → Refusal → Type 0
 IsVerdictRefusal text listing refusal =
-    ((fault : RecordFault) × (refusal ≡ Record fault) × IsRecordFault text fault)
+    RefusesRecord text refusal
     ⊎ ((octets : List ℕ) × NamesRecord text octets × IsProgramRefusal listing refusal)
 
 abbrev pub IsVerdictAnswer : List ℕ → List ℕ → ℕ → Answer → Type 0

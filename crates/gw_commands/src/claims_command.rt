@@ -3,8 +3,6 @@
 ghost use Rattle.std.specs.Prelude.{◌≡◌, ◌++◌, ◌∷◌, [], ℕ, List, reverse, true, false, IfOk, IfErr, OnOk, string_bytes};
 ghost use Rattle.std.specs.List.{list_any};
 ghost use Rattle.gw_claims.specs.Holders.{HoldsAfter};
-ghost use Rattle.gw_io.specs.Tries.{inner_of, has_failed};
-ghost use Rattle.gw_commands.specs.Commands.{Does, IsFound};
 ghost use Rattle.gw_input.specs.Lines.{lines_of};
 ghost use Rattle.gw_input.specs.Records.{IsRecordFault};
 ghost use Rattle.gw_commands.specs.ClaimLines.{
@@ -21,14 +19,12 @@ ghost use Rattle.gw_commands.specs.ClaimLines.{
 use crate::answer::Answer;
 use crate::notes::note_uncounted;
 use crate::refusal::Refusal;
-use crate::responding::respond;
-use crate::streams::read_input;
 use gw_claims::Claims;
 use gw_ident::Name;
 use gw_input::{RecordFault, first_line, record};
 use gw_io::Tried;
 use std::alloc::{AllocError, Global};
-use std::io::{Read, Write};
+use std::io::Write;
 
 /// A line that is to name a record and does not, counted from 1.
 #[derive(Drop)]
@@ -37,35 +33,16 @@ struct BadLine {
     fault: RecordFault,
 }
 
-/// Reads records, and writes who holds which address after them.
-pub fn claims<R: Read, W: Write, F: Write>(
+/// The lines of the holders after the records of an input.
+pub fn claims<F: Write>(
     alloc: Global,
-    input: &mut Tried<R>,
-    output: &mut Tried<W>,
-    faults: &mut Tried<F>,
-) -> u8
-    requires input { has_failed input.old ≡ false }
-    requires output { has_failed output.old ≡ false }
-    ensures { Does AnswersClaims RefusesClaims (R.remaining (inner_of input.old)) (R.remaining (inner_of input.new))
-        (has_failed input.new)
-        (W.contents (inner_of output.old)) (W.contents (inner_of output.new)) (has_failed output.new) result }
-{
-    let found = held(alloc, input, faults);
-    respond(&found, output, faults)
-}
-
-/// The lines of the holders after the records of the input.
-fn held<R: Read, F: Write>(
-    alloc: Global,
-    input: &mut Tried<R>,
+    input: &[u8],
     faults: &mut Tried<F>,
 ) -> Result<Answer, Refusal>
-    requires { has_failed input.old ≡ false }
-    ensures { IsFound AnswersClaims RefusesClaims
-        (R.remaining (inner_of input.old)) (R.remaining (inner_of input.new)) (has_failed input.new) result }
+    ensures answered { IfOk result (AnswersClaims input.now) }
+    ensures refused { IfErr result (RefusesClaims input.now) }
 {
-    let octets = read_input(alloc, input)?;
-    let claims = match heard(&octets, faults) {
+    let claims = match heard(input, faults) {
         Ok(claims) => claims,
         Err(BadLine { number, fault }) => {
             return Err(Refusal::RecordOnLine {

@@ -16,7 +16,8 @@ impl Display for Refusal {
             Refusal::Program {
                 refused,
                 path: Some(path),
-            } => unset(f, refused, path),
+            }
+            | Refusal::Explained { refused, path, .. } => unset(f, refused, path),
             Refusal::Program { refused, .. } => write!(f, "{refused}"),
             Refusal::Assembler { why, text } => match str::from_utf8(text.as_slice()) {
                 Ok(text) => {

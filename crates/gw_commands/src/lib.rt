@@ -8,6 +8,7 @@ mod claims_command;
 mod explanation;
 mod list_command;
 mod notes;
+mod query;
 mod refusal;
 mod replay_command;
 mod responding;
@@ -18,15 +19,10 @@ mod texts;
 mod verdict_command;
 
 pub use answer::Answer;
-pub use asm_command::asm;
-pub use check_command::check;
-pub use claims_command::claims;
-pub use list_command::list;
+pub use query::{Query, answer_query};
 pub use refusal::Refusal;
 pub use replay_command::replay;
 pub use responding::respond;
 pub use run_command::{
     NoObserver, Observer, PolicySource, ProgressOnStderr, forward, forward_named,
 };
-pub use table_command::table;
-pub use verdict_command::verdict;

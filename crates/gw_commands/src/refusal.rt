@@ -33,6 +33,12 @@ pub enum Refusal {
         refused: Refused,
         path: Option<Path>,
     },
+    /// 29 of the command `check`: a scratch word that may be unset, a path that leaves it unset, and the lines that tell both.
+    Explained {
+        refused: Refused,
+        path: Path,
+        lines: Vec<u8>,
+    },
     /// 96: a read failed.
     ReadFault,
     /// 40 to 49: a text that means no code, and the text.
@@ -70,7 +76,9 @@ impl Refusal {
             Refusal::Record(fault) => fault.number(),
             Refusal::RecordOnLine { fault, .. } => fault.number(),
             Refusal::Listing(why) => why.number(),
-            Refusal::Program { refused, .. } => refused.why.number(),
+            Refusal::Program { refused, .. } | Refusal::Explained { refused, .. } => refused
+                .why
+                .number(),
             Refusal::Assembler { why, .. } => why.number(),
             Refusal::ReadFault => 96,
             Refusal::Table(why) => why.number(),
@@ -96,7 +104,9 @@ impl Refusal {
             Refusal::Trace(TraceRefusal::BadRecord { index, why }) => {
                 refused(number, &[*index as u64, u64::from(why.number())])
             }
-            Refusal::Program { refused, .. } => refused_code(refused.why, refused.place),
+            Refusal::Program { refused, .. } | Refusal::Explained { refused, .. } => {
+                refused_code(refused.why, refused.place)
+            }
             _ => refused(number, &[]),
         }
     }

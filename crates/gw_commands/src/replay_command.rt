@@ -19,9 +19,9 @@ pub fn replay<R: Read, W: Write, F: Write>(
     output: &mut Tried<W>,
     faults: &mut Tried<F>,
 ) -> u8
-    requires unread { reads_of input.old ≡ 0 }
     requires input { has_failed input.old ≡ false }
     requires output { has_failed output.old ≡ false }
+    requires unread { reads_of input.old ≡ 0 }
     ensures { Replays (R.remaining (inner_of input.old)) (R.remaining (inner_of input.new)) (has_failed input.new)
         (reads_of input.new)
         (W.contents (inner_of output.old)) (W.contents (inner_of output.new)) (has_failed output.new) result }

@@ -3,6 +3,7 @@
 ghost use Rattle.std.specs.Prelude.{◌≡◌, false};
 ghost use Rattle.gw_io.specs.Tries.{inner_of, has_failed};
 ghost use Rattle.gw_commands.specs.Commands.{Writes, WritesText};
+ghost use Rattle.gw_commands.specs.Refusals.{refusal_text};
 
 use crate::answer::Answer;
 use crate::refusal::Refusal;
@@ -22,7 +23,7 @@ pub fn respond<W: Write, F: Write>(
 {
     let answer = match found {
         Ok(answer) => answer,
-        Err(refusal) => return refuse(refusal.line().as_bytes(), refusal, output, faults),
+        Err(refusal) => return refuse(refusal, output, faults),
     };
     match answer.write(output) {
         Ok(()) => 0,
@@ -30,8 +31,25 @@ pub fn respond<W: Write, F: Write>(
     }
 }
 
+/// Writes a refusal, tells a person of it, and gives the status 1.
+fn refuse<W: Write, F: Write>(refusal: &Refusal, output: &mut Tried<W>, faults: &mut Tried<F>) -> u8
+    requires { has_failed output.old ≡ false }
+    ensures { WritesText (refusal_text refusal.now) 1 result
+        (W.contents (inner_of output.old)) (W.contents (inner_of output.new)) (has_failed output.new) }
+{
+    match refusal {
+        Refusal::Explained { lines, .. } => write_refusal(
+            lines.as_slice(),
+            refusal,
+            output,
+            faults,
+        ),
+        _ => write_refusal(refusal.line().as_bytes(), refusal, output, faults),
+    }
+}
+
 /// Writes the text of a refusal, tells a person of it, and gives the status 1.
-pub(crate) fn refuse<W: Write, F: Write>(
+fn write_refusal<W: Write, F: Write>(
     text: &[u8],
     refusal: &Refusal,
     output: &mut Tried<W>,

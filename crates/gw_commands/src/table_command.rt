@@ -1,62 +1,35 @@
 //! The command `table`: policy tables, their programs and their verdicts.
 
-ghost use Rattle.std.specs.Prelude.{◌≡◌, ◌≤◌, ℕ, Some, None, false, length, map, IfOk, IfErr, option_copied};
+ghost use Rattle.std.specs.Prelude.{◌≡◌, ◌≤◌, ℕ, Some, None, length, map, IfOk, IfErr, option_copied};
 ghost use Rattle.gw_insn.specs.Table.{raw_of};
-ghost use Rattle.gw_io.specs.Tries.{inner_of, has_failed};
-ghost use Rattle.gw_commands.specs.Commands.{Does, IsFound};
 ghost use Rattle.gw_commands.specs.Tables.{AnswersTable, RefusesTable, compiled_line};
 
 use crate::answer::Answer;
-use crate::notes::{note_dead_rules, note_decision, note_standard_identifier};
+use crate::notes::{note_dead_rules, note_decision};
 use crate::refusal::Refusal;
-use crate::responding::respond;
-use crate::streams::read_input;
-use crate::texts::read_table;
-use gw_input::record;
+use crate::texts::{noted_record, read_table};
 use gw_insn::{Raw, encode, write_listing};
 use gw_io::Tried;
 use gw_table::{Table, compile};
 use gw_verify::Program;
 use std::alloc::{AllocError, Global};
-use std::io::{Read, Write};
+use std::io::Write;
 
-/// Reads a table, and writes its program's listing, or its verdict on a frame.
-pub fn table<R: Read, W: Write, F: Write>(
+/// The listing of a table's program, or its verdict on a frame, which is judged before the table.
+pub fn table<F: Write>(
     alloc: Global,
     port: u8,
     frame: Option<&str>,
     why: bool,
-    input: &mut Tried<R>,
-    output: &mut Tried<W>,
-    faults: &mut Tried<F>,
-) -> u8
-    requires input { has_failed input.old ≡ false }
-    requires output { has_failed output.old ≡ false }
-    ensures { Does (AnswersTable (option_copied frame.entry) port) (RefusesTable (option_copied frame.entry))
-        (R.remaining (inner_of input.old)) (R.remaining (inner_of input.new)) (has_failed input.new)
-        (W.contents (inner_of output.old)) (W.contents (inner_of output.new)) (has_failed output.new) result }
-{
-    let found = answered(alloc, port, frame, why, input, faults);
-    respond(&found, output, faults)
-}
-
-/// What `table` answers on its input: the frame is judged before the table.
-fn answered<R: Read, F: Write>(
-    alloc: Global,
-    port: u8,
-    frame: Option<&str>,
-    why: bool,
-    input: &mut Tried<R>,
+    input: &[u8],
     faults: &mut Tried<F>,
 ) -> Result<Answer, Refusal>
-    requires { has_failed input.old ≡ false }
-    ensures { IsFound (AnswersTable (option_copied frame.entry) port) (RefusesTable (option_copied frame.entry))
-        (R.remaining (inner_of input.old)) (R.remaining (inner_of input.new)) (has_failed input.new) result }
+    ensures answered { IfOk result (AnswersTable (option_copied frame.entry) port input.now) }
+    ensures refused { IfErr result (RefusesTable (option_copied frame.entry) input.now) }
 {
-    let octets = read_input(alloc, input)?;
     match frame {
-        Some(text) => judged(alloc, port, text, why, &octets, faults),
-        None => compiled(alloc, &octets, faults),
+        Some(text) => judged(alloc, port, text, why, input, faults),
+        None => compiled(alloc, input, faults),
     }
 }
 
@@ -72,11 +45,10 @@ fn judged<F: Write>(
     ensures answered { IfOk result (AnswersTable (Some text.now) port input.now) }
     ensures refused { IfErr result (RefusesTable (Some text.now) input.now) }
 {
-    let frame = match record(text.as_bytes()) {
+    let frame = match noted_record(text.as_bytes(), faults) {
         Ok(frame) => frame,
-        Err(fault) => return Err(Refusal::Record(fault)),
+        Err(refusal) => return Err(refusal),
     };
-    note_standard_identifier(&frame, faults);
     let table = match read_table(alloc, input) {
         Ok(table) => table,
         Err(refusal) => return Err(refusal),

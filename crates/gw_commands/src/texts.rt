@@ -1,16 +1,35 @@
-//! What a text means, or why it is refused: the program of a listing, and the table of a table's text.
+//! What a text means, or why it is refused: a record, the program of a listing, and the table of a table's text.
 
 ghost use Rattle.std.specs.Prelude.{IfOk, IfErr};
 ghost use Rattle.gw_commands.specs.Tables.{RefusesText};
-ghost use Rattle.gw_commands.specs.Verdicts.{IsProgramRefusal};
+ghost use Rattle.gw_commands.specs.Verdicts.{IsProgramRefusal, RefusesRecord};
 ghost use Rattle.gw_input.specs.Programs.{NamesProgram};
+ghost use Rattle.gw_input.specs.Records.{NamesRecord};
 ghost use Rattle.gw_input.specs.Tables.{IsTable};
 
+use crate::notes::note_standard_identifier;
 use crate::refusal::Refusal;
-use gw_input::{ProgramFault, TableFault};
+use gw_frame::Frame;
+use gw_input::{ProgramFault, TableFault, record};
+use gw_io::Tried;
 use gw_table::Table;
 use gw_verify::Program;
 use std::alloc::Global;
+use std::io::Write;
+
+/// The record that a text names. A person is told where it may be meant as another frame.
+pub fn noted_record<F: Write>(text: &[u8], faults: &mut Tried<F>) -> Result<Frame, Refusal>
+    ensures named { IfOk result (NamesRecord text.now) }
+    ensures refused { IfErr result (RefusesRecord text.now) }
+{
+    match record(text) {
+        Ok(frame) => {
+            note_standard_identifier(&frame, faults);
+            Ok(frame)
+        }
+        Err(fault) => Err(Refusal::Record(fault)),
+    }
+}
 
 /// The accepted program of a listing.
 pub fn program(alloc: Global, listing: &[u8]) -> Result<Program, Refusal>

@@ -1,8 +1,6 @@
 //! The command `verdict`: a program of a listing, run on a record.
 
-ghost use Rattle.std.specs.Prelude.{◌≡◌, false, IfOk, IfErr, option_copied};
-ghost use Rattle.gw_io.specs.Tries.{inner_of, has_failed};
-ghost use Rattle.gw_commands.specs.Commands.{Does, IsFound};
+ghost use Rattle.std.specs.Prelude.{◌≡◌, IfOk, IfErr, option_copied};
 ghost use Rattle.gw_commands.specs.Verdicts.{
   AnswersVerdict,
   RefusesVerdict,
@@ -13,50 +11,26 @@ ghost use Rattle.gw_commands.specs.Verdicts.{
 };
 
 use crate::answer::Answer;
-use crate::notes::note_standard_identifier;
 use crate::refusal::Refusal;
-use crate::responding::respond;
-use crate::streams::read_input;
-use crate::texts::program;
-use gw_input::{first_line, record};
+use crate::texts::{noted_record, program};
+use gw_input::first_line;
 use gw_io::Tried;
 use gw_machine::run;
 use std::alloc::Global;
-use std::io::{Read, Write};
+use std::io::Write;
 
-/// Reads a listing, behind the record's line where no argument is the record, and writes the program's verdict.
-pub fn verdict<R: Read, W: Write, F: Write>(
+/// The verdict of a listing's program on a record; the listing stands behind the record's line where no argument is the record.
+pub fn verdict<F: Write>(
     alloc: Global,
     port: u8,
     argument: Option<&str>,
-    input: &mut Tried<R>,
-    output: &mut Tried<W>,
-    faults: &mut Tried<F>,
-) -> u8
-    requires input { has_failed input.old ≡ false }
-    requires output { has_failed output.old ≡ false }
-    ensures { Does (AnswersVerdict (option_copied argument.entry) port) (RefusesVerdict (option_copied argument.entry))
-        (R.remaining (inner_of input.old)) (R.remaining (inner_of input.new)) (has_failed input.new)
-        (W.contents (inner_of output.old)) (W.contents (inner_of output.new)) (has_failed output.new) result }
-{
-    let found = judged(alloc, port, argument, input, faults);
-    respond(&found, output, faults)
-}
-
-/// The verdict on the input.
-fn judged<R: Read, F: Write>(
-    alloc: Global,
-    port: u8,
-    argument: Option<&str>,
-    input: &mut Tried<R>,
+    input: &[u8],
     faults: &mut Tried<F>,
 ) -> Result<Answer, Refusal>
-    requires { has_failed input.old ≡ false }
-    ensures { IsFound (AnswersVerdict (option_copied argument.entry) port) (RefusesVerdict (option_copied argument.entry))
-        (R.remaining (inner_of input.old)) (R.remaining (inner_of input.new)) (has_failed input.new) result }
+    ensures answered { IfOk result (AnswersVerdict (option_copied argument.entry) port input.now) }
+    ensures refused { IfErr result (RefusesVerdict (option_copied argument.entry) input.now) }
 {
-    let octets = read_input(alloc, input)?;
-    let (text, listing) = parts(argument, &octets);
+    let (text, listing) = parts(argument, input);
     answer_on(alloc, text, listing, port, faults)
 }
 
@@ -86,11 +60,10 @@ fn answer_on<F: Write>(
     ensures answered { IfOk result (IsVerdictAnswer text.now listing.now port) }
     ensures refused { IfErr result (IsVerdictRefusal text.now listing.now) }
 {
-    let frame = match record(text) {
+    let frame = match noted_record(text, faults) {
         Ok(frame) => frame,
-        Err(fault) => return Err(Refusal::Record(fault)),
+        Err(refusal) => return Err(refusal),
     };
-    note_standard_identifier(&frame, faults);
     match program(alloc, listing) {
         Ok(program) => Ok(Answer::Verdict(run(&program, &frame, port))),
         Err(refusal) => Err(refusal),
