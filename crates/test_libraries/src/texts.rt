@@ -1,6 +1,7 @@
 //! The texts of the refusals that no command shows, each whole.
 
 use gw_board::{BoardRefusal, NoReading, ReplaceRefusal};
+use gw_judge::JudgeFault;
 use gw_ledger::Limits;
 use gw_log::LogRefusal;
 use gw_policy::Batch;
@@ -222,6 +223,21 @@ fn of_assembler_texts(rt: HostRuntime) -> Result<(), Fail> {
     ];
     for (refusal, text) in &refusals {
         assert!(rt; is_told(rt.alloc(), refusal, text)?);
+    }
+    Ok(())
+}
+
+#[test]
+fn of_judging(rt: HostRuntime) -> Result<(), Fail> {
+    let faults = [
+        (
+            JudgeFault::ReadFault,
+            "the log could not be read to its end",
+        ),
+        (JudgeFault::WriteFault, "the lines could not be written"),
+    ];
+    for (fault, text) in &faults {
+        assert!(rt; is_told(rt.alloc(), fault, text)?);
     }
     Ok(())
 }

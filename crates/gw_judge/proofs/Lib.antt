@@ -1,0 +1,6 @@
+pub mod Lines
+pub mod PartLengths
+pub mod Counting
+pub mod PartByPart
+pub mod Streams
+mod JudgeExamples
