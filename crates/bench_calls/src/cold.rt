@@ -39,12 +39,7 @@ pub fn pass_cold(
     way: u32,
 ) -> Option<u64> {
     let frames = load_frames(alloc, records)?;
-    let mut forms = Vec::new(alloc);
-    if way > 0 {
-        for _ in records {
-            forms.push(form_of(alloc, text, way)?).ok()?;
-        }
-    }
+    let forms = forms_of(alloc, text, if way > 0 { frames.len() } else { 0 }, way)?;
     let mut passed = 0;
     for _ in 0..rounds {
         passed = walk
@@ -53,6 +48,15 @@ pub fn pass_cold(
         passed = pass_each(&forms, &frames, passed);
     }
     Some(passed)
+}
+
+/// So many forms of a table.
+fn forms_of(alloc: Global, text: &[u8], count: usize, way: u32) -> Option<Vec<Form>> {
+    let mut forms = Vec::new(alloc);
+    for _ in 0..count {
+        forms.push(form_of(alloc, text, way)?).ok()?;
+    }
+    Some(forms)
 }
 
 fn form_of(alloc: Global, text: &[u8], way: u32) -> Option<Form> {

@@ -23,40 +23,51 @@ const MOST_STEPS: u32 = 65536;
 /// all. Answers how many events there are. `None`: the text is no table, the octets of a record are no record, or memory was
 /// refused.
 pub fn count_events(alloc: Global, text: &[u8], records: &[Record], run: bool) -> Option<usize> {
-    let limits = Limits::new(u32::from(PORTS), 64, 1, u32::MAX).ok()?;
     let frames = load_frames(alloc, records)?;
-    let mut events = Vec::new(alloc);
-    events.push(Event::Publish(everywhere(alloc, text)?)).ok()?;
-    let mut core = Core::new(alloc, limits).ok()?;
-    if core
-        .event(Event::Publish(everywhere(alloc, text)?))
-        .is_err()
-    {
+    let events = events_of(alloc, text, &frames)?;
+    let count = events.len();
+    if run && !are_accepted(alloc, events)? {
         return None;
     }
+    Some(count)
+}
+
+/// The events of frames that are taken at sixteen ports in turn.
+fn events_of(alloc: Global, text: &[u8], frames: &[Frame]) -> Option<Vec<Event>> {
+    let mut events = Vec::new(alloc);
+    events.push(Event::Publish(everywhere(alloc, text)?)).ok()?;
+    let mut core = sixteen_ports(alloc)?;
+    core.event(Event::Publish(everywhere(alloc, text)?)).ok()?;
     for (index, frame) in frames.iter().enumerate() {
         let port = (index % usize::from(PORTS)) as u8;
         write_down(&mut core, &mut events, port, *frame)?;
     }
-    let count = events.len();
-    if run {
-        let mut core = Core::new(alloc, limits).ok()?;
-        let answers = core.run(alloc, events).ok()?;
-        if answers.iter().any(|answer| answer.is_err()) {
-            return None;
-        }
-    }
-    Some(count)
+    Some(events)
+}
+
+/// Whether a new gateway accepts all these events.
+fn are_accepted(alloc: Global, events: Vec<Event>) -> Option<bool> {
+    let answers = sixteen_ports(alloc)?.run(alloc, events).ok()?;
+    Some(answers.iter().all(|answer| answer.is_ok()))
+}
+
+fn sixteen_ports(alloc: Global) -> Option<Core> {
+    let limits = Limits::new(u32::from(PORTS), 64, 1, u32::MAX).ok()?;
+    Core::new(alloc, limits).ok()
 }
 
 /// A batch with the table's policy for each port.
 fn everywhere(alloc: Global, text: &[u8]) -> Option<Batch> {
     let mut batch = Batch::new();
     for port in 0..PORTS {
-        let policy = Policy::from_table(alloc, load_table(alloc, text)?).ok()?;
-        batch.add(port, Arc::new(alloc, policy).ok()?).ok()?;
+        batch.add(port, table_policy(alloc, text)?).ok()?;
     }
     Some(batch)
+}
+
+fn table_policy(alloc: Global, text: &[u8]) -> Option<Arc<Policy>> {
+    let policy = Policy::from_table(alloc, load_table(alloc, text)?).ok()?;
+    Arc::new(alloc, policy).ok()
 }
 
 /// Takes a frame and does what follows, and writes it down.
@@ -92,28 +103,41 @@ pub fn count_steps(
     let program = load_program(alloc, code)?;
     let frames = load_frames(alloc, records)?;
     let frame = frames.first()?;
-    let mut steps = 0;
     if core {
-        let mut core = gateway_of(alloc, program)?;
-        for _round in 0..rounds {
-            steps = finish(&mut core, *frame, steps)?;
-        }
+        steps_of_core(&mut gateway_of(alloc, program)?, *frame, rounds)
     } else {
-        for _round in 0..rounds {
-            steps = run_by_steps(&program, frame, steps);
-        }
+        Some(steps_of_machine(&program, frame, rounds))
+    }
+}
+
+fn steps_of_core(core: &mut Core, frame: Frame, rounds: u32) -> Option<u64> {
+    let mut steps = 0;
+    for _round in 0..rounds {
+        steps = finish(core, frame, steps)?;
     }
     Some(steps)
 }
 
+fn steps_of_machine(program: &Program, frame: &Frame, rounds: u32) -> u64 {
+    let mut steps = 0;
+    for _round in 0..rounds {
+        steps = run_by_steps(program, frame, steps);
+    }
+    steps
+}
+
 /// Two ports, and the program for port 1.
 fn gateway_of(alloc: Global, program: Program) -> Option<Core> {
+    let mut core = Core::new(alloc, Limits::new(2, 1, 1, u32::MAX).ok()?).ok()?;
+    core.event(Event::Publish(batch_of(alloc, program)?)).ok()?;
+    Some(core)
+}
+
+fn batch_of(alloc: Global, program: Program) -> Option<Batch> {
     let mut batch = Batch::new();
     let policy = Arc::new(alloc, Policy::from_program(program)).ok()?;
     batch.add(1, policy).ok()?;
-    let mut core = Core::new(alloc, Limits::new(2, 1, 1, u32::MAX).ok()?).ok()?;
-    core.event(Event::Publish(batch)).ok()?;
-    Some(core)
+    Some(batch)
 }
 
 /// Takes the frame and steps it to its end.
