@@ -10,31 +10,48 @@ use gw_text::AsmRefusal;
 use gw_trace::TraceRefusal;
 use std::alloc::{AllocError, Global};
 use std::fmt::Display;
+use std::process::Abort;
 use std::test::Fail;
 
-/// Whether a refusal is told by just this text.
-fn is_told<T: Display>(alloc: Global, refusal: &T, text: &str) -> Result<bool, AllocError> {
-    Ok(format!(in alloc; "{refusal}")?.as_str() == text)
+/// Each refusal must be told by just the text beside it and what stands behind each text.
+fn assert_told_with<T: Display>(
+    rt: &impl Abort,
+    alloc: Global,
+    texts: &[(T, &str)],
+    behind: &str,
+) -> Result<(), AllocError> {
+    for (refusal, text) in texts {
+        let told = format!(in alloc; "{refusal}")?;
+        assert!(rt; told.as_str().strip_suffix(behind) == Some(*text), "{told}");
+    }
+    Ok(())
 }
 
+/// Each refusal must be told by just the text beside it.
+fn assert_told<T: Display>(
+    rt: &impl Abort,
+    alloc: Global,
+    texts: &[(T, &str)],
+) -> Result<(), AllocError> {
+    assert_told_with(rt, alloc, texts, "")
+}
+
+const NOT_BOARD: [(BoardRefusal, &str); 1] = [(
+    BoardRefusal::Unavailable,
+    "no memory for the board: ask again, or for fewer ports",
+)];
+
+const NOT_READ: [(NoReading, &str); 1] = [(
+    NoReading,
+    "the policies in force could not be read: ask again",
+)];
+
 #[test]
-fn of_boards(rt: HostRuntime) -> Result<(), Fail> {
+fn of_boards(rt: HostRuntime) -> Result<(), AllocError> {
     let alloc = rt.alloc();
-    assert!(rt;
-        is_told(
-            alloc,
-            &BoardRefusal::Unavailable,
-            "no memory for the board: ask again, or for fewer ports",
-        )?
-    );
-    assert!(rt;
-        is_told(
-            alloc,
-            &NoReading,
-            "the policies in force could not be read: ask again"
-        )?
-    );
-    let refusals = [
+    assert_told(&rt, alloc, &NOT_BOARD)?;
+    assert_told(&rt, alloc, &NOT_READ)?;
+    let not_replaced = [
         (
             ReplaceRefusal::NoSuchPort(Batch::new()),
             "the batch names a port that the gateway does not have: name ports below its number of ports",
@@ -56,243 +73,219 @@ fn of_boards(rt: HostRuntime) -> Result<(), Fail> {
             "no memory to publish the batch, which is lost: the operator is stopped",
         ),
     ];
-    for (refusal, text) in &refusals {
-        assert!(rt; is_told(alloc, refusal, text)?);
-    }
-    Ok(())
+    assert_told(&rt, alloc, &not_replaced)
 }
 
+const NOT_MADE: [(MakeRefusal, &str); 3] = [
+    (
+        MakeRefusal::OutOfMemory,
+        "no memory for the ends of the ports: ask again, or for fewer ports",
+    ),
+    (
+        MakeRefusal::Unavailable,
+        "no memory for the board: ask again, or for fewer ports",
+    ),
+    (
+        MakeRefusal::NoLanes,
+        "no memory for the lanes: ask again, for fewer ports or for shorter lanes",
+    ),
+];
+
+const NO_LANES: [(gw_lanes::OutOfMemory, &str); 1] = [(
+    gw_lanes::OutOfMemory,
+    "no memory for the lanes: ask again, for fewer ports or for shorter lanes",
+)];
+
+const NO_CORE: [(gw_core::OutOfMemory, &str); 1] = [(
+    gw_core::OutOfMemory,
+    "no memory for the gateway: ask again, for fewer ports, shorter lanes or fewer versions",
+)];
+
+const NOT_TAKEN: [(OfferRefusal, &str); 2] = [
+    (
+        OfferRefusal::FramesSpent,
+        "all frames of the port are taken: make the gateway with a greater limit of frames",
+    ),
+    (
+        OfferRefusal::NoReading,
+        "the policies in force could not be read: offer the frame again",
+    ),
+];
+
 #[test]
-fn of_gateways(rt: HostRuntime) -> Result<(), Fail> {
+fn of_gateways(rt: HostRuntime) -> Result<(), AllocError> {
     let alloc = rt.alloc();
-    let made = [
-        (
-            MakeRefusal::OutOfMemory,
-            "no memory for the ends of the ports: ask again, or for fewer ports",
-        ),
-        (
-            MakeRefusal::Unavailable,
-            "no memory for the board: ask again, or for fewer ports",
-        ),
-        (
-            MakeRefusal::NoLanes,
-            "no memory for the lanes: ask again, for fewer ports or for shorter lanes",
-        ),
-    ];
-    for (refusal, text) in &made {
-        assert!(rt; is_told(alloc, refusal, text)?);
-    }
-    assert!(rt;
-        is_told(
-            alloc,
-            &gw_lanes::OutOfMemory,
-            "no memory for the lanes: ask again, for fewer ports or for shorter lanes",
-        )?
-    );
-    assert!(rt;
-        is_told(
-            alloc,
-            &gw_core::OutOfMemory,
-            "no memory for the gateway: ask again, for fewer ports, shorter lanes or fewer versions",
-        )?
-    );
-    assert!(rt;
-        is_told(
-            alloc,
-            &OfferRefusal::FramesSpent,
-            "all frames of the port are taken: make the gateway with a greater limit of frames",
-        )?
-    );
-    assert!(rt;
-        is_told(
-            alloc,
-            &OfferRefusal::NoReading,
-            "the policies in force could not be read: offer the frame again",
-        )?
-    );
-    Ok(())
+    assert_told(&rt, alloc, &NOT_MADE)?;
+    assert_told(&rt, alloc, &NO_LANES)?;
+    assert_told(&rt, alloc, &NO_CORE)?;
+    assert_told(&rt, alloc, &NOT_TAKEN)
 }
 
 #[test]
 fn of_closes(rt: HostRuntime) -> Result<(), Fail> {
     let alloc = rt.alloc();
-    let Ok(parts) = gateway(alloc, Limits::new(2, 1, 1, 1)?) else {
+    let limits = Limits::new(2, 1, 1, 1)?;
+    let (Ok(parts), Ok(others)) = (gateway(alloc, limits), gateway(alloc, limits)) else {
         return Err("no gateway".into());
     };
-    let refusal = CloseRefusal::OutOfMemory(parts);
-    assert!(rt;
-        is_told(
-            alloc,
-            &refusal,
-            "no memory for the report: close the gateway again"
-        )?
-    );
-    let (CloseRefusal::OutOfMemory(parts) | CloseRefusal::NoReading(parts)) = refusal;
-    assert!(rt;
-        is_told(
-            alloc,
-            &CloseRefusal::NoReading(parts),
+    let not_closed = [
+        (
+            CloseRefusal::OutOfMemory(parts),
+            "no memory for the report: close the gateway again",
+        ),
+        (
+            CloseRefusal::NoReading(others),
             "the policies in force could not be read: close the gateway again",
-        )?
-    );
-    Ok(())
-}
-
-#[test]
-fn of_runs(rt: HostRuntime) -> Result<(), Fail> {
-    let refusals = [
-        (
-            RunRefusal::NotMade(MakeRefusal::Unavailable),
-            "no memory for the board: ask again, or for fewer ports",
-        ),
-        (
-            RunRefusal::NoSuchPort,
-            "the first batch names a port that the gateway does not have: name ports below its number of ports",
-        ),
-        (
-            RunRefusal::NotPublished,
-            "no memory to publish the first batch: run again",
-        ),
-        (
-            RunRefusal::OutOfMemory,
-            "no memory for the report: run again, on fewer frames",
-        ),
-        (
-            RunRefusal::NoThread,
-            "no thread for a port: run again, with fewer ports",
-        ),
-        (
-            RunRefusal::NoReading,
-            "the policies in force could not be read: run again",
         ),
     ];
-    for (refusal, text) in &refusals {
-        assert!(rt; is_told(rt.alloc(), refusal, text)?);
-    }
-    assert!(rt;
-        is_told(
-            rt.alloc(),
-            &TraceRefusal::ReadFault,
-            "the trace could not be read to its end",
-        )?
-    );
+    assert_told(&rt, alloc, &not_closed)?;
     Ok(())
 }
 
-#[test]
-fn of_assembler_texts(rt: HostRuntime) -> Result<(), Fail> {
-    let line = 3;
-    let refusals = [
-        (
-            AsmRefusal::BadToken { line },
-            "line 3: a character that is no part of a token, or a comment without its */",
-        ),
-        (
-            AsmRefusal::UnknownWord { line },
-            "line 3: no instruction has this word",
-        ),
-        (
-            AsmRefusal::BadOperand { line },
-            "line 3: the instruction does not take these operands",
-        ),
-        (
-            AsmRefusal::BadNumber { line },
-            "line 3: a number that is malformed or out of range",
-        ),
-        (
-            AsmRefusal::LabelTwice { line },
-            "line 3: a label that is defined on an earlier line already",
-        ),
-        (
-            AsmRefusal::NoSuchLabel { line },
-            "line 3: a jump to a label that is not defined",
-        ),
-        (
-            AsmRefusal::Backward { line },
-            "line 3: a jump to its own place or backwards; only jumps ahead are read",
-        ),
-        (
-            AsmRefusal::TooFar { line },
-            "line 3: a conditional jump that passes more than 255 instructions",
-        ),
-        (
-            AsmRefusal::TooMany { line },
-            "line 3: instruction 4097; at most 4096 fit",
-        ),
-        (AsmRefusal::OutOfMemory, "memory was refused"),
-    ];
-    for (refusal, text) in &refusals {
-        assert!(rt; is_told(rt.alloc(), refusal, text)?);
-    }
-    Ok(())
-}
+const NOT_RUN: [(RunRefusal, &str); 6] = [
+    (
+        RunRefusal::NotMade(MakeRefusal::Unavailable),
+        "no memory for the board: ask again, or for fewer ports",
+    ),
+    (
+        RunRefusal::NoSuchPort,
+        "the first batch names a port that the gateway does not have: name ports below its number of ports",
+    ),
+    (
+        RunRefusal::NotPublished,
+        "no memory to publish the first batch: run again",
+    ),
+    (
+        RunRefusal::OutOfMemory,
+        "no memory for the report: run again, on fewer frames",
+    ),
+    (
+        RunRefusal::NoThread,
+        "no thread for a port: run again, with fewer ports",
+    ),
+    (
+        RunRefusal::NoReading,
+        "the policies in force could not be read: run again",
+    ),
+];
+
+const NO_TRACE: [(TraceRefusal, &str); 1] = [(
+    TraceRefusal::ReadFault,
+    "the trace could not be read to its end",
+)];
 
 #[test]
-fn of_judging(rt: HostRuntime) -> Result<(), Fail> {
-    let faults = [
-        (
-            JudgeFault::ReadFault,
-            "the log could not be read to its end",
-        ),
-        (JudgeFault::WriteFault, "the lines could not be written"),
-    ];
-    for (fault, text) in &faults {
-        assert!(rt; is_told(rt.alloc(), fault, text)?);
-    }
-    Ok(())
+fn of_runs(rt: HostRuntime) -> Result<(), AllocError> {
+    assert_told(&rt, rt.alloc(), &NOT_RUN)?;
+    assert_told(&rt, rt.alloc(), &NO_TRACE)
 }
 
+const NO_PROGRAM: [(AsmRefusal, &str); 10] = [
+    (
+        AsmRefusal::BadToken { line: 3 },
+        "line 3: a character that is no part of a token, or a comment without its */",
+    ),
+    (
+        AsmRefusal::UnknownWord { line: 3 },
+        "line 3: no instruction has this word",
+    ),
+    (
+        AsmRefusal::BadOperand { line: 3 },
+        "line 3: the instruction does not take these operands",
+    ),
+    (
+        AsmRefusal::BadNumber { line: 3 },
+        "line 3: a number that is malformed or out of range",
+    ),
+    (
+        AsmRefusal::LabelTwice { line: 3 },
+        "line 3: a label that is defined on an earlier line already",
+    ),
+    (
+        AsmRefusal::NoSuchLabel { line: 3 },
+        "line 3: a jump to a label that is not defined",
+    ),
+    (
+        AsmRefusal::Backward { line: 3 },
+        "line 3: a jump to its own place or backwards; only jumps ahead are read",
+    ),
+    (
+        AsmRefusal::TooFar { line: 3 },
+        "line 3: a conditional jump that passes more than 255 instructions",
+    ),
+    (
+        AsmRefusal::TooMany { line: 3 },
+        "line 3: instruction 4097; at most 4096 fit",
+    ),
+    (AsmRefusal::OutOfMemory, "memory was refused"),
+];
+
 #[test]
-fn of_logs(rt: HostRuntime) -> Result<(), Fail> {
+fn of_assembler_texts(rt: HostRuntime) -> Result<(), AllocError> {
+    assert_told(&rt, rt.alloc(), &NO_PROGRAM)
+}
+
+const NOT_JUDGED: [(JudgeFault, &str); 2] = [
+    (
+        JudgeFault::ReadFault,
+        "the log could not be read to its end",
+    ),
+    (JudgeFault::WriteFault, "the lines could not be written"),
+];
+
+#[test]
+fn of_judging(rt: HostRuntime) -> Result<(), AllocError> {
+    assert_told(&rt, rt.alloc(), &NOT_JUDGED)
+}
+
+const NO_FRAME: [(LogRefusal, &str); 13] = [
+    (
+        LogRefusal::CanFd,
+        "`##` begins a frame of CAN FD, and a classic one has one `#`",
+    ),
+    (LogRefusal::OpenTime, "a time ends with `)`"),
+    (
+        LogRefusal::NoFrame,
+        "no `#` stands between an identifier and a payload",
+    ),
+    (
+        LogRefusal::WordsBefore,
+        "between the time and the frame stands an interface at most",
+    ),
+    (
+        LogRefusal::DigitsBehind,
+        "a blank stands between the octets of a payload",
+    ),
+    (
+        LogRefusal::NoDigit,
+        "something else than a hexadecimal digit stands in the identifier or the payload",
+    ),
+    (
+        LogRefusal::BadDigits,
+        "an identifier has 3 digits, or 8 for an extended one",
+    ),
+    (
+        LogRefusal::WideId,
+        "3 digits are at most 7FF and 8 at most 3FFFFFFF, without the flag of an extended one",
+    ),
+    (
+        LogRefusal::OddDigits,
+        "an octet has two digits, and a dot stands between octets alone",
+    ),
+    (LogRefusal::BadLength, "a payload has at most 8 octets"),
+    (
+        LogRefusal::BadRemote,
+        "behind `R` stands a length of 0 to 8 or nothing, and no error frame is remote",
+    ),
+    (
+        LogRefusal::BadCode,
+        "behind `_` stands one digit of 9 to F, and before it 8 octets",
+    ),
+    (LogRefusal::LongLine, "a line has at most 65536 octets"),
+];
+
+#[test]
+fn of_logs(rt: HostRuntime) -> Result<(), AllocError> {
     let form = "; a frame is written 18FEF100#0102, or 123#R for a remote one";
-    let refusals = [
-        (
-            LogRefusal::CanFd,
-            "`##` begins a frame of CAN FD, and a classic one has one `#`",
-        ),
-        (LogRefusal::OpenTime, "a time ends with `)`"),
-        (
-            LogRefusal::NoFrame,
-            "no `#` stands between an identifier and a payload",
-        ),
-        (
-            LogRefusal::WordsBefore,
-            "between the time and the frame stands an interface at most",
-        ),
-        (
-            LogRefusal::DigitsBehind,
-            "a blank stands between the octets of a payload",
-        ),
-        (
-            LogRefusal::NoDigit,
-            "something else than a hexadecimal digit stands in the identifier or the payload",
-        ),
-        (
-            LogRefusal::BadDigits,
-            "an identifier has 3 digits, or 8 for an extended one",
-        ),
-        (
-            LogRefusal::WideId,
-            "3 digits are at most 7FF and 8 at most 3FFFFFFF, without the flag of an extended one",
-        ),
-        (
-            LogRefusal::OddDigits,
-            "an octet has two digits, and a dot stands between octets alone",
-        ),
-        (LogRefusal::BadLength, "a payload has at most 8 octets"),
-        (
-            LogRefusal::BadRemote,
-            "behind `R` stands a length of 0 to 8 or nothing, and no error frame is remote",
-        ),
-        (
-            LogRefusal::BadCode,
-            "behind `_` stands one digit of 9 to F, and before it 8 octets",
-        ),
-        (LogRefusal::LongLine, "a line has at most 65536 octets"),
-    ];
-    for (refusal, text) in &refusals {
-        let told = format!(in rt.alloc(); "{text}{form}")?;
-        assert!(rt; is_told(rt.alloc(), refusal, told.as_str())?);
-    }
-    Ok(())
+    assert_told_with(&rt, rt.alloc(), &NO_FRAME, form)
 }
