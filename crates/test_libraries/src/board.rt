@@ -50,27 +50,32 @@ fn publish_and_read<R: Threads + Wait>(
     }
 }
 
+/// Whether a batch for port 2 of 2 is refused for it, and comes back.
+fn is_refused_for_port_2<R: Wait>(rt: &R, operator: &mut Operator, batch: Batch) -> bool
+    ensures { operator.new.board ≡ operator.old.board }
+{
+    match operator.replace(rt, batch) {
+        Err(ReplaceRefusal::NoSuchPort(back)) => back.pair(0).is_some_and(|pair| pair.0 == 2),
+        _ => false,
+    }
+}
+
 #[test]
 fn a_told_watch_reads_in_another_thread(rt: HostRuntime) -> Result<(), Fail> {
     let frame = Frame::read(&ENGINE_SPEED)?;
-    let no_port = batch(rt.alloc(), &[2], &returning(1))?;
-    let pass = batch(rt.alloc(), &[1], &returning(1))?;
-    let too_many = batch(rt.alloc(), &[1], &returning(0))?;
     let (mut operator, mut watches) = board(rt.alloc(), Limits::new(2, 4, 1, 2)?)?;
-    let Err(ReplaceRefusal::NoSuchPort(back)) = operator.replace(&rt, no_port) else {
-        return Err("port 2 of 2 is there".into());
-    };
-    assert_eq!(rt; back.pair(0).map(|pair| pair.0), Some(2));
+    let no_port = batch(&rt, rt.alloc(), &[2], &returning(1));
+    assert!(rt; is_refused_for_port_2(&rt, &mut operator, no_port));
+    let pass = batch(&rt, rt.alloc(), &[1], &returning(1));
     let Some(watch) = watches.pop() else {
-        return Err("no watch".into());
+        panic!(rt; "no watch");
     };
     let (front, reading) = publish_and_read(&rt, &mut operator, pass, watch, frame);
-    assert_eq!(rt; front, Some(1));
-    assert_eq!(rt; reading, Some(Ok((1, true))));
-    let Err(refusal) = operator.replace(&rt, too_many) else {
-        return Err("a second version of one".into());
-    };
-    assert_eq!(rt; refusal.number(), 75);
+    assert!(rt; front == Some(1));
+    assert!(rt; reading == Some(Ok((1, true))));
+    let too_many = batch(&rt, rt.alloc(), &[1], &returning(0));
+    let second = operator.replace(&rt, too_many);
+    assert!(rt; second.is_err_and(|refusal| refusal.number() == 75));
     operator.end(&rt);
     Ok(())
 }
@@ -97,17 +102,16 @@ fn read_untold<R: Threads + Wait + Sync>(
 fn an_untold_watch_finds_what_is_published(rt: HostRuntime) -> Result<(), Fail> {
     let alloc = rt.alloc();
     let frame = Frame::read(&ENGINE_SPEED)?;
-    let batches = (
-        batch(alloc, &[1], &returning(1))?,
-        batch(alloc, &[1], &returning(0))?,
-        batch(alloc, &[1], &returning(1))?,
-    );
     let (mut operator, mut watches) = board(alloc, Limits::new(2, 4, 3, 2)?)?;
-    let (Some(one), Some(other)) = (watches.pop(), watches.pop()) else {
-        return Err("no watch for each port".into());
-    };
+    let batches = (
+        batch(&rt, alloc, &[1], &returning(1)),
+        batch(&rt, alloc, &[1], &returning(0)),
+        batch(&rt, alloc, &[1], &returning(1)),
+    );
+    let one = watches.pop().expect(&rt, "a watch");
+    let other = watches.pop().expect(&rt, "a watch");
     let (beside, elsewhere) = read_untold(&rt, &mut operator, batches, (one, other), frame);
-    assert_eq!(rt; beside, Ok((2, false)));
-    assert_eq!(rt; elsewhere, Ok((3, true)));
+    assert!(rt; beside == Ok((2, false)));
+    assert!(rt; elsewhere == Ok((3, true)));
     Ok(())
 }

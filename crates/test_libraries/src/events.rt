@@ -1,109 +1,151 @@
 //! The worked examples: what becomes of lists of events.
 
+ghost use Rattle.std.specs.Prelude.{◌≡◌, IfOk};
+
 use crate::made::{ENGINE_SPEED, batch, returning};
 use gw_core::{Answer, Core, Event, EventRefusal, OutOfMemory};
 use gw_frame::Frame;
 use gw_ledger::{FrameCopy, InLedger, Limits, Outcome, PortSet};
-use gw_policy::Batch;
+use std::alloc::{AllocError, Global};
 use std::process::Abort;
 use std::test::Fail;
 
 type Given = Result<Answer, EventRefusal>;
 
-/// The set of the port 1, and of the ports 1 and 2.
-fn port_1() -> PortSet {
-    let mut set = PortSet::new();
-    set.add(1);
-    set
+/// An event of a worked example. Each frame is the engine's speed.
+#[derive(Clone, Copy)]
+enum Does {
+    /// A batch for these ports is published, of a program that answers always this.
+    Publish(&'static [u8], u32),
+    Take(u8),
+    Step(u8),
+    /// To a port, from another.
+    Send(u8, u8),
 }
 
-fn ports_1_and_2() -> PortSet {
-    let mut set = port_1();
-    set.add(2);
-    set
+/// What an event is answered. No frame is local, and sets of ports are the bits of a number.
+#[derive(Clone, Copy)]
+enum Says {
+    /// The front.
+    Published(u32),
+    /// The number and the front.
+    Taken(u32, u32),
+    Stepped,
+    Placed(u8),
+    Lost(u8),
+    /// The number, the front, and the allowed and placed ports.
+    Finished(u32, u32, u16, u16),
+    /// The number of a copy of a frame of port 0.
+    Sent(u32),
+    Empty,
+    Refused(EventRefusal),
 }
 
-/// A frame taken at port 0 or 1 is finished, and none was local.
-fn finished(number: u32, front: u32, allowed: PortSet, placed: PortSet) -> Given {
-    Ok(Answer::Finished(Outcome {
-        number,
-        front,
-        local: false,
-        allowed,
-        placed,
-    }))
-}
+type Row = (Does, Says);
 
-fn taken(number: u32, front: u32) -> Given {
-    Ok(Answer::Taken {
-        number,
-        front,
-        local: false,
-    })
-}
-
-fn sent(number: u32, frame: Frame) -> Given {
-    Ok(Answer::Sent(FrameCopy {
-        from: 0,
-        number,
-        frame,
-    }))
-}
-
-/// The answers must be these, one for each event.
-fn assert_answers(rt: &impl Abort, answers: &[Given], expected: &[Given]) {
-    assert_eq!(rt; answers.len(), expected.len());
-    for (index, (answer, wanted)) in answers.iter().zip(expected).enumerate() {
-        assert_eq!(rt; answer, wanted, "event {index}");
+fn event_of(rt: &impl Abort, alloc: Global, frame: Frame, does: Does) -> Event {
+    match does {
+        Does::Publish(ports, answer) => {
+            Event::Publish(batch(rt, alloc, ports, &returning(answer)))
+        }
+        Does::Take(port) => Event::Take(port, frame),
+        Does::Step(port) => Event::Step(port),
+        Does::Send(to, from) => Event::Send { to, from },
     }
 }
 
-#[test]
-fn a_full_lane(rt: HostRuntime) -> Result<(), Fail> {
+fn events_of(rt: &impl Abort, alloc: Global, frame: Frame, rows: &[Row]) -> Vec<Event> {
+    let mut events = Vec::new(alloc);
+    for (does, _) in rows {
+        let event = event_of(rt, alloc, frame, *does);
+        assert!(rt; events.push(event).is_ok());
+    }
+    events
+}
+
+/// The set of the ports whose bits are set.
+fn set_of(bits: u16) -> PortSet {
+    let mut ports = PortSet::new();
+    for port in 0..16 {
+        if bits >> port & 1 == 1 {
+            ports.add(port);
+        }
+    }
+    ports
+}
+
+fn answer_of(frame: Frame, says: Says) -> Given {
+    Ok(match says {
+        Says::Published(front) => Answer::Published { front },
+        Says::Taken(number, front) => Answer::Taken {
+            number,
+            front,
+            local: false,
+        },
+        Says::Stepped => Answer::Stepped,
+        Says::Placed(to) => Answer::Placed { to },
+        Says::Lost(to) => Answer::Lost { to },
+        Says::Finished(number, front, allowed, placed) => Answer::Finished(Outcome {
+            number,
+            front,
+            local: false,
+            allowed: set_of(allowed),
+            placed: set_of(placed),
+        }),
+        Says::Sent(number) => Answer::Sent(FrameCopy {
+            from: 0,
+            number,
+            frame,
+        }),
+        Says::Empty => Answer::Empty,
+        Says::Refused(why) => return Err(why),
+    })
+}
+
+/// The answers must be those of the rows, one for each event.
+fn assert_given(rt: &impl Abort, frame: Frame, answers: &[Given], rows: &[Row]) {
+    assert!(rt; answers.len() == rows.len());
+    for (index, (answer, (_, says))) in answers.iter().zip(rows).enumerate() {
+        assert!(rt; *answer == answer_of(frame, *says), "event {index}");
+    }
+}
+
+/// A new gateway must answer the events of the rows so.
+fn ran(rt: &impl Abort, alloc: Global, limits: Limits, rows: &[Row]) -> Result<Core, Fail>
+    ensures { IfOk result (λ core. core.limits ≡ limits) }
+{
     let frame = Frame::read(&ENGINE_SPEED)?;
-    let mut core = Core::new(rt.alloc(), Limits::new(3, 1, 4, 10)?)?;
-    let events = vec![in rt.alloc();
-        Event::Publish(batch(rt.alloc(), &[1], &returning(1))?),
-        Event::Take(0, frame),
-        Event::Step(0),
-        Event::Step(0),
-        Event::Step(0),
-        Event::Take(0, frame),
-        Event::Step(0),
-        Event::Step(0),
-        Event::Step(0),
-        Event::Send { to: 1, from: 0 },
-        Event::Take(0, frame),
-        Event::Step(0),
-        Event::Step(0),
-        Event::Step(0),
-        Event::Send { to: 1, from: 0 },
-        Event::Send { to: 1, from: 0 },
-        Event::Send { to: 1, from: 1 },
-    ]?;
-    let Ok(answers) = core.run(rt.alloc(), events) else {
+    let mut core = Core::new(alloc, limits)?;
+    let Ok(answers) = core.run(alloc, events_of(rt, alloc, frame, rows)) else {
         return Err(OutOfMemory.into());
     };
-    let expected = [
-        Ok(Answer::Published { front: 1 }),
-        taken(0, 1),
-        Ok(Answer::Stepped),
-        Ok(Answer::Placed { to: 1 }),
-        finished(0, 1, port_1(), port_1()),
-        taken(1, 1),
-        Ok(Answer::Stepped),
-        Ok(Answer::Lost { to: 1 }),
-        finished(1, 1, port_1(), PortSet::new()),
-        sent(0, frame),
-        taken(2, 1),
-        Ok(Answer::Stepped),
-        Ok(Answer::Placed { to: 1 }),
-        finished(2, 1, port_1(), port_1()),
-        sent(2, frame),
-        Ok(Answer::Empty),
-        Err(EventRefusal::NoSuchPort),
-    ];
-    assert_answers(&rt, &answers, &expected);
+    assert_given(rt, frame, &answers, rows);
+    Ok(core)
+}
+
+const FULL_LANE: [Row; 17] = [
+    (Does::Publish(&[1], 1), Says::Published(1)),
+    (Does::Take(0), Says::Taken(0, 1)),
+    (Does::Step(0), Says::Stepped),
+    (Does::Step(0), Says::Placed(1)),
+    (Does::Step(0), Says::Finished(0, 1, 0b10, 0b10)),
+    (Does::Take(0), Says::Taken(1, 1)),
+    (Does::Step(0), Says::Stepped),
+    (Does::Step(0), Says::Lost(1)),
+    (Does::Step(0), Says::Finished(1, 1, 0b10, 0)),
+    (Does::Send(1, 0), Says::Sent(0)),
+    (Does::Take(0), Says::Taken(2, 1)),
+    (Does::Step(0), Says::Stepped),
+    (Does::Step(0), Says::Placed(1)),
+    (Does::Step(0), Says::Finished(2, 1, 0b10, 0b10)),
+    (Does::Send(1, 0), Says::Sent(2)),
+    (Does::Send(1, 0), Says::Empty),
+    (Does::Send(1, 1), Says::Refused(EventRefusal::NoSuchPort)),
+];
+
+#[test]
+fn a_full_lane(rt: HostRuntime) -> Result<(), Fail> {
+    let core = ran(&rt, rt.alloc(), Limits::new(3, 1, 4, 10)?, &FULL_LANE)?;
     let ledger = InLedger {
         taken: 3,
         local: 0,
@@ -111,58 +153,43 @@ fn a_full_lane(rt: HostRuntime) -> Result<(), Fail> {
         placed: 2,
         lost: 1,
     };
-    assert_eq!(rt; *core.ledger(0), ledger);
-    assert_eq!(rt; core.sent(1).sent[0], 2);
-    assert_eq!(rt; core.waiting(0, 1), 0);
+    assert!(rt; *core.ledger(0) == ledger);
+    assert!(rt; core.sent(1).sent[0] == 2);
+    assert!(rt; core.waiting(0, 1) == 0);
     Ok(())
 }
+
+/// The policies are replaced while a frame is unfinished.
+const REPLACEMENT: [Row; 13] = [
+    (Does::Publish(&[1, 2], 1), Says::Published(1)),
+    (Does::Take(0), Says::Taken(0, 1)),
+    (Does::Step(0), Says::Stepped),
+    (Does::Publish(&[1, 2], 0), Says::Published(2)),
+    (Does::Step(0), Says::Placed(1)),
+    (Does::Step(0), Says::Stepped),
+    (Does::Step(0), Says::Finished(0, 1, 0b110, 0b110)),
+    (Does::Take(0), Says::Taken(1, 2)),
+    (Does::Step(0), Says::Stepped),
+    (Does::Step(0), Says::Finished(1, 2, 0, 0)),
+    (
+        Does::Publish(&[], 0),
+        Says::Refused(EventRefusal::VersionsSpent),
+    ),
+    (Does::Step(0), Says::Refused(EventRefusal::Idle)),
+    (Does::Take(5), Says::Refused(EventRefusal::NoSuchPort)),
+];
 
 #[test]
 fn a_replacement_while_a_frame_is_unfinished(rt: HostRuntime) -> Result<(), Fail> {
-    let frame = Frame::read(&ENGINE_SPEED)?;
-    let mut core = Core::new(rt.alloc(), Limits::new(3, 4, 2, 10)?)?;
-    let events = vec![in rt.alloc();
-        Event::Publish(batch(rt.alloc(), &[1, 2], &returning(1))?),
-        Event::Take(0, frame),
-        Event::Step(0),
-        Event::Publish(batch(rt.alloc(), &[1, 2], &returning(0))?),
-        Event::Step(0),
-        Event::Step(0),
-        Event::Step(0),
-        Event::Take(0, frame),
-        Event::Step(0),
-        Event::Step(0),
-        Event::Publish(Batch::new()),
-        Event::Step(0),
-        Event::Take(5, frame),
-    ]?;
-    let Ok(answers) = core.run(rt.alloc(), events) else {
-        return Err(OutOfMemory.into());
-    };
-    let expected = [
-        Ok(Answer::Published { front: 1 }),
-        taken(0, 1),
-        Ok(Answer::Stepped),
-        Ok(Answer::Published { front: 2 }),
-        Ok(Answer::Placed { to: 1 }),
-        Ok(Answer::Stepped),
-        finished(0, 1, ports_1_and_2(), ports_1_and_2()),
-        taken(1, 2),
-        Ok(Answer::Stepped),
-        finished(1, 2, PortSet::new(), PortSet::new()),
-        Err(EventRefusal::VersionsSpent),
-        Err(EventRefusal::Idle),
-        Err(EventRefusal::NoSuchPort),
-    ];
-    assert_answers(&rt, &answers, &expected);
-    assert_eq!(rt; core.waiting(0, 2), 1);
+    let core = ran(&rt, rt.alloc(), Limits::new(3, 4, 2, 10)?, &REPLACEMENT)?;
+    assert!(rt; core.waiting(0, 2) == 1);
     Ok(())
 }
 
 #[test]
-fn want_of_memory(rt: HostRuntime) -> Result<(), Fail> {
+fn want_of_memory(rt: HostRuntime) -> Result<(), AllocError> {
     let text = format!(in rt.alloc(); "{}", OutOfMemory)?;
-    assert_eq!(rt; OutOfMemory.number(), 71);
+    assert!(rt; OutOfMemory.number() == 71);
     assert!(rt; text.contains("no memory"), "{text}");
     Ok(())
 }

@@ -11,18 +11,6 @@ use std::alloc::{AllocError, Global};
 use std::test::Fail;
 use std::thread::{Threads, join};
 
-/// A copy of a frame of port 0.
-fn copy(number: u32) -> Result<FrameCopy, AllocError> {
-    let Ok(frame) = Frame::read(&ENGINE_SPEED) else {
-        return Err(AllocError);
-    };
-    Ok(FrameCopy {
-        from: 0,
-        number,
-        frame,
-    })
-}
-
 /// The ends of the first lane, from port 0 to port 1.
 fn first_lane(ends: LaneEnds) -> Option<(LaneIn, LaneOut)>
     requires { ends.outs.items ≡ map new_outlet ends.ins.items }
@@ -34,13 +22,18 @@ fn first_lane(ends: LaneEnds) -> Option<(LaneIn, LaneOut)>
     Some((from, to))
 }
 
-/// Places a copy, hands the end back, and answers the number of a copy that came back.
-fn push(mut from: LaneIn, copy: FrameCopy) -> (LaneIn, Option<u32>)
-    ensures { result.0.ring ≡ from.ring }
+/// Places a copy of a frame of port 0, and answers the number of a copy that came back.
+fn push(from: &mut LaneIn, frame: Frame, number: u32) -> Option<u32>
+    ensures { from.new.ring ≡ from.old.ring }
 {
+    let copy = FrameCopy {
+        from: 0,
+        number,
+        frame,
+    };
     match from.push(copy) {
-        Ok(()) => (from, None),
-        Err(back) => (from, Some(back.number)),
+        Ok(()) => None,
+        Err(back) => Some(back.number),
     }
 }
 
@@ -66,16 +59,16 @@ struct Found {
 fn passed<R: Threads + Sync>(
     rt: &R,
     alloc: Global,
-    from: LaneIn,
+    frame: Frame,
+    mut from: LaneIn,
     to: LaneOut,
 ) -> Result<Found, AllocError>
     requires { from.ring ≡ to.ring }
 {
-    let (from, first) = push(from, copy(0)?);
-    let (from, second) = push(from, copy(1)?);
-    let (from, third) = push(from, copy(2)?);
-    let (from, fourth) = push(from, copy(3)?);
-    let (from, fifth) = push(from, copy(4)?);
+    let mut pushed = [None; 6];
+    for number in 0..5 {
+        pushed[number as usize] = push(&mut from, frame, number);
+    }
     let ((mut to, taken_elsewhere), ()) = join(
         rt,
         move || -> (LaneOut, Option<u32>)
@@ -83,12 +76,12 @@ fn passed<R: Threads + Sync>(
         { pop(to) },
         || (),
     );
-    let (mut from, again) = push(from, copy(4)?);
+    pushed[5] = push(&mut from, frame, 4);
     let waiting = to.left(&mut from);
     let mut left = Vec::with_capacity(alloc, waiting)?;
     finish(from, to, &mut left);
     Ok(Found {
-        pushed: [first, second, third, fourth, fifth, again],
+        pushed,
         taken_elsewhere,
         waiting,
         left,
@@ -98,18 +91,18 @@ fn passed<R: Threads + Sync>(
 #[test]
 fn a_full_lane_has_room_again(rt: HostRuntime) -> Result<(), Fail> {
     let alloc = rt.alloc();
+    let frame = Frame::read(&ENGINE_SPEED)?;
     let ends = lanes(alloc, Limits::new(2, 4, 1, 1)?)?;
-    let count = (ends.ins.len(), ends.outs.len());
+    assert!(rt; ends.ins.len() == 2 && ends.outs.len() == 2);
     let Some((from, to)) = first_lane(ends) else {
-        return Err("no lane".into());
+        panic!(rt; "no lane");
     };
-    assert_eq!(rt; count, (2, 2));
-    let found = passed(&rt, alloc, from, to)?;
-    assert_eq!(rt; found.pushed, [None, None, None, None, Some(4), None]);
-    assert_eq!(rt; (found.taken_elsewhere, found.waiting), (Some(0), 4));
+    let found = passed(&rt, alloc, frame, from, to).expect(&rt, "memory");
+    assert!(rt; found.pushed == [None, None, None, None, Some(4), None]);
+    assert!(rt; found.taken_elsewhere == Some(0) && found.waiting == 4);
+    assert!(rt; found.left.len() == 4);
     for (number, copy) in (1..).zip(&found.left) {
-        assert_eq!(rt; copy.number, number);
+        assert!(rt; copy.number == number);
     }
-    assert_eq!(rt; found.left.len(), 4);
     Ok(())
 }

@@ -8,6 +8,7 @@ use gw_ledger::PortSet;
 use gw_policy::{Batch, Policy};
 use gw_verify::Program;
 use std::alloc::{AllocError, Global};
+use std::process::Abort;
 use std::sync::Arc;
 
 /// EEC1 of the engine, its speed, with no value known.
@@ -50,15 +51,15 @@ pub fn policy(alloc: Global, rows: &[Row]) -> Result<Arc<Policy>, AllocError> {
     }
 }
 
-/// A batch with one accepted program for these ports.
-pub fn batch(alloc: Global, ports: &[u8], rows: &[Row]) -> Result<Batch, AllocError> {
+/// A batch with one accepted program for these ports. A test that cannot have it stops: a `?` in the test would ask of the
+/// prover what becomes of all else that the test holds.
+pub fn batch(rt: &impl Abort, alloc: Global, ports: &[u8], rows: &[Row]) -> Batch {
     let mut batch = Batch::new();
     for port in ports {
-        if batch.add(*port, policy(alloc, rows)?).is_err() {
-            return Err(AllocError);
-        }
+        let policy = policy(alloc, rows).expect(rt, "a policy");
+        assert!(rt; batch.add(*port, policy).is_ok());
     }
-    Ok(batch)
+    batch
 }
 
 /// The program `ret #answer`.

@@ -1,62 +1,77 @@
 //! The worked examples: batches, and what is in force.
 
-use crate::made::{frame, policy, returning};
-use gw_policy::{Batch, BatchRefusal, PolicySet};
+use crate::made::{batch, frame, policy, returning};
+use gw_frame::Frame;
+use gw_policy::{Batch, BatchRefusal, Policy, PolicySet};
+use std::alloc::Global;
+use std::process::Abort;
+use std::sync::Arc;
 use std::test::Fail;
 
 /// EEC1, an engine's speed.
 const ENGINE_SPEED: u32 = 0x8CF00400;
 
-#[test]
-fn a_batch_of_sixteen_ports(rt: HostRuntime) -> Result<(), Fail> {
-    let engine_speed = frame(ENGINE_SPEED)?;
+/// A batch of sixteen ports, each with a program of its own.
+fn sixteen_ports(rt: &impl Abort, alloc: Global) -> Batch {
     let mut batch = Batch::new();
     for port in 0..16 {
-        let added = batch.add(port, policy(rt.alloc(), &returning(u32::from(port)))?);
-        assert!(rt; added.is_ok(), "port {port}");
+        let policy = policy(alloc, &returning(u32::from(port))).expect(rt, "a policy");
+        assert!(rt; batch.add(port, policy).is_ok(), "port {port}");
     }
-    assert_eq!(rt; batch.len(), 16);
-    for (index, port) in [(0, 0), (7, 7), (15, 15)] {
-        let pair = batch.pair(index).map(|pair| pair.0);
-        assert_eq!(rt; pair, Some(port));
+    batch
+}
+
+/// The number by which a policy that passes is refused for a port, where it comes back.
+fn refused(rt: &impl Abort, batch: &mut Batch, port: u8, added: Arc<Policy>) -> Option<u32> {
+    let Err(refusal) = batch.add(port, added) else {
+        return None;
+    };
+    let number = refusal.number();
+    let (BatchRefusal::SamePortTwice(back) | BatchRefusal::Full(back)) = refusal;
+    let engine_speed = frame(ENGINE_SPEED).expect(rt, "a frame");
+    back.verdict(&engine_speed, 0).then_some(number)
+}
+
+#[test]
+fn a_batch_of_sixteen_ports(rt: HostRuntime) {
+    let alloc = rt.alloc();
+    let mut batch = sixteen_ports(&rt, alloc);
+    assert!(rt; batch.len() == 16);
+    for port in [0, 7, 15] {
+        assert!(rt;
+            batch
+                .pair(usize::from(port))
+                .is_some_and(|pair| pair.0 == port),
+            "port {port}"
+        );
     }
     assert!(rt; batch.pair(16).is_none());
     for (port, number) in [(15, 60), (16, 61)] {
-        let Err(refusal) = batch.add(port, policy(rt.alloc(), &returning(1))?) else {
-            assert!(rt; false, "port {port} is accepted");
-            return Ok(());
-        };
-        assert_eq!(rt; refusal.number(), number);
-        let (BatchRefusal::SamePortTwice(back) | BatchRefusal::Full(back)) = refusal;
-        assert!(rt; back.verdict(&engine_speed, 0));
+        let pass = policy(alloc, &returning(1)).expect(&rt, "a policy");
+        assert!(rt; refused(&rt, &mut batch, port, pass) == Some(number));
     }
-    Ok(())
+}
+
+/// Port 3 alone must have a policy, which passes the frame.
+fn assert_only_3_passes(rt: &impl Abort, set: &PolicySet, frame: &Frame) {
+    for port in 0..=255 {
+        assert!(rt; set.verdict(port, frame, 0) == (port == 3), "port {port}");
+        assert!(rt; set.get(port).is_some() == (port == 3), "port {port}");
+    }
 }
 
 #[test]
 fn the_set_in_force(rt: HostRuntime) -> Result<(), Fail> {
+    let alloc = rt.alloc();
     let engine_speed = frame(ENGINE_SPEED)?;
     let mut set = PolicySet::new();
     assert!(rt; !set.verdict(3, &engine_speed, 0));
-    assert_eq!(rt; set.front(), 0);
-    let mut batch = Batch::new();
-    for port in [3, 200] {
-        assert!(rt; batch.add(port, policy(rt.alloc(), &returning(1))?).is_ok());
-    }
-    set.absorb(&batch)?;
-    assert_eq!(rt; set.front(), 1);
-    for port in 0..=255 {
-        assert_eq!(rt;
-            set.verdict(port, &engine_speed, 0),
-            port == 3,
-            "port {port}"
-        );
-        assert_eq!(rt; set.get(port).is_some(), port == 3, "port {port}");
-    }
-    let mut later = Batch::new();
-    assert!(rt; later.add(3, policy(rt.alloc(), &returning(0))?).is_ok());
-    set.absorb(&later)?;
-    assert_eq!(rt; set.front(), 2);
+    assert!(rt; set.front() == 0);
+    set.absorb(&batch(&rt, alloc, &[3, 200], &returning(1)))?;
+    assert!(rt; set.front() == 1);
+    assert_only_3_passes(&rt, &set, &engine_speed);
+    set.absorb(&batch(&rt, alloc, &[3], &returning(0)))?;
+    assert!(rt; set.front() == 2);
     assert!(rt; !set.verdict(3, &engine_speed, 0));
     assert!(rt; set.get(3).is_some());
     Ok(())

@@ -7,13 +7,13 @@ ghost use Rattle.gw_ports.specs.Making.{AreOfOneGateway};
 use crate::made::{ENGINE_SPEED, Row, batch, bits, returning};
 use gw_board::Told;
 use gw_frame::Frame;
-use gw_ledger::{InLedger, Limits, balance};
+use gw_ledger::{FrameCopy, InLedger, Limits, balance};
 use gw_policy::Batch;
 use gw_ports::{OfferRefusal, Parts, PortIn, PortOut, Report, close, gateway};
 use std::alloc::{AllocError, Global};
+use std::process::Abort;
 use std::sync::Wait;
 use std::test::Fail;
-use std::vec::IntoIter;
 
 /// Each port in learns what was told.
 fn learn_all(ports: &mut [PortIn], told: &Told)
@@ -51,98 +51,22 @@ fn offer(from: &mut PortIn, frame: Frame) -> Offered
     ))
 }
 
-/// The source and the number of the next copy.
-fn next(to: &mut PortOut) -> Option<(u8, u32)>
-    ensures { end_out to.new ≡ end_out to.old }
-{
-    match to.next() {
+/// The source and the number of a copy.
+fn told(copy: Option<FrameCopy>) -> Option<(u8, u32)> {
+    match copy {
         Some(copy) => Some((copy.from, copy.number)),
         None => None,
     }
 }
 
-/// The number of the next copy of a source.
-fn next_from(to: &mut PortOut, port: u8) -> Option<u32> {
-    match to.next_from(port) {
-        Some(copy) => Some(copy.number),
-        None => None,
-    }
-}
-
-/// The ports in at which a frame may be offered, once a batch is published and learnt, and the ports out.
-fn ready<R: Wait>(
-    rt: &R,
-    alloc: Global,
-    limits: Limits,
-    batch: Batch,
-) -> Option<(IntoIter<PortIn>, IntoIter<PortOut>)> {
-    let mut parts = gateway(alloc, limits).ok()?;
-    if publish(rt, &mut parts, batch) != Some(1) {
-        return None;
-    }
-    Some((parts.ins.into_iter(), parts.outs.into_iter()))
-}
-
-#[test]
-fn room_again_and_the_circle_of_sources(rt: HostRuntime) -> Result<(), Fail> {
-    let frame = Frame::read(&ENGINE_SPEED)?;
-    let batch = batch(rt.alloc(), &[2], &returning(1))?;
-    let Some((mut ins, mut outs)) = ready(&rt, rt.alloc(), Limits::new(3, 1, 1, 3)?, batch) else {
-        return Err("no gateway".into());
+/// The next copy, or that of one source.
+fn next(to: &mut PortOut, from: Option<u8>) -> Option<(u8, u32)>
+    ensures { end_out to.new ≡ end_out to.old }
+{
+    let Some(port) = from else {
+        return told(to.next());
     };
-    let (Some(mut first), Some(mut second), Some(mut out)) = (ins.next(), ins.next(), outs.nth(2))
-    else {
-        return Err("no ports".into());
-    };
-    assert_eq!(rt; offer(&mut first, frame), Ok((0, 1, 0b100, 0b100)));
-    assert_eq!(rt; offer(&mut first, frame), Ok((1, 1, 0b100, 0)));
-    assert_eq!(rt; offer(&mut second, frame), Ok((0, 1, 0b100, 0b100)));
-    assert_eq!(rt; next(&mut out), Some((0, 0)));
-    assert_eq!(rt; offer(&mut first, frame), Ok((2, 1, 0b100, 0b100)));
-    assert_eq!(rt; next(&mut out), Some((1, 0)));
-    for port in 1..4 {
-        assert_eq!(rt; next_from(&mut out, port), None);
-    }
-    assert_eq!(rt; next_from(&mut out, 0), Some(2));
-    assert_eq!(rt; next(&mut out), None);
-    assert_eq!(rt; first.offer(frame), Err(OfferRefusal::FramesSpent));
-    Ok(())
-}
-
-#[test]
-fn a_lane_of_one_copy_a_hundred_thousand_times(rt: HostRuntime) -> Result<(), Fail> {
-    let frame = Frame::read(&ENGINE_SPEED)?;
-    let batch = batch(rt.alloc(), &[1], &returning(1))?;
-    let Some((mut ins, mut outs)) = ready(&rt, rt.alloc(), Limits::new(2, 1, 1, 100_000)?, batch)
-    else {
-        return Err("no gateway".into());
-    };
-    let (Some(mut first), Some(mut last)) = (ins.next(), outs.nth(1)) else {
-        return Err("no ports".into());
-    };
-    for round in 0..100_000 {
-        assert_eq!(rt; offer(&mut first, frame), Ok((round, 1, 0b10, 0b10)));
-        assert_eq!(rt; next(&mut last), Some((0, round)));
-    }
-    Ok(())
-}
-
-/// `ld ifidx`, `ret a`: what port 0 took is blocked.
-const TAKING_PORT: [Row; 2] = [(32, 0, 0, 0xFFFF_F008), (22, 0, 0, 0)];
-
-#[test]
-fn the_taking_port_is_handed_in(rt: HostRuntime) -> Result<(), Fail> {
-    let frame = Frame::read(&ENGINE_SPEED)?;
-    let batch = batch(rt.alloc(), &[2], &TAKING_PORT)?;
-    let Some((mut ins, _outs)) = ready(&rt, rt.alloc(), Limits::new(3, 4, 4, 10)?, batch) else {
-        return Err("no gateway".into());
-    };
-    let (Some(mut first), Some(mut second)) = (ins.next(), ins.next()) else {
-        return Err("no ports".into());
-    };
-    assert_eq!(rt; offer(&mut first, frame), Ok((0, 1, 0, 0)));
-    assert_eq!(rt; offer(&mut second, frame), Ok((0, 1, 0b100, 0b100)));
-    Ok(())
+    told(to.next_from(port))
 }
 
 /// Offers a frame at a port.
@@ -156,37 +80,114 @@ fn offer_at(parts: &mut Parts, port: usize, frame: Frame) -> Option<Offered>
     Some(offer(&mut parts.ins[port], frame))
 }
 
-/// The source and the number of the next copy at a port.
-fn next_at(parts: &mut Parts, port: usize) -> Option<(u8, u32)>
+/// The next copy at a port, or that of one source.
+fn next_at(parts: &mut Parts, port: usize, from: Option<u8>) -> Option<(u8, u32)>
     requires { AreOfOneGateway parts.old.operator parts.old.ins.items parts.old.outs.items }
     ensures { AreOfOneGateway parts.new.operator parts.new.ins.items parts.new.outs.items }
 {
     if port >= parts.outs.len() {
         return None;
     }
-    next(&mut parts.outs[port])
+    next(&mut parts.outs[port], from)
+}
+
+/// A use of a gateway's end, and what comes of it.
+#[derive(Clone, Copy)]
+enum Use {
+    /// The frame is offered at a port.
+    Offer(usize, Offered),
+    /// The next copy is taken at a port, or that of one source.
+    Next(usize, Option<u8>, Option<(u8, u32)>),
+}
+
+/// Makes a use, and says whether that comes of it.
+fn is_met(parts: &mut Parts, frame: Frame, using: Use) -> bool
+    requires { AreOfOneGateway parts.old.operator parts.old.ins.items parts.old.outs.items }
+    ensures { AreOfOneGateway parts.new.operator parts.new.ins.items parts.new.outs.items }
+{
+    match using {
+        Use::Offer(port, expected) => offer_at(parts, port, frame) == Some(expected),
+        Use::Next(port, from, expected) => next_at(parts, port, from) == expected,
+    }
+}
+
+/// What comes of each use, one after another, must be what it says.
+fn assert_met(rt: &impl Abort, parts: &mut Parts, uses: &[Use])
+    requires { AreOfOneGateway parts.old.operator parts.old.ins.items parts.old.outs.items }
+    ensures { AreOfOneGateway parts.new.operator parts.new.ins.items parts.new.outs.items }
+{
+    let frame = Frame::read(&ENGINE_SPEED).expect(rt, "a frame");
+    for (index, using) in uses.iter().enumerate() {
+        assert!(rt; is_met(parts, frame, *using), "use {index}");
+    }
+}
+
+/// The parts of a gateway whose ports know a batch of one policy.
+fn ready<R: Wait + Abort>(rt: &R, alloc: Global, limits: Limits, port: u8, rows: &[Row]) -> Parts
+    ensures { AreOfOneGateway result.operator result.ins.items result.outs.items }
+{
+    let mut parts = gateway(alloc, limits).expect(rt, "a gateway");
+    let batch = batch(rt, alloc, &[port], rows);
+    assert!(rt; publish(rt, &mut parts, batch) == Some(1));
+    parts
+}
+
+/// Lanes of one copy: room again, and the circle of sources at port 2.
+const CIRCLE: [Use; 12] = [
+    Use::Offer(0, Ok((0, 1, 0b100, 0b100))),
+    Use::Offer(0, Ok((1, 1, 0b100, 0))),
+    Use::Offer(1, Ok((0, 1, 0b100, 0b100))),
+    Use::Next(2, None, Some((0, 0))),
+    Use::Offer(0, Ok((2, 1, 0b100, 0b100))),
+    Use::Next(2, None, Some((1, 0))),
+    Use::Next(2, Some(1), None),
+    Use::Next(2, Some(2), None),
+    Use::Next(2, Some(3), None),
+    Use::Next(2, Some(0), Some((0, 2))),
+    Use::Next(2, None, None),
+    Use::Offer(0, Err(OfferRefusal::FramesSpent)),
+];
+
+#[test]
+fn room_again_and_the_circle_of_sources(rt: HostRuntime) -> Result<(), Fail> {
+    let limits = Limits::new(3, 1, 1, 3)?;
+    let mut parts = ready(&rt, rt.alloc(), limits, 2, &returning(1));
+    assert_met(&rt, &mut parts, &CIRCLE);
+    Ok(())
+}
+
+/// A frame is offered at port 0, and its copy is taken at port 1, so many times.
+fn turns(alloc: Global, count: u32) -> Result<Vec<Use>, AllocError> {
+    let mut uses = Vec::new(alloc);
+    for round in 0..count {
+        uses.push(Use::Offer(0, Ok((round, 1, 0b10, 0b10))))?;
+        uses.push(Use::Next(1, None, Some((0, round))))?;
+    }
+    Ok(uses)
 }
 
 #[test]
-fn sixteen_ports_and_each_source_in_its_turn(rt: HostRuntime) -> Result<(), Fail> {
-    let frame = Frame::read(&ENGINE_SPEED)?;
-    let pass = batch(rt.alloc(), &[0], &returning(1))?;
-    let Ok(mut parts) = gateway(rt.alloc(), Limits::new(16, 1, 1, 16)?) else {
-        return Err("no gateway".into());
-    };
-    assert!(rt; publish(&rt, &mut parts, pass) == Some(1));
-    for first in 1..16 {
-        // The circle goes on behind the source whose copy was taken last.
-        offer_at(&mut parts, usize::from(first), frame);
-        assert!(rt; next_at(&mut parts, 0).is_some_and(|(source, _)| source == first));
-        for port in 1..16 {
-            offer_at(&mut parts, port, frame);
-        }
-        for step in 0..15 {
-            let source = (first + step) % 15 + 1;
-            assert!(rt; next_at(&mut parts, 0).is_some_and(|(from, _)| from == source));
-        }
-    }
+fn a_lane_of_one_copy_a_thousand_times(rt: HostRuntime) -> Result<(), Fail> {
+    let limits = Limits::new(2, 1, 1, 1000)?;
+    let uses = turns(rt.alloc(), 1000)?;
+    let mut parts = ready(&rt, rt.alloc(), limits, 1, &returning(1));
+    assert_met(&rt, &mut parts, &uses);
+    Ok(())
+}
+
+/// `ld ifidx`, `ret a`: what port 0 took is blocked.
+const TAKING_PORT: [Row; 2] = [(32, 0, 0, 0xFFFF_F008), (22, 0, 0, 0)];
+
+const BLOCKED_FROM_0: [Use; 2] = [
+    Use::Offer(0, Ok((0, 1, 0, 0))),
+    Use::Offer(1, Ok((0, 1, 0b100, 0b100))),
+];
+
+#[test]
+fn the_taking_port_is_handed_in(rt: HostRuntime) -> Result<(), Fail> {
+    let limits = Limits::new(3, 4, 4, 10)?;
+    let mut parts = ready(&rt, rt.alloc(), limits, 2, &TAKING_PORT);
+    assert_met(&rt, &mut parts, &BLOCKED_FROM_0);
     Ok(())
 }
 
@@ -218,90 +219,85 @@ fn is_balanced(report: &Report, left: u64) -> bool {
     report.ins.len() <= 16 && report.outs.len() <= 16 && balance(&report.ins, &report.outs, left)
 }
 
+/// The report must have these copies left on the lane from port 0 to port 1, and this count at port 0.
+fn assert_report(
+    rt: &impl Abort,
+    alloc: Global,
+    report: &Report,
+    left: &[u32],
+    counted: &InLedger,
+) {
+    let numbers = numbers_left(alloc, report, 0, 1).expect(rt, "memory");
+    assert!(rt; numbers.as_slice() == left);
+    assert!(rt; report.ins.first() == Some(counted));
+    assert!(rt; is_balanced(report, left.len() as u64));
+    assert!(rt; report.front == 1);
+}
+
+fn assert_closes(rt: &impl Abort, alloc: Global, parts: Parts, left: &[u32], counted: &InLedger)
+    requires { AreOfOneGateway parts.operator parts.ins.items parts.outs.items }
+{
+    match close(alloc, parts) {
+        Ok(report) => assert_report(rt, alloc, &report, left, counted),
+        Err(_) => assert!(rt; false, "not closed"),
+    }
+}
+
+/// Room for two frames at each port.
+const TWO_FRAMES: [Use; 3] = [
+    Use::Offer(0, Ok((0, 1, 0b10, 0b10))),
+    Use::Offer(0, Ok((1, 1, 0b10, 0b10))),
+    Use::Offer(0, Err(OfferRefusal::FramesSpent)),
+];
+
+const TWO_PLACED: InLedger = InLedger {
+    taken: 2,
+    local: 0,
+    allowed: 2,
+    placed: 2,
+    lost: 0,
+};
+
 #[test]
 fn a_gateway_by_hand_and_its_close(rt: HostRuntime) -> Result<(), Fail> {
+    let limits = Limits::new(2, 4, 1, 2)?;
     let alloc = rt.alloc();
-    let frame = Frame::read(&ENGINE_SPEED)?;
-    let no_port = batch(alloc, &[2], &returning(1))?;
-    let pass = batch(alloc, &[1], &returning(1))?;
-    let too_many = batch(alloc, &[1], &returning(1))?;
-    let Ok(mut parts) = gateway(alloc, Limits::new(2, 4, 1, 2)?) else {
-        return Err("no gateway".into());
-    };
-    assert_eq!(rt; refuse(&rt, &mut parts, no_port), Some(81));
-    assert_eq!(rt; publish(&rt, &mut parts, pass), Some(1));
-    assert_eq!(rt;
-        offer_at(&mut parts, 0, frame),
-        Some(Ok((0, 1, 0b10, 0b10)))
-    );
-    assert_eq!(rt;
-        offer_at(&mut parts, 0, frame),
-        Some(Ok((1, 1, 0b10, 0b10)))
-    );
-    assert_eq!(rt;
-        offer_at(&mut parts, 0, frame),
-        Some(Err(OfferRefusal::FramesSpent))
-    );
-    assert_eq!(rt; refuse(&rt, &mut parts, too_many), Some(75));
-    assert_eq!(rt; next_at(&mut parts, 1), Some((0, 0)));
-    let Ok(report) = close(alloc, parts) else {
-        return Err("not closed".into());
-    };
-    assert_eq!(rt;
-        numbers_left(alloc, &report, 0, 1)?.as_slice(),
-        [1].as_slice()
-    );
-    assert_eq!(rt;
-        report.ins.first(),
-        Some(&InLedger {
-            taken: 2,
-            local: 0,
-            allowed: 2,
-            placed: 2,
-            lost: 0
-        })
-    );
-    assert!(rt; is_balanced(&report, 1));
-    assert_eq!(rt; report.front, 1);
+    let mut parts = gateway(alloc, limits)?;
+    let no_port = batch(&rt, alloc, &[2], &returning(1));
+    assert!(rt; refuse(&rt, &mut parts, no_port) == Some(81));
+    let pass = batch(&rt, alloc, &[1], &returning(1));
+    assert!(rt; publish(&rt, &mut parts, pass) == Some(1));
+    assert_met(&rt, &mut parts, &TWO_FRAMES);
+    let too_many = batch(&rt, alloc, &[1], &returning(1));
+    assert!(rt; refuse(&rt, &mut parts, too_many) == Some(75));
+    assert_met(&rt, &mut parts, &[Use::Next(1, None, Some((0, 0)))]);
+    assert_closes(&rt, alloc, parts, &[1], &TWO_PLACED);
     Ok(())
 }
 
+/// Room for two copies in the lane, and for five frames at each port.
+const FULL_LANE: [Use; 6] = [
+    Use::Offer(0, Ok((0, 1, 0b10, 0b10))),
+    Use::Offer(0, Ok((1, 1, 0b10, 0b10))),
+    Use::Offer(0, Ok((2, 1, 0b10, 0))),
+    Use::Offer(0, Ok((3, 1, 0b10, 0))),
+    Use::Offer(0, Ok((4, 1, 0b10, 0))),
+    Use::Offer(0, Err(OfferRefusal::FramesSpent)),
+];
+
+const THREE_LOST: InLedger = InLedger {
+    taken: 5,
+    local: 0,
+    allowed: 5,
+    placed: 2,
+    lost: 3,
+};
+
 #[test]
 fn a_full_lane_and_its_close(rt: HostRuntime) -> Result<(), Fail> {
-    let alloc = rt.alloc();
-    let frame = Frame::read(&ENGINE_SPEED)?;
-    let pass = batch(alloc, &[1], &returning(1))?;
-    let Ok(mut parts) = gateway(alloc, Limits::new(2, 2, 1, 5)?) else {
-        return Err("no gateway".into());
-    };
-    assert_eq!(rt; publish(&rt, &mut parts, pass), Some(1));
-    for number in 0..5 {
-        assert_eq!(rt;
-            offer_at(&mut parts, 0, frame),
-            Some(Ok((number, 1, 0b10, if number < 2 { 0b10 } else { 0 })))
-        );
-    }
-    assert_eq!(rt;
-        offer_at(&mut parts, 0, frame),
-        Some(Err(OfferRefusal::FramesSpent))
-    );
-    let Ok(report) = close(alloc, parts) else {
-        return Err("not closed".into());
-    };
-    assert_eq!(rt;
-        numbers_left(alloc, &report, 0, 1)?.as_slice(),
-        [0, 1].as_slice()
-    );
-    assert_eq!(rt;
-        report.ins.first(),
-        Some(&InLedger {
-            taken: 5,
-            local: 0,
-            allowed: 5,
-            placed: 2,
-            lost: 3
-        })
-    );
-    assert!(rt; is_balanced(&report, 2));
+    let limits = Limits::new(2, 2, 1, 5)?;
+    let mut parts = ready(&rt, rt.alloc(), limits, 1, &returning(1));
+    assert_met(&rt, &mut parts, &FULL_LANE);
+    assert_closes(&rt, rt.alloc(), parts, &[0, 1], &THREE_LOST);
     Ok(())
 }

@@ -1,18 +1,21 @@
 //! The worked examples of a gateway that runs in threads of its own.
 
 ghost use Rattle.std.specs.Prelude.{◌≡◌, ◌≤◌, All, IfOk, length, vec_len};
-ghost use Rattle.std.specs.Iterator.{at_most};
+ghost use Rattle.std.specs.Iterator.Adapters.{repeat_n_count};
 
 use crate::made::{ENGINE_SPEED, batch, bits, returning};
 use gw_frame::Frame;
 use gw_ledger::{FrameCopy, Limits, Outcome};
 use gw_policy::Batch;
-use gw_ports::{Gate, OfferRefusal, RunReport, run, run_from};
+use gw_ports::{Gate, OfferRefusal, RunRefusal, RunReport, run, run_from};
 use std::alloc::{AllocError, Global};
+use std::iter::{RepeatN, repeat_n};
+use std::marker::Sync;
 use std::process::Abort;
+use std::sync::Wait;
 use std::sync::atomic::{AtomicBool, Ordering};
 use std::test::Fail;
-use std::thread::yield_now;
+use std::thread::{Threads, yield_now};
 
 /// The gate of the worked example: both ports offer their first frame at one time, then the batch is published, then port 1
 /// offers its second frame, and port 0 its own.
@@ -108,16 +111,32 @@ fn inputs_of(alloc: Global, frame: Frame, counts: &[usize]) -> Result<Vec<Vec<Fr
 }
 
 /// The number, front, allowed and placed ports of an outcome.
-fn told(outcome: Option<&Outcome>) -> Option<(u32, u32, u32, u32)> {
-    match outcome {
-        Some(outcome) => Some((
-            outcome.number,
-            outcome.front,
-            bits(outcome.allowed),
-            bits(outcome.placed),
-        )),
-        None => None,
-    }
+type Told = (u32, u32, u32, u32);
+
+/// What becomes of the frames of each port.
+const OUTCOMES: [&[Told]; 3] = [
+    &[(0, 1, 0b110, 0b110), (1, 2, 0b010, 0b010)],
+    &[(0, 1, 0b101, 0b101), (1, 2, 0b001, 0b001)],
+    &[],
+];
+
+/// The copies that leave: at which port, from which, and their numbers in order.
+const COPIES: [(usize, u8, &[u32]); 4] = [
+    (1, 0, &[0, 1]),
+    (0, 1, &[0, 1]),
+    (2, 0, &[0]),
+    (2, 1, &[0]),
+];
+
+fn told(outcome: &Outcome) -> Told {
+    let Outcome {
+        number,
+        front,
+        allowed,
+        placed,
+        ..
+    } = *outcome;
+    (number, front, bits(allowed), bits(placed))
 }
 
 /// The numbers of the copies from a port, in order.
@@ -131,98 +150,82 @@ fn numbers_from(alloc: Global, out: &[FrameCopy], from: u8) -> Result<Vec<u32>, 
     Ok(numbers)
 }
 
-/// The batch that the ports know first, and the one that is published between their offers.
-fn batches_of(alloc: Global) -> Result<(Batch, Vec<Batch>), AllocError> {
-    let first = batch(alloc, &[0, 1, 2], &returning(1))?;
+/// One batch, which is published between the offers.
+fn batches_of(rt: &impl Abort, alloc: Global, ports: &[u8], answer: u32) -> Vec<Batch> {
     let mut batches = Vec::new(alloc);
-    batches.push(batch(alloc, &[2], &returning(0))?)?;
-    Ok((first, batches))
+    let batch = batch(rt, alloc, ports, &returning(answer));
+    assert!(rt; batches.push(batch).is_ok());
+    batches
+}
+
+/// The outcomes of each port must be those of the example.
+fn assert_outcomes(rt: &impl Abort, outcomes: &[Vec<Outcome>]) {
+    assert!(rt; outcomes.len() == OUTCOMES.len());
+    for (outcomes, expected) in outcomes.iter().zip(&OUTCOMES) {
+        assert!(rt; outcomes.len() == expected.len());
+        for (outcome, expected) in outcomes.iter().zip(*expected) {
+            assert!(rt; told(outcome) == *expected);
+        }
+    }
+}
+
+/// The copies that leave at each port must be those of the example, two at each.
+fn assert_copies(rt: &impl Abort, alloc: Global, out: &[Vec<FrameCopy>]) {
+    assert!(rt; out.len() == 3 && out.iter().all(|out| out.len() == 2));
+    for (to, from, expected) in COPIES {
+        if let Some(out) = out.get(to) {
+            let numbers = numbers_from(alloc, out, from).expect(rt, "memory");
+            assert!(rt; numbers.as_slice() == expected, "from {from} to {to}");
+        }
+    }
 }
 
 /// What the example states of a run.
-fn expect_turns<R: Abort>(
+fn assert_turns(rt: &impl Abort, alloc: Global, ran: &RunReport, gate: &InTurn) {
+    assert!(rt; !gate.is_late.load(Ordering::SeqCst));
+    assert_outcomes(rt, &ran.outcomes);
+    assert_copies(rt, alloc, &ran.out);
+    assert!(rt; ran.fronts.as_slice() == [2].as_slice());
+    assert!(rt; ran.report.lanes.iter().all(|lane| lane.left.is_empty()));
+}
+
+/// Runs ports that offer the engine's speed so many times each.
+fn run_of<R: Threads + Wait + Sync + Abort, G: Gate>(
     rt: &R,
     alloc: Global,
-    ran: &RunReport,
-    gate: &InTurn,
-) -> Result<(), Fail> {
-    assert!(rt; !gate.is_late.load(Ordering::SeqCst));
-    let (Some(zero), Some(one), Some(two)) = (
-        ran.outcomes.get(0),
-        ran.outcomes.get(1),
-        ran.outcomes.get(2),
-    ) else {
-        return Err("no outcomes of three ports".into());
+    limits: Limits,
+    counts: &[usize],
+    first: Batch,
+    batches: Vec<Batch>,
+    gate: &G,
+) -> Result<RunReport, RunRefusal>
+    requires { length counts.now ≡ limits.ports }
+{
+    let frame = Frame::read(&ENGINE_SPEED).expect(rt, "a frame");
+    let Ok(inputs) = inputs_of(alloc, frame, counts) else {
+        panic!(rt; "no memory");
     };
-    assert_eq!(rt; told(zero.get(0)), Some((0, 1, 6, 6)));
-    assert_eq!(rt; told(zero.get(1)), Some((1, 2, 2, 2)));
-    assert_eq!(rt; told(one.get(0)), Some((0, 1, 5, 5)));
-    assert_eq!(rt; told(one.get(1)), Some((1, 2, 1, 1)));
-    assert_eq!(rt; (zero.len(), one.len(), two.len()), (2, 2, 0));
-    assert_eq!(rt; ran.fronts.as_slice(), [2].as_slice());
-    let (Some(zero), Some(one), Some(two)) = (ran.out.get(0), ran.out.get(1), ran.out.get(2)) else {
-        return Err("no copies of three ports".into());
-    };
-    assert_eq!(rt; numbers_from(alloc, one, 0)?.as_slice(), [0, 1].as_slice());
-    assert_eq!(rt; numbers_from(alloc, zero, 1)?.as_slice(), [0, 1].as_slice());
-    assert_eq!(rt; numbers_from(alloc, two, 0)?.as_slice(), [0].as_slice());
-    assert_eq!(rt; numbers_from(alloc, two, 1)?.as_slice(), [0].as_slice());
-    assert_eq!(rt; (zero.len(), one.len(), two.len()), (2, 2, 2));
-    assert!(rt; ran.report.lanes.iter().all(|lane| lane.left.is_empty()));
-    Ok(())
+    run(rt, alloc, limits, first, inputs, batches, gate)
 }
 
 #[test]
 fn threads_with_a_gate(rt: HostRuntime) -> Result<(), Fail> {
     let alloc = rt.alloc();
-    let (first, batches) = batches_of(alloc)?;
-    let inputs = inputs_of(alloc, Frame::read(&ENGINE_SPEED)?, &[2, 2, 0])?;
+    let limits = Limits::new(3, 4, 2, 2)?;
+    let first = batch(&rt, alloc, &[0, 1, 2], &returning(1));
+    let batches = batches_of(&rt, alloc, &[2], 0);
     let gate = InTurn::new();
-    let Ok(ran) = run(
-        &rt,
-        alloc,
-        Limits::new(3, 4, 2, 2)?,
-        first,
-        inputs,
-        batches,
-        &gate,
-    ) else {
-        return Err("no run".into());
-    };
-    expect_turns(&rt, alloc, &ran, &gate)
-}
-
-/// A frame so many times.
-#[derive(Clone, Copy, Drop)]
-struct Repeated {
-    frame: Frame,
-    left: usize,
-}
-
-impl Iterator for Repeated {
-    type Item = Frame;
-
-    ghost remaining = { λ s. at_most s.left };
-
-    fn next(&mut self) -> Option<Frame> {
-        if self.left == 0 {
-            return None;
-        }
-        self.left -= 1;
-        Some(self.frame)
-    }
+    let ran = run_of(&rt, alloc, limits, &[2, 2, 0], first, batches, &gate);
+    assert_turns(&rt, alloc, &ran.expect(&rt, "a run"), &gate);
+    Ok(())
 }
 
 /// The frames of three ports: two, two, and none.
-fn iterators_of(alloc: Global, frame: Frame) -> Result<Vec<Repeated>, AllocError>
+fn iterators_of(alloc: Global, frame: Frame) -> Result<Vec<RepeatN<Frame>>, AllocError>
     ensures count { IfOk result (λ inputs. vec_len inputs ≡ 3) }
-    ensures few { IfOk result (λ inputs. All (λ input. input.left ≤ 2) inputs.items) }
+    ensures few { IfOk result (λ inputs. All (λ input. repeat_n_count input ≤ 2) inputs.items) }
 {
-    Ok(vec![in alloc;
-        Repeated { frame, left: 2 },
-        Repeated { frame, left: 2 },
-        Repeated { frame, left: 0 },
-    ]?)
+    Ok(vec![in alloc; repeat_n(frame, 2), repeat_n(frame, 2), repeat_n(frame, 0)]?)
 }
 
 /// How many frames a port offers at most, for three ports.
@@ -233,25 +236,37 @@ fn most(alloc: Global) -> Result<Vec<usize>, AllocError>
     Ok(vec![in alloc; 2, 2, 2]?)
 }
 
+/// Runs three ports from these iterators.
+fn run_iterators<R: Threads + Wait + Sync + Abort, G: Gate>(
+    rt: &R,
+    alloc: Global,
+    limits: Limits,
+    first: Batch,
+    batches: Vec<Batch>,
+    gate: &G,
+) -> Result<RunReport, RunRefusal>
+    requires { limits.ports ≡ 3 }
+{
+    let frame = Frame::read(&ENGINE_SPEED).expect(rt, "a frame");
+    let Ok(inputs) = iterators_of(alloc, frame) else {
+        panic!(rt; "no memory");
+    };
+    let Ok(sizes) = most(alloc) else {
+        panic!(rt; "no memory");
+    };
+    run_from(rt, alloc, limits, first, inputs, sizes, batches, gate)
+}
+
 #[test]
 fn threads_with_a_gate_from_iterators(rt: HostRuntime) -> Result<(), Fail> {
     let alloc = rt.alloc();
-    let (first, batches) = batches_of(alloc)?;
-    let frame = Frame::read(&ENGINE_SPEED)?;
+    let limits = Limits::new(3, 4, 2, 2)?;
+    let first = batch(&rt, alloc, &[0, 1, 2], &returning(1));
+    let batches = batches_of(&rt, alloc, &[2], 0);
     let gate = InTurn::new();
-    let Ok(ran) = run_from(
-        &rt,
-        alloc,
-        Limits::new(3, 4, 2, 2)?,
-        first,
-        iterators_of(alloc, frame)?,
-        most(alloc)?,
-        batches,
-        &gate,
-    ) else {
-        return Err("no run".into());
-    };
-    expect_turns(&rt, alloc, &ran, &gate)
+    let ran = run_iterators(&rt, alloc, limits, first, batches, &gate);
+    assert_turns(&rt, alloc, &ran.expect(&rt, "a run"), &gate);
+    Ok(())
 }
 
 /// A gate that holds nobody back, and notes whether anybody came.
@@ -290,36 +305,24 @@ impl Gate for Noting {
     }
 }
 
+/// Port 0 must have stopped at its second frame, and the operator at its second batch.
+fn assert_stopped(rt: &impl Abort, ran: &RunReport) {
+    assert!(rt; ran.outcomes.len() == 2);
+    assert!(rt; ran.outcomes[0].len() == 1 && ran.outcomes[1].is_empty());
+    assert!(rt; ran.stops.as_slice() == [Some(OfferRefusal::FramesSpent), None].as_slice());
+    assert!(rt; ran.fronts.is_empty());
+    assert!(rt; ran.refused.as_ref().is_some_and(|why| why.number() == 75));
+}
+
 #[test]
 fn a_port_and_the_operator_that_stop(rt: HostRuntime) -> Result<(), Fail> {
     let alloc = rt.alloc();
-    let frame = Frame::read(&ENGINE_SPEED)?;
-    let first = batch(alloc, &[0, 1], &returning(1))?;
-    let mut batches = Vec::new(alloc);
-    batches.push(batch(alloc, &[1], &returning(1))?)?;
-    let inputs = inputs_of(alloc, frame, &[2, 0])?;
+    let limits = Limits::new(2, 4, 1, 1)?;
+    let first = batch(&rt, alloc, &[0, 1], &returning(1));
+    let batches = batches_of(&rt, alloc, &[1], 1);
     let gate = Noting::new();
-    let Ok(ran) = run(
-        &rt,
-        alloc,
-        Limits::new(2, 4, 1, 1)?,
-        first,
-        inputs,
-        batches,
-        &gate,
-    ) else {
-        return Err("no run".into());
-    };
-    let (Some(zero), Some(one)) = (ran.outcomes.get(0), ran.outcomes.get(1)) else {
-        return Err("no outcomes of two ports".into());
-    };
-    assert_eq!(rt; (zero.len(), one.len()), (1, 0));
-    assert_eq!(rt;
-        ran.stops.as_slice(),
-        [Some(OfferRefusal::FramesSpent), None].as_slice()
-    );
-    assert_eq!(rt; ran.fronts.len(), 0);
-    assert_eq!(rt; ran.refused.map(|why| why.number()), Some(75));
+    let ran = run_of(&rt, alloc, limits, &[2, 0], first, batches, &gate);
+    assert_stopped(&rt, &ran.expect(&rt, "a run"));
     assert!(rt; gate.somebody_came.load(Ordering::SeqCst));
     Ok(())
 }
@@ -327,21 +330,11 @@ fn a_port_and_the_operator_that_stop(rt: HostRuntime) -> Result<(), Fail> {
 #[test]
 fn a_first_batch_for_no_port(rt: HostRuntime) -> Result<(), Fail> {
     let alloc = rt.alloc();
-    let first = batch(alloc, &[2], &returning(1))?;
-    let inputs = inputs_of(alloc, Frame::read(&ENGINE_SPEED)?, &[2, 0])?;
+    let limits = Limits::new(2, 4, 1, 1)?;
+    let first = batch(&rt, alloc, &[2], &returning(1));
     let gate = Noting::new();
-    let Err(why) = run(
-        &rt,
-        alloc,
-        Limits::new(2, 4, 1, 1)?,
-        first,
-        inputs,
-        Vec::new(alloc),
-        &gate,
-    ) else {
-        return Err("port 2 of 2 is there".into());
-    };
-    assert_eq!(rt; why.number(), 81);
+    let ran = run_of(&rt, alloc, limits, &[2, 0], first, Vec::new(alloc), &gate);
+    assert!(rt; ran.is_err_and(|why| why.number() == 81));
     assert!(rt; !gate.somebody_came.load(Ordering::SeqCst));
     Ok(())
 }
