@@ -39,9 +39,9 @@ const SECOND_OCTET: [BpfInsn; 2] = [
 fn runs_code_on_each_record(rt: HostRuntime) {
     let mut answers = [7, 7];
     assert!(rt; run_code(rt.alloc(), &SECOND_OCTET, &RECORDS, 0, &mut answers));
-    assert_eq!(rt; answers, [7, 7]);
+    assert!(rt; answers == [7, 7]);
     assert!(rt; run_code(rt.alloc(), &SECOND_OCTET, &RECORDS, 2, &mut answers));
-    assert_eq!(rt; answers, [0xf0, 0xea]);
+    assert!(rt; answers == [0xf0, 0xea]);
 }
 
 #[test]
@@ -50,7 +50,7 @@ fn refuses_code_and_records(rt: HostRuntime) {
     let without_return = &SECOND_OCTET[..1];
     assert!(rt; !run_code(rt.alloc(), without_return, &RECORDS[..1], 1, &mut answers));
     assert!(rt; !run_code(rt.alloc(), &SECOND_OCTET, &NO_RECORD, 1, &mut answers));
-    assert_eq!(rt; answers, [7]);
+    assert!(rt; answers == [7]);
 }
 
 #[test]
@@ -58,21 +58,18 @@ fn judges_each_record(rt: HostRuntime) {
     let text = b"[[rule]]\naction = \"pass\"\npgn = 59904\n";
     let mut verdicts = [true, false];
     assert!(rt; judge_by_rules(rt.alloc(), text, &RECORDS, 1, &mut verdicts));
-    assert_eq!(rt; verdicts, [false, true]);
+    assert!(rt; verdicts == [false, true]);
     assert!(rt; !judge_by_rules(rt.alloc(), b"default", &RECORDS, 1, &mut verdicts));
-    assert_eq!(rt; verdicts, [false, true]);
+    assert!(rt; verdicts == [false, true]);
 }
 
 #[test]
 fn compiles_where_there_is_room(rt: HostRuntime) {
     let mut code = [SECOND_OCTET[0]; 23];
-    assert_eq!(rt; write_compiled(rt.alloc(), b"", &mut code[..21]), 0);
-    assert_eq!(rt; write_compiled(rt.alloc(), b"default", &mut code), 0);
-    assert_eq!(rt;
-        write_compiled(rt.alloc(), b"other = \"pass\"", &mut code),
-        22
-    );
-    assert_eq!(rt; (code[3].code, code[3].k), (0x06, 1));
-    assert_eq!(rt; (code[21].code, code[21].k), (0x06, 0));
-    assert_eq!(rt; (code[22].code, code[22].k), (0x30, 1));
+    assert!(rt; write_compiled(rt.alloc(), b"", &mut code[..21]) == 0);
+    assert!(rt; write_compiled(rt.alloc(), b"default", &mut code) == 0);
+    assert!(rt; write_compiled(rt.alloc(), b"other = \"pass\"", &mut code) == 22);
+    assert!(rt; code[3].code == 0x06 && code[3].k == 1);
+    assert!(rt; code[21].code == 0x06 && code[21].k == 0);
+    assert!(rt; code[22].code == 0x30 && code[22].k == 1);
 }

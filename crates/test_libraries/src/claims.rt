@@ -22,9 +22,9 @@ fn the_address_of_a_name(rt: HostRuntime) -> Result<(), Fail> {
     for claimant in [5, 7, 5] {
         claims.hear(&claim(128, claimant)?);
     }
-    assert_eq!(rt; claims.address_of(name(5)), Some(128));
+    assert!(rt; claims.address_of(name(5)) == Some(128));
     claims.hear(&claim(254, 5)?);
-    assert_eq!(rt; claims.address_of(name(5)), None);
+    assert!(rt; claims.address_of(name(5)).is_none());
     Ok(())
 }
 
@@ -33,6 +33,6 @@ fn nobody_holds_254_and_255(rt: HostRuntime) -> Result<(), Fail> {
     let mut claims = Claims::new();
     claims.hear(&claim(253, 5)?);
     claims.hear(&claim(255, 6)?);
-    assert_eq!(rt; (claims.holder(254), claims.holder(255)), (None, None));
+    assert!(rt; claims.holder(254).is_none() && claims.holder(255).is_none());
     Ok(())
 }

@@ -49,6 +49,19 @@ pub struct Outcome {
     pub stderr: Vec<u8>,
 }
 
+impl Outcome {
+    /// Whether the command failed, and wrote just this.
+    pub fn is_failure(&self, output: &[u8]) -> bool {
+        self.status == 1 && self.output.as_slice() == output
+    }
+
+    /// Whether the output took just this, and stderr tells that it took no more.
+    pub fn is_cut(&self, output: &[u8]) -> bool {
+        self.is_failure(output)
+            && self.stderr.as_slice() == b"gw: the output could not be written\n".as_slice()
+    }
+}
+
 /// What `command` did on an input.
 pub fn outcome_of(alloc: Global, words: &[&str], input: &[u8]) -> Outcome {
     outcome_on(alloc, words, Source::new(input, WHOLE), WHOLE, WHOLE)

@@ -11,7 +11,7 @@ fn words_of_run(rt: HostRuntime) {
     ];
     for words in wrong {
         let refused = outcome_of(rt.alloc(), words, b"1,6 0 0 1,");
-        assert_eq!(rt; refused.status, 2, "on {words:?}");
+        assert!(rt; refused.status == 2, "on {words:?}");
         assert!(rt; refused.output.is_empty() && !refused.stderr.is_empty());
     }
 }
@@ -25,7 +25,7 @@ fn words_of_another_command(rt: HostRuntime) {
         Source::new(HEADER, WHOLE),
         WHOLE,
     );
-    assert_eq!(rt; refused.status, 2);
+    assert!(rt; refused.status == 2);
     assert!(rt; refused.output.is_empty());
     let told = str::from_utf8(refused.stderr.as_slice()).unwrap_or("");
     assert!(rt; told.contains("not the command `run`"), "{told}");

@@ -11,8 +11,7 @@ fn breaking_readers(rt: HostRuntime) -> Result<(), Fail> {
     for left in 0..=trace.len() {
         let input = Source::breaking(trace.as_slice(), left);
         let refused = run_outcome_on(&rt, alloc, TWO_PORTS, input, WHOLE);
-        assert_eq!(rt; refused.status, 1);
-        assert_eq!(rt; refused.output.as_slice(), b"refused 96\n".as_slice());
+        assert!(rt; refused.is_failure(b"refused 96\n"));
     }
     Ok(())
 }
@@ -25,12 +24,7 @@ fn filling_writers(rt: HostRuntime) -> Result<(), Fail> {
     for room in [0, 1, 32, 33, whole.len() - 1] {
         let input = Source::new(trace.as_slice(), WHOLE);
         let cut = run_outcome_on(&rt, alloc, TWO_PORTS, input, room);
-        assert_eq!(rt; cut.status, 1);
-        assert_eq!(rt; cut.output.as_slice(), &whole[..room]);
-        assert_eq!(rt;
-            cut.stderr.as_slice(),
-            b"gw: the output could not be written\n".as_slice()
-        );
+        assert!(rt; cut.is_cut(&whole[..room]));
     }
     Ok(())
 }

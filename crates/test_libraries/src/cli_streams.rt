@@ -43,8 +43,7 @@ fn breaking_readers(rt: HostRuntime) {
         for left in 0..=octets.len() {
             let input = Source::breaking(octets, left);
             let refused = outcome_on(rt.alloc(), words, input, WHOLE, WHOLE);
-            assert_eq!(rt; refused.status, 1);
-            assert_eq!(rt; refused.output.as_slice(), b"refused 96\n".as_slice());
+            assert!(rt; refused.is_failure(b"refused 96\n"));
         }
     }
 }
@@ -57,7 +56,7 @@ fn breaking_script(rt: HostRuntime) {
     for left in 0..=octets.len() {
         let input = Source::breaking(octets, left);
         let refused = outcome_on(rt.alloc(), words, input, WHOLE, WHOLE);
-        assert_eq!(rt; refused.status, 1);
+        assert!(rt; refused.status == 1);
         let answers = refused.output.strip_suffix(b"refused 96\n");
         assert!(rt; answers.is_some_and(|answers| whole.as_bytes().starts_with(answers)));
     }
@@ -69,12 +68,7 @@ fn filling_writers(rt: HostRuntime) {
         for room in 0..whole.len() {
             let input = Source::new(input.as_bytes(), WHOLE);
             let cut = outcome_on(rt.alloc(), words, input, room, WHOLE);
-            assert_eq!(rt; cut.status, 1);
-            assert_eq!(rt; cut.output.as_slice(), &whole.as_bytes()[..room]);
-            assert_eq!(rt;
-                cut.stderr.as_slice(),
-                b"gw: the output could not be written\n".as_slice()
-            );
+            assert!(rt; cut.is_cut(&whole.as_bytes()[..room]));
         }
     }
 }
@@ -82,8 +76,7 @@ fn filling_writers(rt: HostRuntime) {
 #[test]
 fn a_full_stderr(rt: HostRuntime) {
     let refused = outcome_on(rt.alloc(), &[], Source::new(b"8CG0", WHOLE), WHOLE, 3);
-    assert_eq!(rt; refused.status, 1);
-    assert_eq!(rt; refused.output.as_slice(), b"refused 97\n".as_slice());
+    assert!(rt; refused.is_failure(b"refused 97\n"));
 }
 
 #[test]
@@ -91,7 +84,6 @@ fn stumbling_reader(rt: HostRuntime) {
     for (words, input, _) in WHOLE_RUNS {
         let input = Source::stumbling(input.as_bytes());
         let refused = outcome_on(rt.alloc(), words, input, WHOLE, WHOLE);
-        assert_eq!(rt; refused.status, 1);
-        assert_eq!(rt; refused.output.as_slice(), b"refused 96\n".as_slice());
+        assert!(rt; refused.is_failure(b"refused 96\n"));
     }
 }

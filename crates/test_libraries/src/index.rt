@@ -2,7 +2,7 @@
 
 use crate::made::frame;
 use gw_frame::{Frame, FrameRefusal};
-use gw_table::{IndexedTable, Span, Table};
+use gw_table::{IndexedTable, Rule, Span, Table};
 use std::alloc::{AllocError, Global};
 use std::process::Abort;
 use std::test::Fail;
@@ -23,25 +23,40 @@ fn prolonged(alloc: Global, text: &str) -> Result<String, AllocError> {
     Ok(long)
 }
 
+const TWO_RULES: &str =
+    "default = \"pass\"\n[[rule]]\naction = \"pass\"\npgn = 61184\nsource = 1\n[[rule]]\naction = \"block\"\npgn = 61184\n";
+
+const TAKING_PORT: &str = "[[rule]]\naction = \"pass\"\nfrom = 1\n";
+
+/// A table, the identifier word of a frame and the port that took it, and whether it passes.
+const EXAMPLES: [(&str, u32, u8, bool); 7] = [
+    ("default = \"pass\"\n", 0x8CF00400, 0, true),
+    ("default = \"pass\"\n", 0x00000123, 0, false),
+    (TAKING_PORT, 0x8CF00400, 1, true),
+    (TAKING_PORT, 0x8CF00400, 0, false),
+    (TWO_RULES, 0x98EF1201, 0, true),
+    (TWO_RULES, 0x98EF1202, 0, false),
+    (TWO_RULES, 0x98F01201, 0, true),
+];
+
+/// Whether a table passes a frame, by its index.
+fn passes(alloc: Global, text: &str, word: u32, from: u8) -> Result<bool, Fail> {
+    let frame = frame(word)?;
+    Ok(indexed(alloc, text)?.verdict(&frame, from))
+}
+
 #[test]
 fn the_worked_examples(rt: HostRuntime) -> Result<(), Fail> {
-    let two_rules =
-        "default = \"pass\"\n[[rule]]\naction = \"pass\"\npgn = 61184\nsource = 1\n[[rule]]\naction = \"block\"\npgn = 61184\n";
-    let taking_port = "[[rule]]\naction = \"pass\"\nfrom = 1\n";
-    let rows = [
-        ("default = \"pass\"\n", 0x8CF00400, 0, true),
-        ("default = \"pass\"\n", 0x00000123, 0, false),
-        (taking_port, 0x8CF00400, 1, true),
-        (taking_port, 0x8CF00400, 0, false),
-        (two_rules, 0x98EF1201, 0, true),
-        (two_rules, 0x98EF1202, 0, false),
-        (two_rules, 0x98F01201, 0, true),
-    ];
-    for (text, word, from, passes) in rows {
-        let table = indexed(rt.alloc(), text)?;
-        assert_eq!(rt; table.verdict(&frame(word)?, from), passes, "{word:x}");
-        let table = indexed(rt.alloc(), prolonged(rt.alloc(), text)?.as_str())?;
-        assert_eq!(rt; table.verdict(&frame(word)?, from), passes, "{word:x}");
+    for (text, word, from, expected) in EXAMPLES {
+        assert!(rt;
+            passes(rt.alloc(), text, word, from)? == expected,
+            "{word:x}"
+        );
+        let long = prolonged(rt.alloc(), text)?;
+        assert!(rt;
+            passes(rt.alloc(), long.as_str(), word, from)? == expected,
+            "{word:x}"
+        );
     }
     Ok(())
 }
@@ -68,7 +83,7 @@ fn the_table_of_256_rules(rt: HostRuntime) -> Result<(), Fail> {
         (0xD8EF1234, true),
     ];
     for (word, passes) in rows {
-        assert_eq!(rt; table.verdict(&frame(word)?, 0), passes, "{word:x}");
+        assert!(rt; table.verdict(&frame(word)?, 0) == passes, "{word:x}");
     }
     Ok(())
 }
@@ -98,8 +113,11 @@ fn overlapping(alloc: Global) -> Result<String, AllocError> {
     Ok(text)
 }
 
-/// A frame of the parameter group, or of one of its page where it is none; for PDU2 the destination is 255.
-fn frame_of(pgn: u32, source: u32, destination: u32) -> Result<Frame, FrameRefusal> {
+/// A parameter group, a source, a destination and an ingress port.
+type Place = [u32; 4];
+
+/// A frame of a place's parameter group, or of one of its page where it is none; for PDU2 the destination is 255.
+fn frame_at([pgn, source, destination, _]: Place) -> Result<Frame, FrameRefusal> {
     let page = pgn / 256 % 1024;
     let specific = if page % 256 < 240 {
         destination % 256
@@ -119,12 +137,39 @@ fn ends(span: Span) -> [u32; 4] {
     ]
 }
 
-fn assert_same(rt: &impl Abort, tables: (&IndexedTable, &Table), frame: &Frame, from: u32) {
-    let from = (from % 256) as u8;
-    assert_eq!(rt;
-        tables.0.verdict(frame, from),
-        tables.1.verdict(frame, from)
-    );
+/// Both tables must judge alike.
+fn assert_same(
+    rt: &impl Abort,
+    tables: (&IndexedTable, &Table),
+    place: Place,
+) -> Result<(), FrameRefusal> {
+    let frame = frame_at(place)?;
+    let from = (place[3] % 256) as u8;
+    assert!(rt; tables.0.verdict(&frame, from) == tables.1.verdict(&frame, from));
+    Ok(())
+}
+
+/// Both tables must judge alike at the ends of each range of a rule, and beside them.
+fn assert_same_at_ends(
+    rt: &impl Abort,
+    tables: (&IndexedTable, &Table),
+    rule: &Rule,
+) -> Result<(), FrameRefusal> {
+    let spans = [rule.pgn, rule.source, rule.destination, rule.from];
+    let inside = [
+        rule.pgn.low,
+        rule.source.high,
+        rule.destination.low,
+        rule.from.low,
+    ];
+    for (field, span) in spans.iter().enumerate() {
+        for end in ends(*span) {
+            let mut place = inside;
+            place[field] = end;
+            assert_same(rt, tables, place)?;
+        }
+    }
+    Ok(())
 }
 
 #[test]
@@ -132,23 +177,9 @@ fn the_ends_of_256_overlapping_rules(rt: HostRuntime) -> Result<(), Fail> {
     let text = overlapping(rt.alloc())?;
     let index = indexed(rt.alloc(), text.as_str())?;
     let table = Table::read(rt.alloc(), text.as_str())?;
-    assert_eq!(rt; table.rules().len(), 256);
-    let tables = (&index, &table);
+    assert!(rt; table.rules().len() == 256);
     for rule in table.rules() {
-        let (pgn, source) = (rule.pgn.low, rule.source.high);
-        let (destination, from) = (rule.destination.low, rule.from.low);
-        for end in ends(rule.pgn) {
-            assert_same(&rt, tables, &frame_of(end, source, destination)?, from);
-        }
-        for end in ends(rule.source) {
-            assert_same(&rt, tables, &frame_of(pgn, end, destination)?, from);
-        }
-        for end in ends(rule.destination) {
-            assert_same(&rt, tables, &frame_of(pgn, source, end)?, from);
-        }
-        for end in ends(rule.from) {
-            assert_same(&rt, tables, &frame_of(pgn, source, destination)?, end);
-        }
+        assert_same_at_ends(&rt, (&index, &table), rule)?;
     }
     Ok(())
 }

@@ -64,9 +64,9 @@ fn run_and_step(rt: HostRuntime) -> Result<(), Fail> {
     for code in raws.chunks(12) {
         let any: Vec<Raw> = code.iter().copied().collect(rt.alloc())?;
         let known: Vec<Raw> = code.iter().map(tamed).collect(rt.alloc())?;
-        assert_ne!(rt; agrees(any)?, Some(false));
+        assert!(rt; agrees(any)? != Some(false));
         let one_answer = agrees(known)?;
-        assert_ne!(rt; one_answer, Some(false));
+        assert!(rt; one_answer != Some(false));
         one_accepted |= one_answer.is_some();
     }
     assert!(rt; one_accepted);

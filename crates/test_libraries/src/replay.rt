@@ -3,6 +3,7 @@
 use crate::streams::{Sink, Source, WHOLE};
 use gw_io::Tried;
 use gw_replay::{ReplayFault, replay};
+use std::alloc::Global;
 use std::io;
 use std::io::Read;
 
@@ -106,49 +107,62 @@ impl Read for Endless {
     }
 }
 
+/// What became of a script.
+#[derive(Drop)]
+struct Replayed {
+    ended: Result<(), ReplayFault>,
+    /// Whether a read failed.
+    has_failed: bool,
+    /// What was written.
+    taken: Vec<u8>,
+}
+
+/// What becomes of a script, with an output that takes so many octets a call and so many in all.
+fn replay_on(alloc: Global, script: Source<'_>, piece: usize, room: usize) -> Replayed {
+    let mut input = Tried::new(script);
+    let mut output = Sink::new(alloc, piece, room);
+    let ended = replay(alloc, &mut input, &mut Tried::new(&mut output));
+    Replayed {
+        ended,
+        has_failed: input.failed(),
+        taken: output.taken,
+    }
+}
+
 #[test]
 fn pieces_of_every_length(rt: HostRuntime) {
-    let alloc = rt.alloc();
     for piece in 1..40 {
         for (script, expected) in SCRIPTS {
-            let mut output = Sink::new(alloc, piece, expected.len());
-            let mut input = Tried::new(Source::new(script.as_bytes(), piece));
-            let ended = replay(alloc, &mut input, &mut Tried::new(&mut output));
-            assert_eq!(rt; ended, Ok(()));
-            assert_eq!(rt; output.taken.as_slice(), expected.as_bytes());
+            let script = Source::new(script.as_bytes(), piece);
+            let found = replay_on(rt.alloc(), script, piece, expected.len());
+            assert!(rt; found.ended.is_ok());
+            assert!(rt; found.taken.as_slice() == expected.as_bytes());
         }
     }
 }
 
 #[test]
 fn breaking_readers(rt: HostRuntime) {
-    let alloc = rt.alloc();
     for left in 0..=FULL_LANE.len() {
-        let mut output = Sink::new(alloc, 1, WHOLE);
-        let mut input = Tried::new(Source::breaking(FULL_LANE.as_bytes(), left));
-        let ended = replay(alloc, &mut input, &mut Tried::new(&mut output));
-        assert_eq!(rt; ended, Err(ReplayFault::ReadFault));
-        assert!(rt; input.failed());
+        let script = Source::breaking(FULL_LANE.as_bytes(), left);
+        let found = replay_on(rt.alloc(), script, 1, WHOLE);
+        assert!(rt; found.ended == Err(ReplayFault::ReadFault));
+        assert!(rt; found.has_failed);
         assert!(rt;
             FULL_LANE_ANSWERS
                 .as_bytes()
-                .starts_with(output.taken.as_slice())
+                .starts_with(found.taken.as_slice())
         );
     }
 }
 
 #[test]
 fn filling_writers(rt: HostRuntime) {
-    let alloc = rt.alloc();
     for room in 0..FULL_LANE_ANSWERS.len() {
-        let mut input = Tried::new(Source::new(FULL_LANE.as_bytes(), WHOLE));
-        let mut output = Sink::new(alloc, 1, room);
-        let ended = replay(alloc, &mut input, &mut Tried::new(&mut output));
-        assert_eq!(rt; ended, Err(ReplayFault::WriteFault));
-        assert_eq!(rt;
-            output.taken.as_slice(),
-            &FULL_LANE_ANSWERS.as_bytes()[..room]
-        );
+        let script = Source::new(FULL_LANE.as_bytes(), WHOLE);
+        let found = replay_on(rt.alloc(), script, 1, room);
+        assert!(rt; found.ended == Err(ReplayFault::WriteFault));
+        assert!(rt; found.taken.as_slice() == &FULL_LANE_ANSWERS.as_bytes()[..room]);
     }
 }
 
@@ -158,8 +172,8 @@ fn an_endless_reader(rt: HostRuntime) {
     let mut output = Vec::new(alloc);
     let mut input = Tried::new(Endless(b'#'));
     let ended = replay(alloc, &mut input, &mut Tried::new(&mut output));
-    assert_eq!(rt; ended, Err(ReplayFault::ReadFault));
-    assert_eq!(rt; input.reads(), 16_777_216);
+    assert!(rt; ended == Err(ReplayFault::ReadFault));
+    assert!(rt; input.reads() == 16_777_216);
     assert!(rt; !input.failed());
     assert!(rt; output.is_empty());
 }

@@ -9,8 +9,8 @@ use std::test::Fail;
 #[test]
 fn parts_of_a_table(rt: HostRuntime) -> Result<(), Fail> {
     let table = Table::read(rt.alloc(), "default = \"pass\"")?;
-    assert_eq!(rt; table.default(), Action::Pass);
-    assert_eq!(rt; table.other(), Action::Block);
+    assert!(rt; table.default() == Action::Pass);
+    assert!(rt; table.other() == Action::Block);
     assert!(rt; table.rules().is_empty());
     Ok(())
 }
@@ -25,7 +25,7 @@ fn returns_on_any_text(rt: HostRuntime) {
             has_read = true;
         }
     }
-    assert_eq!(rt; runs.left(), 0);
+    assert!(rt; runs.left() == 0);
     assert!(rt; has_read);
 }
 
@@ -60,15 +60,15 @@ fn notes_no_rule_that_is_not_there(rt: HostRuntime) -> Result<(), Fail> {
         action = "block"
     "#;
     let table = Table::read(rt.alloc(), text)?;
-    assert_eq!(rt; table.why_dead(8), None);
+    assert!(rt; table.why_dead(8).is_none());
     Ok(())
 }
 
 #[test]
 fn want_of_memory(rt: HostRuntime) -> Result<(), AllocError> {
     let want = TableRefusal::OutOfMemory;
-    assert_eq!(rt; want.number(), 55);
+    assert!(rt; want.number() == 55);
     let says = format!(in rt.alloc(); "{want}")?;
-    assert_eq!(rt; says.as_str(), "memory was refused for the table");
+    assert!(rt; says.as_str() == "memory was refused for the table");
     Ok(())
 }

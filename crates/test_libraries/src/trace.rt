@@ -3,9 +3,10 @@
 use crate::made::ENGINE_SPEED as R;
 use crate::octets::{RUNS, Runs};
 use crate::streams::Source;
-use gw_frame::FrameRefusal;
+use gw_frame::{Frame, FrameRefusal};
 use gw_trace::{Checked, Share, Trace, TraceRefusal, Tried, frames};
 use std::alloc::{AllocError, Global};
+use std::process::Abort;
 use std::test::Fail;
 
 /// Headers of traces, each with the header of a record of 16 octets: by microseconds and nanoseconds, in both orders.
@@ -74,27 +75,45 @@ fn count(share: Share<'_>) -> usize {
     count
 }
 
+// Whether both say this of octets.
+fn is_read(alloc: Global, octets: &[u8], wanted: Result<usize, TraceRefusal>) -> bool {
+    read(alloc, octets) == wanted && check(octets) == wanted
+}
+
+// Whether each frame is R.
+fn are_r(frames: &[Frame]) -> bool {
+    frames.iter().all(|frame| frame.bytes() == R.as_slice())
+}
+
+/// A trace of one frame that is fed octet by octet gives it with its last octet.
+fn assert_fed(rt: &impl Abort, alloc: Global, octets: &[u8]) -> Result<(), TraceRefusal> {
+    let mut trace = Trace::new();
+    for (i, octet) in octets.iter().enumerate() {
+        let given = trace.feed(alloc, &[*octet])?;
+        assert!(rt; given.len() == usize::from(i == 55), "octet {i}");
+        assert!(rt; are_r(&given));
+    }
+    trace.end()
+}
+
+/// Of a trace of one frame the first of two shares has it, and the second none.
+fn assert_shared(rt: &impl Abort, octets: &[u8]) -> Result<(), TraceRefusal> {
+    let checked = Checked::new(octets)?;
+    for frame in checked.share(0, 2) {
+        assert!(rt; frame.bytes() == R.as_slice());
+    }
+    assert!(rt; count(checked.share(0, 2)) == 1);
+    assert!(rt; count(checked.share(1, 2)) == 0);
+    Ok(())
+}
+
 #[test]
 fn traces_of_four_magics(rt: HostRuntime) -> Result<(), Fail> {
     for (header, record) in HEADERS {
         let octets = trace_of(rt.alloc(), header, record, 1)?;
-        assert_eq!(rt; read(rt.alloc(), &octets), Ok(1));
-        let mut trace = Trace::new();
-        for (i, octet) in octets.iter().enumerate() {
-            let given = trace.feed(rt.alloc(), &[*octet])?;
-            assert_eq!(rt; given.len(), usize::from(i == 55));
-            for frame in &given {
-                assert_eq!(rt; frame.bytes(), R.as_slice());
-            }
-        }
-        assert!(rt; trace.end().is_ok());
-        let checked = Checked::new(&octets)?;
-        assert_eq!(rt; checked.len(), 1);
-        for frame in checked.share(0, 2) {
-            assert_eq!(rt; frame.bytes(), R.as_slice());
-        }
-        assert_eq!(rt; count(checked.share(0, 2)), 1);
-        assert_eq!(rt; count(checked.share(1, 2)), 0);
+        assert!(rt; is_read(rt.alloc(), &octets, Ok(1)));
+        assert_fed(&rt, rt.alloc(), &octets)?;
+        assert_shared(&rt, &octets)?;
     }
     Ok(())
 }
@@ -109,37 +128,54 @@ fn refused_traces(rt: HostRuntime) -> Result<(), Fail> {
             56 => Ok(1),
             _ => Err(TraceRefusal::Cut),
         };
-        let front = &octets[..len];
-        assert_eq!(rt; read(rt.alloc(), front), wanted, "the first {len}");
-        assert_eq!(rt; check(front), wanted, "the first {len}");
+        assert!(rt;
+            is_read(rt.alloc(), &octets[..len], wanted),
+            "the first {len}"
+        );
     }
     let other_link = trace_of(rt.alloc(), OTHER_LINK, record, 1)?;
-    assert_eq!(rt; read(rt.alloc(), &other_link), Err(TraceRefusal::BadLink));
-    assert_eq!(rt; check(&other_link), Err(TraceRefusal::BadLink));
-    assert_eq!(rt; TraceRefusal::BadLink.number(), 92);
-    assert_eq!(rt; TraceRefusal::Cut.number(), 95);
+    assert!(rt; is_read(rt.alloc(), &other_link, Err(TraceRefusal::BadLink)));
+    assert!(rt; TraceRefusal::BadLink.number() == 92);
+    assert!(rt; TraceRefusal::Cut.number() == 95);
     Ok(())
+}
+
+/// Record 0 with captured length 17.
+const BAD_RECORD: TraceRefusal = TraceRefusal::BadRecord {
+    index: 0,
+    why: FrameRefusal::TooLong { len: 17 },
+};
+
+/// Octets that are fed one by one are refused so from an octet on.
+fn assert_refused_from(
+    rt: &impl Abort,
+    alloc: Global,
+    octets: &[u8],
+    from: usize,
+    refusal: TraceRefusal,
+) {
+    let mut trace = Trace::new();
+    for (i, octet) in octets.iter().enumerate() {
+        let given = trace.feed(alloc, &[*octet]);
+        assert!(rt;
+            given.err() == (i >= from).then_some(refusal),
+            "at octet {i}"
+        );
+    }
+    assert!(rt; trace.end() == Err(refusal));
 }
 
 #[test]
 fn a_captured_length_of_17(rt: HostRuntime) -> Result<(), Fail> {
-    let why = FrameRefusal::TooLong { len: 17 };
-    let refusal = TraceRefusal::BadRecord { index: 0, why };
-    assert_eq!(rt; refusal.number(), 93);
-    assert_eq!(rt; why.number(), 2);
-    let text = format!(in rt.alloc(); "{refusal}")?;
+    assert!(rt; BAD_RECORD.number() == 93);
+    assert!(rt; FrameRefusal::TooLong { len: 17 }.number() == 2);
+    let text = format!(in rt.alloc(); "{BAD_RECORD}")?;
     let wanted = "record 0 of the trace, counted from 0, is no frame: ";
     assert!(rt; text.starts_with(wanted));
     let (header, _) = HEADERS[0];
     let octets = trace_of(rt.alloc(), header, TOO_LONG, 1)?;
-    assert_eq!(rt; read(rt.alloc(), &octets), Err(refusal));
-    assert_eq!(rt; check(&octets), Err(refusal));
-    let mut trace = Trace::new();
-    for (i, octet) in octets.iter().enumerate() {
-        let given = trace.feed(rt.alloc(), &[*octet]);
-        assert_eq!(rt; given.err(), (i >= 39).then_some(refusal), "at octet {i}");
-    }
-    assert_eq!(rt; trace.end(), Err(refusal));
+    assert!(rt; is_read(rt.alloc(), &octets, Err(BAD_RECORD)));
+    assert_refused_from(&rt, rt.alloc(), &octets, 39, BAD_RECORD);
     Ok(())
 }
 
@@ -152,10 +188,8 @@ fn three_frames_in_two_pieces(rt: HostRuntime) -> Result<(), Fail> {
         let mut trace = Trace::new();
         let mut given = trace.feed(rt.alloc(), first)?;
         given.append(&mut trace.feed(rt.alloc(), second)?)?;
-        assert_eq!(rt; given.len(), 3, "divided at {at}");
-        for frame in &given {
-            assert_eq!(rt; frame.bytes(), R.as_slice());
-        }
+        assert!(rt; given.len() == 3, "divided at {at}");
+        assert!(rt; are_r(&given));
         assert!(rt; trace.end().is_ok());
     }
     Ok(())
@@ -183,5 +217,5 @@ fn broken_input(rt: HostRuntime) {
     for number in 0..RUNS {
         assert!(rt; read(rt.alloc(), runs.next()).is_err(), "run {number}");
     }
-    assert_eq!(rt; runs.left(), 0);
+    assert!(rt; runs.left() == 0);
 }

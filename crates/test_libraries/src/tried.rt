@@ -50,16 +50,16 @@ fn hands_reads_on(rt: HostRuntime) -> Result<(), Fail> {
     let mut reader = Tried::new(&mut stream);
     let mut octet = [0];
     for reads in 1..=2 {
-        assert_eq!(rt; reader.read(&mut octet)?, 0);
-        assert_eq!(rt; reader.reads(), reads);
+        assert!(rt; reader.read(&mut octet)? == 0);
+        assert!(rt; reader.reads() == reads);
         assert!(rt; !reader.failed());
     }
     for reads in 3..=4 {
         assert!(rt; reader.read(&mut octet).is_err());
-        assert_eq!(rt; reader.reads(), reads);
+        assert!(rt; reader.reads() == reads);
         assert!(rt; reader.failed());
     }
-    assert_eq!(rt; stream.calls, 2);
+    assert!(rt; stream.calls == 2);
     Ok(())
 }
 
@@ -67,13 +67,13 @@ fn hands_reads_on(rt: HostRuntime) -> Result<(), Fail> {
 fn hands_writes_and_flushes_on(rt: HostRuntime) -> Result<(), Fail> {
     let mut stream = Counting::new(2);
     let mut writer = Tried::new(&mut stream);
-    assert_eq!(rt; writer.write(b"ab")?, 2);
+    assert!(rt; writer.write(b"ab")? == 2);
     writer.flush()?;
     assert!(rt; !writer.failed());
     assert!(rt; writer.flush().is_err());
     assert!(rt; writer.failed());
-    assert_eq!(rt; writer.reads(), 0);
-    assert_eq!(rt; stream.calls, 2);
+    assert!(rt; writer.reads() == 0);
+    assert!(rt; stream.calls == 2);
     Ok(())
 }
 
@@ -82,10 +82,10 @@ fn a_write_that_takes_nothing_is_a_failure(rt: HostRuntime) -> Result<(), Fail> 
     let mut room = [0; 1];
     let mut full: &mut [u8] = &mut room;
     let mut writer = Tried::new(&mut full);
-    assert_eq!(rt; writer.write(b"a")?, 1);
-    assert_eq!(rt; writer.write(b"")?, 0);
+    assert!(rt; writer.write(b"a")? == 1);
+    assert!(rt; writer.write(b"")? == 0);
     assert!(rt; !writer.failed());
-    assert_eq!(rt; writer.write(b"b")?, 0);
+    assert!(rt; writer.write(b"b")? == 0);
     assert!(rt; writer.failed());
     Ok(())
 }

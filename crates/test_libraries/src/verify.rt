@@ -7,7 +7,6 @@ use crate::octets::Octets;
 use gw_insn::Raw;
 use gw_verify::{Cause, Path, Program, explain, holds};
 use std::alloc::{AllocError, Global};
-use std::test::Fail;
 
 /// `jeq #0, L1, L2` / `L1: st M[3]` / `L2: ld M[3]` / `ret a`.
 const UNSET_ON_ONE_BRANCH: [Row; 4] = [(21, 0, 1, 0), (2, 0, 0, 3), (96, 0, 0, 3), (22, 0, 0, 0)];
@@ -27,21 +26,22 @@ fn is_held(alloc: Global, rows: &[Row], places: &[u32], word: u32) -> Result<boo
     Ok(holds(&raws(alloc, rows)?, &path(alloc, places)?, word))
 }
 
+/// Lists of places, and whether each is a path that leaves word 3 unset.
+const PATHS: [(&[u32], bool); 6] = [
+    (&[0, 2], true),
+    (&[0, 1, 2], false),
+    (&[2], false),
+    (&[0, 3], false),
+    (&[0, 2, 2], false),
+    (&[], false),
+];
+
 #[test]
-fn paths_that_hold(rt: HostRuntime) -> Result<(), Fail> {
+fn paths_that_hold(rt: HostRuntime) -> Result<(), AllocError> {
     let a = rt.alloc();
-    let cases: [(&[u32], bool); 6] = [
-        (&[0, 2], true),
-        (&[0, 1, 2], false),
-        (&[2], false),
-        (&[0, 3], false),
-        (&[0, 2, 2], false),
-        (&[], false),
-    ];
-    for (places, expected) in cases {
-        assert_eq!(rt;
-            is_held(a, &UNSET_ON_ONE_BRANCH, places, 3)?,
-            expected,
+    for (places, expected) in PATHS {
+        assert!(rt;
+            is_held(a, &UNSET_ON_ONE_BRANCH, places, 3)? == expected,
             "{places:?}"
         );
     }
@@ -61,19 +61,28 @@ fn explained(
     explain(alloc, &raws(alloc, rows)?, place, word)
 }
 
+/// Whether the path that leaves word 3 unset at a place has these places.
+fn is_explained(
+    alloc: Global,
+    rows: &[Row],
+    place: usize,
+    places: &[u32],
+) -> Result<bool, AllocError>
+    requires { length rows.now ≤ 65535 }
+{
+    match explained(alloc, rows, place, 3)? {
+        Some(path) => Ok(path.places.as_slice() == places),
+        None => Ok(false),
+    }
+}
+
 #[test]
-fn explained_places(rt: HostRuntime) -> Result<(), Fail> {
+fn explained_places(rt: HostRuntime) -> Result<(), AllocError> {
     let a = rt.alloc();
-    assert_eq!(rt;
-        explained(a, &UNSET_ON_ONE_BRANCH, 2, 3)?,
-        Some(path(a, &[0, 2])?)
-    );
-    assert_eq!(rt; explained(a, &UNREACHABLE_LOAD, 1, 3)?, None);
-    assert_eq!(rt;
-        explained(a, &UNREACHABLE_LOAD, 0, 3)?,
-        Some(path(a, &[0])?)
-    );
-    assert_eq!(rt; explained(a, &UNREACHABLE_LOAD, 3, 3)?, None);
+    assert!(rt; is_explained(a, &UNSET_ON_ONE_BRANCH, 2, &[0, 2])?);
+    assert!(rt; explained(a, &UNREACHABLE_LOAD, 1, 3)?.is_none());
+    assert!(rt; is_explained(a, &UNREACHABLE_LOAD, 0, &[0])?);
+    assert!(rt; explained(a, &UNREACHABLE_LOAD, 3, 3)?.is_none());
     Ok(())
 }
 
@@ -89,7 +98,7 @@ fn code_of(octets: &mut Octets, alloc: Global, count: usize) -> Result<Vec<Raw>,
 
 /// Each call returns, with a program of that many instructions or with the code.
 #[test]
-fn fixed_sequence(rt: HostRuntime) -> Result<(), Fail> {
+fn fixed_sequence(rt: HostRuntime) -> Result<(), AllocError> {
     let a = rt.alloc();
     let mut octets = Octets::new();
     // 65536 octets are 8192 instructions: 682 runs of 12, and one of 8
@@ -99,7 +108,7 @@ fn fixed_sequence(rt: HostRuntime) -> Result<(), Fail> {
             Ok(program) => program.len(),
             Err(refused) => refused.code.len(),
         };
-        assert_eq!(rt; len, count + 1);
+        assert!(rt; len == count + 1);
     }
     Ok(())
 }
@@ -111,35 +120,39 @@ fn spells(code: &[Raw], rows: &[Row]) -> bool {
             == (number, jt, jf, k))
 }
 
+/// Whether code is refused so at a place, and comes back; none where it is accepted.
+fn is_refused(
+    alloc: Global,
+    rows: &[Row],
+    why: Cause,
+    place: usize,
+) -> Result<Option<bool>, AllocError>
+    requires { length rows.now ≤ 65535 }
+{
+    match Program::check(alloc, raws(alloc, rows)?) {
+        Ok(_) => Ok(None),
+        Err(refused) => Ok(Some(
+            refused.why == why && refused.place == place && spells(&refused.code, rows),
+        )),
+    }
+}
+
 /// With any growth refused, 30 comes for accepted code alone, and the code comes back.
 #[test]
 fn want_of_memory_in_check(rt: HostRuntime) {
     let a = rt.alloc();
-    if let Ok(code) = raws(a, &UNREACHABLE_LOAD) {
-        if let Err(refused) = Program::check(a, code) {
-            assert_eq!(rt; (refused.why, refused.place), (Cause::OutOfMemory, 0));
-            assert!(rt; spells(&refused.code, &UNREACHABLE_LOAD));
-        }
+    if let Ok(found) = is_refused(a, &UNREACHABLE_LOAD, Cause::OutOfMemory, 0) {
+        assert!(rt; found != Some(false));
     }
-    if let Ok(code) = raws(a, &UNSET_ON_ONE_BRANCH) {
-        let Err(refused) = Program::check(a, code) else {
-            return assert!(rt; false, "accepted");
-        };
-        assert_eq!(rt;
-            (refused.why, refused.place),
-            (Cause::UnsetWord { word: 3 }, 2)
-        );
-        assert!(rt; spells(&refused.code, &UNSET_ON_ONE_BRANCH));
+    if let Ok(found) = is_refused(a, &UNSET_ON_ONE_BRANCH, Cause::UnsetWord { word: 3 }, 2) {
+        assert!(rt; found == Some(true));
     }
 }
 
 /// With any growth refused, a path that is answered is the path.
 #[test]
 fn want_of_memory_in_explain(rt: HostRuntime) {
-    let a = rt.alloc();
-    match explained(a, &UNSET_ON_ONE_BRANCH, 2, 3) {
-        Ok(Some(found)) => assert_eq!(rt; found.places.as_slice(), [0, 2].as_slice()),
-        Ok(None) => assert!(rt; false, "no path"),
-        Err(AllocError) => {}
+    if let Ok(is_path) = is_explained(rt.alloc(), &UNSET_ON_ONE_BRANCH, 2, &[0, 2]) {
+        assert!(rt; is_path);
     }
 }
