@@ -1,66 +1,64 @@
 //! What a body gets wrong only after many calls, at many ports, or in threads, and no contract says.
 
-ghost use Rattle.std.specs.Prelude.{◌≡◌, IfOk, vec_len};
-
-use crate::made::{ENGINE_SPEED, batch, policy, returning};
+use crate::made::{batch, returning};
+use crate::running::run_of;
 use gw_board::{Operator, Watch, board};
-use gw_frame::Frame;
 use gw_ledger::{Limits, Outcome};
-use gw_policy::{Batch, Policy, PolicySet};
-use gw_ports::{Gate, RunReport, run};
-use std::alloc::{AllocError, Global};
+use gw_policy::{Batch, PolicySet};
+use gw_ports::{Gate, RunReport};
+use std::alloc::Global;
 use std::marker::Sync;
+use std::process::Abort;
+use std::sync::Wait;
 use std::sync::atomic::{AtomicBool, AtomicU32, Ordering};
-use std::sync::{Arc, Wait};
 use std::test::Fail;
 use std::thread::{Threads, join, yield_now};
 
 /// How many batches a board is given: more than a watch that looks seldom, or that stops, could miss.
 const BATCHES: u32 = 1500;
 
-/// The policy for port 1.
-fn for_port_1(policy: &Arc<Policy>) -> Result<Batch, AllocError> {
-    let mut batch = Batch::new();
-    match batch.add(1, policy.clone()?) {
-        Ok(()) => Ok(batch),
-        Err(_) => Err(AllocError),
-    }
-}
-
 /// How many batches a watch knows at its reading.
 fn front(watch: &mut Watch) -> Option<u32> {
     watch.with(|set: &PolicySet| set.front()).ok()
 }
 
+/// Publishes a batch for port 1 on a board.
+fn publish<R: Wait + Abort>(rt: &R, alloc: Global, operator: &mut Operator) -> Option<u32> {
+    let batch = batch(rt, alloc, &[1], &returning(1));
+    operator.replace(rt, batch).ok()
+}
+
+/// Each batch must be found by the reading behind it.
+fn assert_found<R: Wait + Abort>(
+    rt: &R,
+    alloc: Global,
+    operator: &mut Operator,
+    watch: &mut Watch,
+) {
+    for published in 1..=BATCHES {
+        assert!(rt; publish(rt, alloc, operator) == Some(published));
+        assert!(rt; front(watch) == Some(published));
+    }
+}
+
 #[test]
 fn each_reading_finds_what_was_published_last(rt: HostRuntime) -> Result<(), Fail> {
-    let pass = policy(rt.alloc(), &returning(1))?;
     let (mut operator, mut watches) = board(rt.alloc(), Limits::new(2, 1, BATCHES, 1)?)?;
-    let (Some(mut late), Some(mut watch)) = (watches.pop(), watches.pop()) else {
-        return Err("no watch for each port".into());
-    };
-    for published in 1..=BATCHES {
-        assert!(rt; operator.replace(&rt, for_port_1(&pass)?).ok() == Some(published));
-        assert!(rt; front(&mut watch) == Some(published));
-    }
+    let mut late = watches.pop().expect(&rt, "a watch");
+    let mut watch = watches.pop().expect(&rt, "a watch");
+    assert_found(&rt, rt.alloc(), &mut operator, &mut watch);
     assert!(rt; front(&mut late) == Some(BATCHES));
     operator.end(&rt);
     Ok(())
 }
 
 /// Publishes all batches, and shows each one's front once it is published.
-fn publish_all<R: Wait>(
-    rt: &R,
-    operator: &mut Operator,
-    policy: &Arc<Policy>,
-    shown: &AtomicU32,
-) -> Result<(), AllocError> {
+fn publish_all<R: Wait + Abort>(rt: &R, alloc: Global, operator: &mut Operator, shown: &AtomicU32) {
     for _batch in 0..BATCHES {
-        if let Ok(front) = operator.replace(rt, for_port_1(policy)?) {
+        if let Some(front) = publish(rt, alloc, operator) {
             shown.store(front, Ordering::SeqCst);
         }
     }
-    Ok(())
 }
 
 /// Whether each reading knows at least what was shown before it, until all was.
@@ -80,18 +78,15 @@ fn reads_what_was_shown(watch: &mut Watch, shown: &AtomicU32) -> bool {
 
 #[test]
 fn a_reading_in_a_thread_finds_what_was_published_before(rt: HostRuntime) -> Result<(), Fail> {
-    let pass = policy(rt.alloc(), &returning(1))?;
-    let (mut operator, mut watches) = board(rt.alloc(), Limits::new(2, 1, BATCHES, 1)?)?;
-    let Some(mut watch) = watches.pop() else {
-        return Err("no watch".into());
-    };
+    let alloc = rt.alloc();
+    let (mut operator, mut watches) = board(alloc, Limits::new(2, 1, BATCHES, 1)?)?;
+    let mut watch = watches.pop().expect(&rt, "a watch");
     let shown = AtomicU32::new(0);
-    let (published, found) = join(
+    let ((), found) = join(
         &rt,
-        || publish_all(&rt, &mut operator, &pass, &shown),
+        || publish_all(&rt, alloc, &mut operator, &shown),
         || reads_what_was_shown(&mut watch, &shown),
     );
-    published?;
     assert!(rt; found);
     operator.end(&rt);
     Ok(())
@@ -148,42 +143,42 @@ impl Gate for Lockstep {
     }
 }
 
-/// So many frames for each of so many ports.
-fn inputs(alloc: Global, frame: Frame, ports: usize, count: usize) -> Result<Vec<Vec<Frame>>, AllocError>
-    ensures { IfOk result (λ inputs. vec_len inputs ≡ ports) }
-{
-    let mut inputs = Vec::new(alloc);
-    for _port in 0..ports {
-        inputs.push(vec![in alloc; frame; count]?)?;
+/// Five batches for port 1.
+fn five_batches(rt: &impl Abort, alloc: Global) -> Vec<Batch> {
+    let mut batches = Vec::new(alloc);
+    for _batch in 0..5 {
+        let batch = batch(rt, alloc, &[1], &returning(1));
+        assert!(rt; batches.push(batch).is_ok());
     }
-    Ok(inputs)
+    batches
 }
 
-/// Whether the outcome of each index is of the front behind it.
+/// Whether there are six outcomes, each of the front behind its index.
 fn are_in_step(outcomes: &[Outcome]) -> bool {
-    outcomes
-        .iter()
-        .zip(1..)
-        .all(|(outcome, front)| outcome.front == front)
+    outcomes.len() == 6
+        && outcomes
+            .iter()
+            .zip(1..)
+            .all(|(outcome, front)| outcome.front == front)
+}
+
+/// Each port's frame i must have been judged after batch i, and every copy taken out.
+fn assert_in_step(rt: &impl Abort, ran: &RunReport) {
+    assert!(rt; ran.fronts.as_slice() == [2, 3, 4, 5, 6].as_slice());
+    assert!(rt; ran.outcomes.iter().all(|outcomes| are_in_step(outcomes)));
+    assert!(rt; ran.out.iter().all(|copies| copies.len() == 18));
 }
 
 #[test]
 fn four_ports_and_five_batches_in_step(rt: HostRuntime) -> Result<(), Fail> {
     let alloc = rt.alloc();
-    let first = batch(alloc, &[0, 1, 2, 3], &returning(1))?;
-    let mut later = Vec::new(alloc);
-    for _batch in 0..5 {
-        later.push(batch(alloc, &[1], &returning(1))?)?;
-    }
-    let frames = inputs(alloc, Frame::read(&ENGINE_SPEED)?, 4, 6)?;
+    let limits = Limits::new(4, 6, 6, 6)?;
+    let first = batch(&rt, alloc, &[0, 1, 2, 3], &returning(1));
+    let later = five_batches(&rt, alloc);
     let gate = Lockstep::new();
-    let Ok(ran) = run(&rt, alloc, Limits::new(4, 6, 6, 6)?, first, frames, later, &gate) else {
-        return Err("no run".into());
-    };
+    let ran = run_of(&rt, alloc, limits, &[6, 6, 6, 6], first, later, &gate);
+    assert_in_step(&rt, &ran.expect(&rt, "a run"));
     assert!(rt; !gate.is_late.load(Ordering::SeqCst));
-    assert!(rt; ran.fronts.as_slice() == [2, 3, 4, 5, 6].as_slice());
-    assert!(rt; ran.outcomes.iter().all(|port| port.len() == 6 && are_in_step(port)));
-    assert!(rt; ran.out.iter().all(|port| port.len() == 18));
     Ok(())
 }
 
@@ -205,25 +200,35 @@ impl Gate for Yielding {
     fn replaced(&self, _index: usize) {}
 }
 
-/// A run in which port 0 alone has frames, 1024 of them, all allowed at port 1.
-fn run_one_lane<R: Threads + Wait + Sync>(rt: &R, alloc: Global, lane: u32) -> Result<RunReport, Fail> {
-    let first = batch(alloc, &[1], &returning(1))?;
-    let frame = Frame::read(&ENGINE_SPEED)?;
-    let frames = vec![in alloc; vec![in alloc; frame; 1024]?, Vec::new(alloc)]?;
+/// How many of 1024 frames of port 0, all allowed at port 1, are taken out there.
+fn taken_out<R: Threads + Wait + Sync + Abort>(
+    rt: &R,
+    alloc: Global,
+    lane: u32,
+) -> Result<usize, Fail> {
     let limits = Limits::new(2, lane, 1, 1024)?;
-    run(rt, alloc, limits, first, frames, Vec::new(alloc), &Yielding).map_err(|_| "no run".into())
+    let first = batch(rt, alloc, &[1], &returning(1));
+    let ran = run_of(
+        rt,
+        alloc,
+        limits,
+        &[1024, 0],
+        first,
+        Vec::new(alloc),
+        &Yielding,
+    );
+    let ran = ran.expect(rt, "a run");
+    Ok(ran.out.get(1).map_or(0, |copies| copies.len()))
 }
 
 #[test]
 fn a_lane_is_emptied_while_frames_come(rt: HostRuntime) -> Result<(), Fail> {
-    let ran = run_one_lane(&rt, rt.alloc(), 1)?;
-    assert!(rt; ran.out.get(1).is_some_and(|copies| copies.len() > 1));
+    assert!(rt; taken_out(&rt, rt.alloc(), 1)? > 1);
     Ok(())
 }
 
 #[test]
 fn all_copies_of_a_long_lane_are_taken_out(rt: HostRuntime) -> Result<(), Fail> {
-    let ran = run_one_lane(&rt, rt.alloc(), 1024)?;
-    assert!(rt; ran.out.get(1).is_some_and(|copies| copies.len() == 1024));
+    assert!(rt; taken_out(&rt, rt.alloc(), 1024)? == 1024);
     Ok(())
 }

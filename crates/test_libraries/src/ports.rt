@@ -167,10 +167,49 @@ fn turns(alloc: Global, count: u32) -> Result<Vec<Use>, AllocError> {
 }
 
 #[test]
-fn a_lane_of_one_copy_a_thousand_times(rt: HostRuntime) -> Result<(), Fail> {
-    let limits = Limits::new(2, 1, 1, 1000)?;
-    let uses = turns(rt.alloc(), 1000)?;
+fn a_lane_of_one_copy_a_hundred_thousand_times(rt: HostRuntime) -> Result<(), Fail> {
+    let limits = Limits::new(2, 1, 1, 100_000)?;
+    let uses = turns(rt.alloc(), 100_000)?;
     let mut parts = ready(&rt, rt.alloc(), limits, 1, &returning(1));
+    assert_met(&rt, &mut parts, &uses);
+    Ok(())
+}
+
+/// How many frames a port offered before its offer beside all others in a round. The rounds begin at 1, and in each the port
+/// of its number offers one first.
+fn number_in(round: u8, port: u8) -> u32 {
+    u32::from(round.saturating_sub(1)).saturating_add(u32::from(port <= round))
+}
+
+/// A frame of the round's port goes to port 0 alone. Then all others have one there, and the circle goes on behind it.
+fn circle_behind(uses: &mut Vec<Use>, round: u8) -> Result<(), AllocError> {
+    let first = u32::from(round.saturating_sub(1));
+    uses.push(Use::Offer(usize::from(round), Ok((first, 1, 1, 1))))?;
+    uses.push(Use::Next(0, None, Some((round, first))))?;
+    for port in 1..16 {
+        let offered = Ok((number_in(round, port), 1, 1, 1));
+        uses.push(Use::Offer(usize::from(port), offered))?;
+    }
+    for port in (1..16).cycle().skip(usize::from(round)).take(15) {
+        uses.push(Use::Next(0, None, Some((port, number_in(round, port)))))?;
+    }
+    Ok(())
+}
+
+/// The rounds of 15 ports.
+fn circles(alloc: Global) -> Result<Vec<Use>, AllocError> {
+    let mut uses = Vec::new(alloc);
+    for round in 1..16 {
+        circle_behind(&mut uses, round)?;
+    }
+    Ok(uses)
+}
+
+#[test]
+fn sixteen_ports_and_each_source_in_its_turn(rt: HostRuntime) -> Result<(), Fail> {
+    let limits = Limits::new(16, 1, 1, 16)?;
+    let uses = circles(rt.alloc())?;
+    let mut parts = ready(&rt, rt.alloc(), limits, 0, &returning(1));
     assert_met(&rt, &mut parts, &uses);
     Ok(())
 }

@@ -190,7 +190,7 @@ fn assert_turns(rt: &impl Abort, alloc: Global, ran: &RunReport, gate: &InTurn) 
 }
 
 /// Runs ports that offer the engine's speed so many times each.
-fn run_of<R: Threads + Wait + Sync + Abort, G: Gate>(
+pub fn run_of<R: Threads + Wait + Sync + Abort, G: Gate>(
     rt: &R,
     alloc: Global,
     limits: Limits,
