@@ -166,7 +166,7 @@ placed_back ingress q (step_made ∷ own) t e c h n = split_placed ingress own q
     or_right (has_port q (placed_since ingress own)) (has_port q (placed_at ingress own (work_left ingress own)))
     (placed_here ingress own q (work_left ingress own) parts.0 parts.1))
     (Contains-append_cases (lane_after ingress q own).placed
-        (placed_by ingress q step_made own (length (waiting ingress q own))) c h)
+    (placed_by ingress q step_made own (length (waiting ingress q own))) c h)
 
 -- the event that took the last frame, and what became of it since
 pub record Since (limits : Bounds) (p : ℕ) (done : List Event) (t : Taking) : Type 0 where
@@ -239,7 +239,7 @@ step_since limits p done t here s = record {
   full = λ q le missing left.
       let no_more = or_parts (has_port q (placed_since ingress own)) (has_port q (placed_at ingress own (work_left ingress own)))
       (sym (split_placed ingress own q) ∙ ap (λ (x : List PortEvent). has_port q (placed_since ingress x)) (sym here)
-          ∙ missing) in
+      ∙ missing) in
       let rest : placings q (drop 1 (work_left ingress own)) ≡ 0 = ap (placings q) (sym (work_left-step ingress own))
       ∙ ap (λ (x : List PortEvent). placings q (work_left ingress x)) (sym here) ∙ left in
       ⊎_elim
@@ -300,7 +300,7 @@ since limits p (Take r frame ∷ done) t h e = go (eqb p r) refl e (λ k. since 
         → (last_taking (history_of p done) ≡ Some t → Since limits p done t) → Since limits p (Take r frame ∷ done) t
     go false is k ih = extend limits p done t (Take r frame)
         (ap (λ b. fate (ingress_of limits p) (cons_option (cond b (Some (frame_taken frame)) None) (history_of p done))) is)
-            (ih k)
+        (ih k)
     go true is k ih =
         let same : p ≡ r = eqb-true p r is in
         let taken : taking frame (history_of p done) ≡ t = cc in

@@ -44,7 +44,7 @@ pub record LaneKeeps (limits : Bounds) (p q : ℕ) (done : List Event) : Type 0 
 abbrev pub open_copies : Bounds → ℕ → List Event → ℕ
 open_copies limits p done =
     if is_unfinished (ingress_of limits p) (history_of p done)
-        then length (placed_since (ingress_of limits p) (history_of p done))
+    then length (placed_since (ingress_of limits p) (history_of p done))
     else 0
 
 -- a sum over the ports
