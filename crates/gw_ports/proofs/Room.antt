@@ -1,6 +1,6 @@
 -- The room for the copies of a run: by port, as many as the frames that the other ports take.
-use Rattle.std.proofs.Common.{◌≡◌, ◌∙◌, ℕ, suc, ◌+◌, ◌<◌, ◌≤◌, List, [], ◌∷◌, length, map, get_or, min, slice_set, take, Vec, Global}
-use Rattle.std.proofs.Common.{Option, vec_capacity, ⊎_elim, sym, ap, arith}
+use Rattle.std.proofs.Common.{◌≡◌, ◌∙◌, ℕ, suc, ◌+◌, ◌<◌, ◌≤◌, List, [], ◌∷◌, length, map, get_or, min, slice_set, take, Vec}
+use Rattle.std.proofs.Common.{Global, Option, vec_capacity, ⊎_elim, sym, ap, arith}
 use Rattle.std.proofs.lemmas.Bool.{cases_eq}
 use Rattle.std.proofs.lemmas.List.{get_or-map, get_or-set_other, get_or-set_same, length-map, length-set}
 use Rattle.std.proofs.lemmas.List.Sums.{sum_by-cons, sum_by_more}
@@ -84,7 +84,8 @@ module _ {S : Type 0} (steps : S → Option (List ℕ) → S → Type 0) (frames
       let is = pairwise_at (IsDone steps) feeds done k feed.0 one.0 offered (omega arith) feed.1 one.1 in
       let outcomes = length-map done (λ (x : Done). x.outcomes) in
       let count =
-      get_or-map (λ (v : Vec Outcome Global). length v.items) (map (λ (x : Done). x.outcomes) done) k one.0.outcomes 0 (omega arith)
+      get_or-map (λ (v : Vec Outcome Global). length v.items) (map (λ (x : Done). x.outcomes) done) k one.0.outcomes 0
+      (omega arith)
       ∙ ap (λ (v : Vec Outcome Global). length v.items) (get_or-map (λ (x : Done). x.outcomes) done k one.0 one.0.outcomes below)
       ∙ ap (λ (x : Done). length x.outcomes.items) (one.1 one.0) in
       let most = get_or-map (λ size. min size frames) sizes k 0 0 (omega arith) in
@@ -114,8 +115,10 @@ module _ {S : Type 0} (steps : S → Option (List ℕ) → S → Type 0) (frames
       let outs = length-map drained (λ (x : Drain). x.out) in
       let cap =
       ap (λ (l : List (Vec FrameCopy Global)). get_or (map (λ (v : Vec FrameCopy Global). vec_capacity v) l) egress 0) out_is
-      ∙ get_or-map (λ (v : Vec FrameCopy Global). vec_capacity v) (map (λ (x : Drain). x.out) drained) egress one.0.out 0 (omega arith)
-      ∙ ap (λ (v : Vec FrameCopy Global). vec_capacity v) (get_or-map (λ (x : Drain). x.out) drained egress one.0 one.0.out (omega arith))
+      ∙ get_or-map (λ (v : Vec FrameCopy Global). vec_capacity v) (map (λ (x : Drain). x.out) drained) egress one.0.out 0
+      (omega arith)
+      ∙ ap (λ (v : Vec FrameCopy Global). vec_capacity v)
+      (get_or-map (λ (x : Drain). x.out) drained egress one.0 one.0.out (omega arith))
       ∙ ap (λ (x : Drain). vec_capacity x.out) (one.1 one.0) in
       let kept = is.room in
       let same = ap (λ l. sum_of_others egress (counts_of l)) outcomes_are in

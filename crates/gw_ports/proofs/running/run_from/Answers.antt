@@ -1,4 +1,5 @@
-use Rattle.std.proofs.Common.{◌≡◌, ◌∙◌, ◌<◌, ℕ, List, arith, ap, length, map, min, slice_index, slice_index_or, subst, vec_capacity}
+use Rattle.std.proofs.Common.{◌≡◌, ◌∙◌, ◌<◌, ℕ, List, arith, ap, length, map, min, slice_index, slice_index_or}
+use Rattle.std.proofs.Common.{subst, vec_capacity}
 use Rattle.std.specs.Iterator.{UpTo}
 use Rattle.std.proofs.lemmas.List.{length-map}
 use Rattle.gw_ports.specs.Closing.{Closes}
