@@ -5,7 +5,7 @@ use crate::interchange::{BpfInsn, Record};
 use crate::loading::{load_frames, load_program, load_table};
 use gw_core::{Answer, Core, Event};
 use gw_frame::Frame;
-use gw_ledger::Limits;
+use gw_ledger::{Limits, MAX_PORTS};
 use gw_machine::State;
 use gw_policy::{Batch, Policy};
 use gw_verify::Program;
@@ -13,7 +13,7 @@ use std::alloc::Global;
 use std::sync::Arc;
 
 /// The most ports of a gateway.
-const PORTS: u8 = 16;
+const PORTS: u8 = MAX_PORTS as u8;
 
 /// More steps than a frame takes at fifteen ports.
 const MOST_STEPS: u32 = 65536;

@@ -3,6 +3,7 @@
 ghost use Rattle.std.specs.Prelude.{◌≡◌};
 ghost use Rattle.bench_calls.specs.Calls.{fields_of};
 
+use gw_frame::RECORD_OCTETS;
 use gw_insn::Raw;
 
 /// `struct bpf_insn` of libpcap's `<pcap/bpf.h>`.
@@ -19,7 +20,7 @@ pub struct BpfInsn {
 #[repr(C)]
 #[derive(Clone, Copy)]
 pub struct Record {
-    pub octets: [u8; 16],
+    pub octets: [u8; RECORD_OCTETS],
 }
 
 impl BpfInsn {

@@ -9,7 +9,7 @@ use Rattle.j1939_gateway.specs.Runs.{Returns}
 use Rattle.j1939_gateway.specs.Answers.{answer_of, steps_of}
 use Rattle.j1939_gateway.specs.Table.{table_passes}
 use Rattle.j1939_gateway.specs.Filter.{Filter, filter_passes}
-use Rattle.j1939_gateway.specs.Batches.{Places, passes, policy_at}
+use Rattle.j1939_gateway.specs.Batches.{PortPolicies, passes, policy_at}
 use Rattle.example_calling.specs.Calls.{IsInForce, AreVerdicts}
 
 -- what gw_machine's law says of accepted code
@@ -25,7 +25,7 @@ by_answer policy octets bare =
     ap (λ table. option_map_or (λ known. table_passes known octets 0) table (not (answer_of policy.code octets 0 == 0))) bare
 
 -- the set's verdicts at the two ports are what the program answers and what the table passes
-pub verdicts_are : (listing text octets frame : List ℕ) (set : Places) (by_program by_table : Bool) → HasOneAnswer
+pub verdicts_are : (listing text octets frame : List ℕ) (set : PortPolicies) (by_program by_table : Bool) → HasOneAnswer
     → IsRecord octets × (frame ≡ octets) → IsInForce listing text set → by_program ≡ passes (policy_at 1 set) frame 0
     → by_table ≡ passes (policy_at 2 set) frame 0
     → AreVerdicts listing text octets (record { by_program = by_program; by_table = by_table })

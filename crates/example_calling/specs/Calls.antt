@@ -11,7 +11,7 @@ use Rattle.j1939_gateway.specs.Table.{Meaning, table_passes}
 use Rattle.j1939_gateway.specs.TableText.{IsTableText, IsTableRefusal}
 use Rattle.j1939_gateway.specs.Emission.{emission}
 use Rattle.j1939_gateway.specs.Filter.{Filter}
-use Rattle.j1939_gateway.specs.Batches.{Places, StandsAfter}
+use Rattle.j1939_gateway.specs.Batches.{PortPolicies, StandsAfter}
 use Rattle.example_calling.specs.declared.fault.Fault.{Fault}
 use Rattle.example_calling.specs.declared.fault.Fault.TheVariants.{Record, Listing, Program, Table, OutOfMemory}
 use Rattle.example_calling.specs.declared.gateway.Verdicts.{Verdicts}
@@ -31,7 +31,7 @@ pub record IsTablePolicy (text : List ℕ) (policy : Filter) : Type 0 where
   pub compiled : policy ≡ record { code = emission table; table = Some table }
 
 -- one batch is in force: the listing's policy at port 1, the table's at port 2
-pub record IsInForce (listing text : List ℕ) (set : Places) : Type 0 where
+pub record IsInForce (listing text : List ℕ) (set : PortPolicies) : Type 0 where
   pub by_program : Filter
   pub by_table : Filter
   pub listed : IsProgramPolicy listing by_program

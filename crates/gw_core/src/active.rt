@@ -7,7 +7,7 @@ ghost use Rattle.gw_core.specs.Turns.{CanRun, HasMade, Progresses, IsFound};
 use crate::event::Answer;
 use crate::lane::Lane;
 use gw_frame::Frame;
-use gw_ledger::{FrameCopy, Outcome, PortSet};
+use gw_ledger::{FrameCopy, MAX_PORTS, Outcome, PortSet};
 use gw_machine::State;
 use gw_policy::{Batch, Policy};
 
@@ -19,7 +19,7 @@ pub(crate) struct PairIndex {
 }
 
 /// For each port where the policy in force stands, if it is not the opening block.
-pub(crate) type PairIndices = [Option<PairIndex>; 16];
+pub(crate) type PairIndices = [Option<PairIndex>; MAX_PORTS];
 
 /// A frame that is not finished.
 #[derive(Clone, Copy)]

@@ -13,7 +13,7 @@ use crate::laws::{finished_frames_were_forwarded, steps_are_safe};
 use crate::refusal::OutOfMemory;
 use crate::worker::Worker;
 use gw_frame::Frame;
-use gw_ledger::{InLedger, Limits, OutLedger};
+use gw_ledger::{InLedger, Limits, MAX_PORTS, OutLedger};
 use gw_policy::Batch;
 use std::alloc::{AllocError, Global};
 use std::marker::Model;
@@ -265,7 +265,7 @@ fn parts(alloc: Global, limits: Limits) -> Result<Core, AllocError>
     Ok(Core {
         limits,
         batches,
-        latest: [None; 16],
+        latest: [None; MAX_PORTS],
         workers,
         outs,
     })

@@ -13,17 +13,17 @@ use Rattle.gw_ledger.specs.Ports.{ports_below}
 
 -- the port of a bit, if the bit is set
 abbrev when_set : ℕ → ℕ → List ℕ
-when_set bit place = if bit == 1 then place ∷ [] else []
+when_set bit port = if bit == 1 then port ∷ [] else []
 
 -- a bit that is set is one port
-length_of_bit : (bit place : ℕ) → bit < 2 → length (when_set bit place) ≡ ones bit
-length_of_bit bit place below = elim (cases_lt bit 1) [
+length_of_bit : (bit port : ℕ) → bit < 2 → length (when_set bit port) ≡ ones bit
+length_of_bit bit port below = elim (cases_lt bit 1) [
   | inl low ↦ is_bit 0 (omega arith) (sym (ones-ones 0))
   | inr high ↦ is_bit 1 (omega arith) (sym (ones-ones 1))
 ]
   where
-    is_bit : (b : ℕ) → b ≡ bit → length (when_set b place) ≡ ones b → length (when_set bit place) ≡ ones bit
-    is_bit b is = subst (λ b. length (when_set b place) ≡ ones b) is
+    is_bit : (b : ℕ) → b ≡ bit → length (when_set b port) ≡ ones b → length (when_set bit port) ≡ ones bit
+    is_bit b is = subst (λ b. length (when_set b port) ≡ ones b) is
 
 -- a word has as many ports as bits that are set: of its low bits, and then of all
 length_of_low : (word count : ℕ) → length (ports_below count (λ port. bit_at word port == 1)) ≡ ones (word % 2 ^ count)

@@ -28,16 +28,16 @@ abbrev pub inside_of : List ℕ → Inside
 inside_of ports = record { word = word_of ports }
 
 -- a bit and its port
-word_of_bit : (bit place : ℕ) → bit < 2 → word_of (if bit == 1 then place ∷ [] else []) ≡ bit * 2 ^ place
-word_of_bit bit place below =
+word_of_bit : (bit port : ℕ) → bit < 2 → word_of (if bit == 1 then port ∷ [] else []) ≡ bit * 2 ^ port
+word_of_bit bit port below =
     elim (cases_lt bit 1) [
-      | inl low ↦ is_bit 0 (sym (lt-one low)) (sym (zero-mul (2 ^ place)))
-      | inr high ↦ is_bit 1 (le_antisymm high (le_of_suc-le-suc below)) (zero-add (2 ^ place) ∙ sym (one-mul (2 ^ place)))
+      | inl low ↦ is_bit 0 (sym (lt-one low)) (sym (zero-mul (2 ^ port)))
+      | inr high ↦ is_bit 1 (le_antisymm high (le_of_suc-le-suc below)) (zero-add (2 ^ port) ∙ sym (one-mul (2 ^ port)))
     ]
   where
-    is_bit : (b : ℕ) → b ≡ bit → word_of (if b == 1 then place ∷ [] else []) ≡ b * 2 ^ place
-        → word_of (if bit == 1 then place ∷ [] else []) ≡ bit * 2 ^ place
-    is_bit b is = subst (λ b. word_of (if b == 1 then place ∷ [] else []) ≡ b * 2 ^ place) is
+    is_bit : (b : ℕ) → b ≡ bit → word_of (if b == 1 then port ∷ [] else []) ≡ b * 2 ^ port
+        → word_of (if bit == 1 then port ∷ [] else []) ≡ bit * 2 ^ port
+    is_bit b is = subst (λ b. word_of (if b == 1 then port ∷ [] else []) ≡ b * 2 ^ port) is
 
 -- the ports of the low bits
 word_of_low : (word count : ℕ) → word_of (ports_below count (λ port. bit_at word port == 1)) ≡ word % 2 ^ count

@@ -40,7 +40,7 @@ pub pairs_push : (items : List Held) (port : ℕ) (policy : Arc Filter Global) �
     ≡ pairs_of items ++ record { port = port; policy = policy.value } ∷ []
 pairs_push items port policy = filter_map-append pair_of items (Some (port, policy) ∷ [])
 
--- lists whose places hold the same pairs
+-- lists that hold the same pairs, each at its index
 pub pairs_copied : (R : Held → Held → Type 0) (items copies : List Held) → ((x y : Held) → R x y → pair_of y ≡ pair_of x)
     → AllZip R items copies → pairs_of copies ≡ pairs_of items
 pairs_copied R [] [] same all = refl

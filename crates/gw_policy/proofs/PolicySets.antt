@@ -13,7 +13,7 @@ use Rattle.std.proofs.Math.ListN.{length-set}
 use Rattle.std.proofs.lemmas.Option.{slice_get-map, slice_get_past}
 use Rattle.gw_policy.specs.Filter.{Filter}
 use Rattle.gw_policy.proofs.PairLists.{Held, pairs_push}
-use Rattle.gw_policy.specs.Batches.{Pair, Places, pairs_of, names, policy_after, policy_at, in_force, StandsAfter, Absorbs}
+use Rattle.gw_policy.specs.Batches.{Pair, PortPolicies, pairs_of, names, policy_after, policy_at, in_force, StandsAfter, Absorbs}
 
 found : (here : Bool) (pair : Pair) (later : Option Pair) (before : Option Filter)
     → option_map_or (λ p. Some p.policy) (cond here (Some pair) later) before
@@ -28,77 +28,78 @@ pub policy_after-more : (port : ℕ) (pairs : List Pair) (pair : Pair) (before :
 policy_after-more port pairs pair before =
     rw reverse-append (found (pair.port == port) pair (find (names port) (reverse pairs)) before)
 
--- what a place of the set holds
-abbrev pub Place : Type 0
-Place = Option (Arc Filter Global)
+-- what the set holds for a port
+abbrev pub PortPolicy : Type 0
+PortPolicy = Option (Arc Filter Global)
 
-abbrev pub policy_of : Place → Option Filter
-policy_of place = option_map (λ policy. policy.value) place
+abbrev pub policy_of : PortPolicy → Option Filter
+policy_of policy = option_map (λ policy. policy.value) policy
 
-abbrev pub policy_in : List Place → ℕ → Option Filter
-policy_in places port = option_flatten (slice_get (map policy_of places) port)
+abbrev pub policy_in : List PortPolicy → ℕ → Option Filter
+policy_in policies port = option_flatten (slice_get (map policy_of policies) port)
 
-slice_get-set : (places : List Place) (i : ℕ) (place : Place) (j : ℕ) → i < length places
-    → slice_get (set places i place) j ≡ (if i == j then Some place else slice_get places j)
-slice_get-set [] i place j within = absurd (omega arith)
-slice_get-set (x ∷ places) zero place zero within = refl
-slice_get-set (x ∷ places) zero place (suc j) within = grind (arith, nat_tests)
-slice_get-set (x ∷ places) (suc i) place zero within = grind (arith, nat_tests)
-slice_get-set (x ∷ places) (suc i) place (suc j) within =
-    let within' : i < length places = omega arith in
+slice_get-set : (policies : List PortPolicy) (i : ℕ) (policy : PortPolicy) (j : ℕ) → i < length policies
+    → slice_get (set policies i policy) j ≡ (if i == j then Some policy else slice_get policies j)
+slice_get-set [] i policy j within = absurd (omega arith)
+slice_get-set (x ∷ policies) zero policy zero within = refl
+slice_get-set (x ∷ policies) zero policy (suc j) within = grind (arith, nat_tests)
+slice_get-set (x ∷ policies) (suc i) policy zero within = grind (arith, nat_tests)
+slice_get-set (x ∷ policies) (suc i) policy (suc j) within =
+    let within' : i < length policies = omega arith in
     let same : (suc i == suc j) ≡ (i == j) = grind (arith, nat_tests) in
-    rw same (slice_get-set places i place j within')
+    rw same (slice_get-set policies i policy j within')
 
-chosen : (here : Bool) (place : Place) (before : Option Place)
-    → option_flatten (option_map policy_of (if here then Some place else before))
-    ≡ (if here then policy_of place else option_flatten (option_map policy_of before))
-chosen true place before = refl
-chosen false place before = refl
+chosen : (here : Bool) (policy : PortPolicy) (before : Option PortPolicy)
+    → option_flatten (option_map policy_of (if here then Some policy else before))
+    ≡ (if here then policy_of policy else option_flatten (option_map policy_of before))
+chosen true policy before = refl
+chosen false policy before = refl
 
-pub policy_in-set : (places : List Place) (i : ℕ) (place : Place) (port : ℕ) → i < length places
-    → policy_in (set places i place) port ≡ (if i == port then policy_of place else policy_in places port)
-policy_in-set places i place port within =
-    ap option_flatten (slice_get-map policy_of (set places i place) port
-    ∙ ap (option_map policy_of) (slice_get-set places i place port within))
-    ∙ chosen (i == port) place (slice_get places port)
-    ∙ ap (λ before. if i == port then policy_of place else option_flatten before) (sym (slice_get-map policy_of places port))
+pub policy_in-set : (policies : List PortPolicy) (i : ℕ) (policy : PortPolicy) (port : ℕ) → i < length policies
+    → policy_in (set policies i policy) port ≡ (if i == port then policy_of policy else policy_in policies port)
+policy_in-set policies i policy port within =
+    ap option_flatten (slice_get-map policy_of (set policies i policy) port
+    ∙ ap (option_map policy_of) (slice_get-set policies i policy port within))
+    ∙ chosen (i == port) policy (slice_get policies port)
+    ∙ ap (λ before. if i == port then policy_of policy else option_flatten before) (sym (slice_get-map policy_of policies port))
 
--- no policy beyond the last place
-pub policy_in-past : (places : List Place) (port : ℕ) → length places ≤ port → policy_in places port ≡ None
-policy_in-past places port past =
-    ap option_flatten (slice_get-map policy_of places port ∙ ap (option_map policy_of) (slice_get_past places port past))
+-- no policy beyond the last port
+pub policy_in-past : (policies : List PortPolicy) (port : ℕ) → length policies ≤ port → policy_in policies port ≡ None
+policy_in-past policies port past =
+    ap option_flatten (slice_get-map policy_of policies port ∙ ap (option_map policy_of) (slice_get_past policies port past))
 
 order : (a b : ℕ) → (a < b) ⊎ (b ≤ a)
 order a b = elim (leb_tells b a) [ inl t ↦ inr t.1 | inr t ↦ inl t.1 ]
 
--- what the sixteen ports have once a pair was put in its place, which may be none of theirs
+-- what the sixteen ports have once a policy was put for a port, which may be none of theirs
 abbrev pub sixteen_after : ℕ → Option Filter → ℕ → Option Filter → Option Filter
 sixteen_after port policy other before = if nat_lt other 16 then (if port == other then policy else before) else None
 
-pub put_within : (places : List Place) (port : ℕ) (policy : Place) → length places ≡ 16 → port < 16 → (other : ℕ)
-    → policy_in (set places port policy) other ≡ sixteen_after port (policy_of policy) other (policy_in places other)
-put_within places port policy long within other =
+pub put_within : (policies : List PortPolicy) (port : ℕ) (policy : PortPolicy) → length policies ≡ 16 → port < 16 → (other : ℕ)
+    → policy_in (set policies port policy) other ≡ sixteen_after port (policy_of policy) other (policy_in policies other)
+put_within policies port policy long within other =
     elim (order other 16) [
-      | inl below ↦ (let e = lt-ltb other 16 below in rw e (policy_in-set places port policy other (omega arith)))
+      | inl below ↦ (let e = lt-ltb other 16 below in rw e (policy_in-set policies port policy other (omega arith)))
       | inr past ↦ (let e = le-ltb other 16 past in
-          rw e (policy_in-past (set places port policy) other (omega (arith, length-set places port policy))))
+          rw e (policy_in-past (set policies port policy) other (omega (arith, length-set policies port policy))))
     ]
 
-pub put_beyond : (places : List Place) (port : ℕ) (policy : Place) → length places ≡ 16 → 16 ≤ port → (other : ℕ)
-    → policy_in places other ≡ sixteen_after port (policy_of policy) other (policy_in places other)
-put_beyond places port policy long beyond other =
+pub put_beyond : (policies : List PortPolicy) (port : ℕ) (policy : PortPolicy) → length policies ≡ 16 → 16 ≤ port → (other : ℕ)
+    → policy_in policies other ≡ sixteen_after port (policy_of policy) other (policy_in policies other)
+put_beyond policies port policy long beyond other =
     elim (order other 16) [
       | inl below ↦ (let e = lt-ltb other 16 below in let apart : (port == other) ≡ false = grind (arith, nat_tests) in
           rw (e, apart) refl)
-      | inr past ↦ (let e = le-ltb other 16 past in rw e (policy_in-past places other (omega arith)))
+      | inr past ↦ (let e = le-ltb other 16 past in rw e (policy_in-past policies other (omega arith)))
     ]
 
--- places that were never put
-pub empty_places : (places : List Place) → ((i : ℕ) (d : Place) → i < length places → get_or places i d ≡ None) → (port : ℕ)
-    → policy_in places port ≡ None
-empty_places [] empty port = refl
-empty_places (x ∷ places) empty zero = ap policy_of (empty 0 None (omega arith))
-empty_places (x ∷ places) empty (suc port) = empty_places places (λ i d within. empty (suc i) d (omega arith)) port
+-- ports for which no policy was put
+pub empty_policies : (policies : List PortPolicy)
+    → ((i : ℕ) (d : PortPolicy) → i < length policies → get_or policies i d ≡ None) → (port : ℕ)
+    → policy_in policies port ≡ None
+empty_policies [] empty port = refl
+empty_policies (x ∷ policies) empty zero = ap policy_of (empty 0 None (omega arith))
+empty_policies (x ∷ policies) empty (suc port) = empty_policies policies (λ i d within. empty (suc i) d (omega arith)) port
 
 pub none_in_force : (port : ℕ) → let nothing : Option Filter = None in nothing ≡ in_force port []
 none_in_force port =
@@ -115,7 +116,7 @@ in_force-more port batch batches before same =
     ]
 
 -- a set that stands after some batches stands, with one absorbed more, after that one too
-pub stands_after-more : (old new : Places) (batch : List Pair) (batches : List (List Pair)) → Absorbs old batch new
+pub stands_after-more : (old new : PortPolicies) (batch : List Pair) (batches : List (List Pair)) → Absorbs old batch new
     → StandsAfter old batches
     → StandsAfter new (batch ∷ batches)
 stands_after-more old new batch batches absorbed stands =
@@ -136,11 +137,11 @@ policy_after-put port done next policy first before after below put same =
     ∙ ap (λ pairs. policy_after port pairs first) (sym (pairs_push done next policy))
 
 -- what is known of the sixteen ports is known of all
-pub sixteen_places : (places : List Place) (policies : ℕ → Option Filter) → length places ≡ 16
-    → ((port : ℕ) → port < 16 → policy_in places port ≡ policies port) → (port : ℕ)
-    → policy_in places port ≡ (if nat_lt port 16 then policies port else None)
-sixteen_places places policies long known port =
+pub sixteen_policies : (policies : List PortPolicy) (after : ℕ → Option Filter) → length policies ≡ 16
+    → ((port : ℕ) → port < 16 → policy_in policies port ≡ after port) → (port : ℕ)
+    → policy_in policies port ≡ (if nat_lt port 16 then after port else None)
+sixteen_policies policies after long known port =
     elim (order port 16) [
       | inl below ↦ (let e = lt-ltb port 16 below in rw e (known port below))
-      | inr past ↦ (let e = le-ltb port 16 past in rw e (policy_in-past places port (omega arith)))
+      | inr past ↦ (let e = le-ltb port 16 past in rw e (policy_in-past policies port (omega arith)))
     ]

@@ -45,19 +45,19 @@ abbrev pub steps : Option Filter → List ℕ → ℕ → ℕ
 steps policy octets port = option_map_or (λ filter. filter_steps filter octets port) policy 1
 
 -- the policies in force, by port, and the number of batches that put them there
-pub record Places : Type 0 where
+pub record PortPolicies : Type 0 where
   pub policies : List (Option Filter)
   pub front : ℕ
 
-abbrev pub policy_at : ℕ → Places → Option Filter
-policy_at port places = option_flatten (slice_get places.policies port)
+abbrev pub policy_at : ℕ → PortPolicies → Option Filter
+policy_at port set = option_flatten (slice_get set.policies port)
 
 -- the policies in force after these batches
-pub record StandsAfter (places : Places) (batches : List (List Pair)) : Type 0 where
-  pub front : places.front ≡ min (length batches) 4294967295
-  pub policies : (port : ℕ) → policy_at port places ≡ in_force port batches
+pub record StandsAfter (set : PortPolicies) (batches : List (List Pair)) : Type 0 where
+  pub front : set.front ≡ min (length batches) 4294967295
+  pub policies : (port : ℕ) → policy_at port set ≡ in_force port batches
 
 -- one batch more: of the sixteen ports each that it names has the policy of the last pair that names it
-pub record Absorbs (old : Places) (batch : List Pair) (new : Places) : Type 0 where
+pub record Absorbs (old : PortPolicies) (batch : List Pair) (new : PortPolicies) : Type 0 where
   pub front : new.front ≡ min (old.front + 1) 4294967295
   pub policies : (port : ℕ) → policy_at port new ≡ (if nat_lt port 16 then policy_after port batch (policy_at port old) else None)

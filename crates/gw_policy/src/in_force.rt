@@ -29,19 +29,19 @@ use std::sync::Arc;
 /// instruction; and the front, the number of batches that were absorbed, which stays at 4294967295.
 #[derive(Drop)]
 pub struct PolicySet {
-    places: [Option<Arc<Policy>>; MAX_PORTS],
+    policies: [Option<Arc<Policy>>; MAX_PORTS],
     front: u32,
 }
 
 impl Model for PolicySet {
     ghost use Rattle.std.specs.Prelude.{◌≡◌, length, map, option_map};
-    ghost use Rattle.gw_policy.specs.Batches.{Places};
+    ghost use Rattle.gw_policy.specs.Batches.{PortPolicies};
 
-    ghost Value = { Places };
+    ghost Value = { PortPolicies };
 
-    ghost view = { λ s. record { policies = map (option_map (λ policy. policy.value)) s.places; front = s.front } };
+    ghost view = { λ s. record { policies = map (option_map (λ policy. policy.value)) s.policies; front = s.front } };
 
-    ghost invariant = { λ s. length s.places ≡ 16 };
+    ghost invariant = { λ s. length s.policies ≡ 16 };
 }
 
 impl PolicySet {
@@ -54,7 +54,7 @@ impl PolicySet {
         ensures start { StandsAfter result [] }
     {
         PolicySet {
-            places: Default::default(),
+            policies: Default::default(),
             front: 0,
         }
     }
@@ -87,7 +87,7 @@ impl PolicySet {
     pub fn get(&self, port: u8) -> Option<&Policy>
         ensures { option_copied result ≡ policy_at port self.now }
     {
-        self.places.get(usize::from(port))?.as_deref()
+        self.policies.get(usize::from(port))?.as_deref()
     }
 
     /// Whether a frame that was taken at the port `from` may leave at `port`.
@@ -106,9 +106,9 @@ impl PolicySet {
         ensures policies { (other : ℕ) → policy_at other self.new
             ≡ (if nat_lt other 16 then (if port == other then Some policy.value else policy_at other self.old) else None) }
     {
-        let place = usize::from(port);
-        if place < MAX_PORTS {
-            self.places[place] = Some(policy);
+        let index = usize::from(port);
+        if index < MAX_PORTS {
+            self.policies[index] = Some(policy);
         }
     }
 }

@@ -52,11 +52,11 @@ is_alive rules number judged here own none (Covered before) = λ dead.
     let inside = slice_get_within rules before dead.1.rule dead.1.here in
     not_covered rules number judged before here (omega (arith, past, inside, dead.0, length-take number rules)) dead
 
--- a rule that the rule at a place before it covers
+-- a rule that an earlier one, of this number, covers
 covered_dead : (rules : List Rule) (number : ℕ) (judged : Rule) (before : ℕ) → slice_get rules number ≡ Some judged
     → position (λ rule. covers rule judged) (take number rules) ≡ Some before → IsDead rules number (Covered before)
 covered_dead rules number judged before here is =
-    let (place, inside) = position_is (λ rule. covers rule judged) (take number rules) before is in
+    let (same, inside) = position_is (λ rule. covers rule judged) (take number rules) before is in
     let first = position-Some (λ rule. covers rule judged) (take number rules) before judged is in
     let earlier : before < number = omega (arith, inside, length-take number rules) in
     let short : before < length rules = omega (arith, inside, length-take number rules) in (
@@ -77,14 +77,14 @@ pub own_is_first : (rules : List Rule) (number : ℕ) (judged : Rule) (why : Why
     → IsOwnCause judged why → IsFirstCause rules number why
 own_is_first rules number judged NoGroup here is =
     record {
-      place = 0;
+      index = 0;
       here = refl;
       dead = record { rule = judged; here = here; holds = is };
       first = All-nil (Absent rules number);
     }
 own_is_first rules number judged NoPort here is =
     record {
-      place = 1;
+      index = 1;
       here = refl;
       dead = record { rule = judged; here = here; holds = is.1 };
       first =
@@ -93,7 +93,7 @@ own_is_first rules number judged NoPort here is =
     }
 own_is_first rules number judged NoDestination here is =
     record {
-      place = 2;
+      index = 2;
       here = refl;
       dead = record { rule = judged; here = here; holds = is.2 };
       first =
@@ -107,7 +107,7 @@ own_is_first rules number judged (Covered by) here is = absurd is
 no_earlier : (rules : List Rule) (number : ℕ) (judged : Rule) (by : ℕ) → slice_get rules number ≡ Some judged
     → position_or_len (λ rule. covers rule judged) (take number rules) ≡ by → by < number
     → All (Absent rules number) (take by (map Covered (range_with_len 0 number)))
-no_earlier rules number judged by here place early =
+no_earlier rules number judged by here same early =
     All-same (Absent rules number) _ _ (take-map-range_with_len Covered 0 number by (omega arith))
     (All-map (Absent rules number) Covered (range_with_len 0 by) (λ k d below.
     let less : k < by = omega (arith, below, length-range_with_len 0 by) in
@@ -131,9 +131,9 @@ pub cover_is_first : (rules : List Rule) (number : ℕ) (judged : Rule) (by : �
     → IsFirstCause rules number (Covered by)
 cover_is_first rules number judged by here own is =
     let dead = covered_dead rules number judged by here is in
-    let place = (position_is (λ rule. covers rule judged) (take number rules) by is).0 in
+    let same = (position_is (λ rule. covers rule judged) (take number rules) by is).0 in
     record {
-      place = suc (suc (suc by));
+      index = suc (suc (suc by));
       here =
           slice_get-get_or (map Covered (range_with_len 0 number)) by (Covered by)
           (omega (arith, dead.0, length-map-range_with_len Covered 0 number))
@@ -141,7 +141,7 @@ cover_is_first rules number judged by here own is =
       dead = dead;
       first =
           none_of_own rules number judged here own (take by (map Covered (range_with_len 0 number)))
-          (no_earlier rules number judged by here place dead.0);
+          (no_earlier rules number judged by here same dead.0);
     }
 
 -- what is told of a rule, if anything

@@ -28,36 +28,36 @@ pub mark_past : (test : Rule → Bool) (rules : List Rule) (number : ℕ) → le
 mark_past test rules number past =
     ap (λ rule. option_map_or (λ r. one_if (test r)) rule 0) (slice_get_past rules number past)
 
-module _ (property : Property) (rules : List Rule) (place : ℕ) where
+module _ (property : Property) (rules : List Rule) (index : ℕ) where
   -- the bits below n of a word are settled
   abbrev pub SettledBelow : ℕ → ℕ → Type 0
-  SettledBelow n word = (i : ℕ) → bit_at word i ≡ (if nat_lt i n then marks property rules (place * 64 + i) else 0)
+  SettledBelow n word = (i : ℕ) → bit_at word i ≡ (if nat_lt i n then marks property rules (index * 64 + i) else 0)
 
-  pub all_settled : (n word : ℕ) → 64 ≤ n → SettledBelow n word → IsWordOf property rules place word
+  pub all_settled : (n word : ℕ) → 64 ≤ n → SettledBelow n word → IsWordOf property rules index word
   all_settled n word all settled i below = let e = lt-ltb i n (omega arith) in settled i ∙ (rw e refl)
 
-  settled_at : (n old new : ℕ) → SettledBelow n old → bit_at new n ≡ marks property rules (place * 64 + n)
+  settled_at : (n old new : ℕ) → SettledBelow n old → bit_at new n ≡ marks property rules (index * 64 + n)
       → ((other : ℕ) → other ≢ n → bit_at new other ≡ bit_at old other) → SettledBelow (n + 1) new
   settled_at n old new settled here others i =
       elim (cases_lt i n) [
         | inl below ↦ (let e = lt-ltb i n below in let f = lt-ltb i (n + 1) (omega arith) in
-            let same : bit_at old i ≡ marks property rules (place * 64 + i) = settled i ∙ (rw e refl) in
+            let same : bit_at old i ≡ marks property rules (index * 64 + i) = settled i ∙ (rw e refl) in
             others i (λ is. absurd (omega arith)) ∙ same ∙ (rw f refl))
         | inr above ↦ elim (cases_lt n i) [
           | inl beyond ↦ (let e = le-ltb i n above in let f = le-ltb i (n + 1) (omega arith) in
               let same : bit_at old i ≡ 0 = settled i ∙ (rw e refl) in
               others i (λ is. absurd (omega arith)) ∙ same ∙ (rw f refl))
           | inr within ↦ (let is : i ≡ n = omega arith in let f = lt-ltb i (n + 1) (omega arith) in
-              ap (bit_at new) is ∙ here ∙ ap (λ k. marks property rules (place * 64 + k)) (sym is) ∙ (rw f refl))
+              ap (bit_at new) is ∙ here ∙ ap (λ k. marks property rules (index * 64 + k)) (sym is) ∙ (rw f refl))
         ]
       ]
 
   -- one bit more
-  pub settled_with : (n old new : ℕ) → SettledBelow n old → marks property rules (place * 64 + n) ≡ 1 → bit_at new n ≡ 1
+  pub settled_with : (n old new : ℕ) → SettledBelow n old → marks property rules (index * 64 + n) ≡ 1 → bit_at new n ≡ 1
       → ((other : ℕ) → other ≢ n → bit_at new other ≡ bit_at old other) → SettledBelow (n + 1) new
   settled_with n old new settled one here others = settled_at n old new settled (here ∙ sym one) others
 
-  pub settled_without : (n old : ℕ) → SettledBelow n old → marks property rules (place * 64 + n) ≡ 0
+  pub settled_without : (n old : ℕ) → SettledBelow n old → marks property rules (index * 64 + n) ≡ 0
       → SettledBelow (n + 1) old
   settled_without n old settled none =
       let e = le-ltb n n (omega arith) in

@@ -3,7 +3,7 @@ use Rattle.std.proofs.Common.{◌≡◌, ◌∷◌, [], refl}
 use Rattle.gw_table.specs.declared.refusal.Field.TheVariants.{Pgn, Source, Destination, From}
 use Rattle.gw_table.specs.declared.rule_set.Property.TheVariants.{Passes, Holds}
 use Rattle.gw_table.specs.Sections.{start_property, row_at, row_of_page}
-use Rattle.gw_table.specs.Index.{group_place}
+use Rattle.gw_table.specs.Index.{group_position}
 
 passing_stand_first : start_property 0 ≡ Passes
 passing_stand_first = refl
@@ -41,11 +41,11 @@ page_of_262143 : row_of_page 1023 ≡ 64
 page_of_262143 = refl
 
 -- 59904 is of PDU1; 61444, engine speed, has the set of its page, and where its row is the second one its own
-place_of_59904 : group_place (0 ∷ 2 ∷ []) 59904 ≡ 748
-place_of_59904 = refl
+position_of_59904 : group_position (0 ∷ 2 ∷ []) 59904 ≡ 748
+position_of_59904 = refl
 
-place_of_61444_without_a_row : group_place (0 ∷ 0 ∷ []) 61444 ≡ 754
-place_of_61444_without_a_row = refl
+position_of_61444_without_a_row : group_position (0 ∷ 0 ∷ []) 61444 ≡ 754
+position_of_61444_without_a_row = refl
 
-place_of_61444_in_its_row : group_place (0 ∷ 2 ∷ []) 61444 ≡ 1798
-place_of_61444_in_its_row = refl
+position_of_61444_in_its_row : group_position (0 ∷ 2 ∷ []) 61444 ≡ 1798
+position_of_61444_in_its_row = refl

@@ -1,8 +1,10 @@
 -- Sets of rules that stand one behind another.
-use Rattle.std.proofs.Common.{◌≡◌, ℕ, suc, ◌+◌, ◌-◌, ◌*◌, ◌<◌, ◌≤◌, List, length, get_or, take, drop, sym, ap, subst}
-use Rattle.std.proofs.Common.{◌∙◌, inl, inr, add-one, arith, suc-mul}
+use Rattle.std.proofs.Common.{◌≡◌, ℕ, suc, ◌+◌, ◌-◌, ◌*◌, ◌<◌, ◌≤◌, List, [], ◌∷◌, ◌++◌, length, get_or, take, drop, sym, ap}
+use Rattle.std.proofs.Common.{subst, ◌∙◌, inl, inr, add-one, arith, suc-mul}
 use Rattle.std.proofs.lemmas.Bool.{cases_lt}
-use Rattle.std.proofs.lemmas.List.{get_or-drop, take-take, drop-take, take_all, length-drop}
+use Rattle.std.proofs.lemmas.List.{get_or-drop, take-take, drop-take, take_all, length-drop, length-append, take-append-le}
+use Rattle.std.proofs.Math.ListN.{get_or-append}
+use Rattle.std.proofs.Math.Seq.{get_or-append_seam}
 use Rattle.std.proofs.lemmas.Nat.{mul-le}
 use Rattle.gw_table.specs.declared.table.Rule.{Rule}
 use Rattle.gw_table.specs.declared.rule_set.Property.{Property}
@@ -24,6 +26,36 @@ pub record IsBegun (property : Property) (rules : List Rule) (old new : List ℕ
   pub grown : length new ≡ length old + count
   pub before : take (length old) new ≡ old
   pub words : (w : ℕ) → w < count → IsWordOf property rules w (get_or new (length old + w) 0)
+
+-- no word of it is pushed yet
+pub begun_none : (property : Property) (rules : List Rule) (old : List ℕ) → IsBegun property rules old old 0
+begun_none property rules old = record {
+  grown = omega arith;
+  before = take_all (length old) old (omega arith);
+  words = λ w within. absurd (omega arith);
+}
+
+-- one word more
+pub begun_more : (property : Property) (rules : List Rule) (old now new : List ℕ) (count word : ℕ)
+    → IsBegun property rules old now count → IsWordOf property rules count word → new ≡ now ++ word ∷ []
+    → IsBegun property rules old new (count + 1)
+begun_more property rules old now new count word begun is pushed =
+    let read : (w : ℕ) → get_or new (length old + w) 0 ≡ get_or (now ++ word ∷ []) (length old + w) 0 =
+    λ w. ap (λ list. get_or list (length old + w) 0) pushed in
+    record {
+      grown = omega (arith, ap length pushed, length-append now (word ∷ []), begun.grown);
+      before = ap (take (length old)) pushed
+          ∙ take-append-le (length old) now (word ∷ []) (omega (arith, begun.grown)) ∙ begun.before;
+      words = λ w within. elim (cases_lt w count) [
+        | inl earlier ↦ subst (IsWordOf property rules w) (sym (read w
+            ∙ get_or-append now (word ∷ []) 0 (length old + w) (omega (arith, begun.grown)))) (begun.words w earlier)
+        | inr last ↦ (let same : w ≡ count = omega arith in
+            let at : length old + count ≡ length now = sym begun.grown in
+            subst (λ k. IsWordOf property rules k (get_or new (length old + k) 0)) (sym same)
+            (subst (IsWordOf property rules count) (sym (read count ∙ ap (λ i. get_or (now ++ word ∷ []) i 0) at
+            ∙ get_or-append_seam now word [] 0)) is))
+      ];
+    }
 
 module _ (property : Property) (rules : List Rule) (old new : List ℕ) (words : ℕ) where
   -- all its words make the set

@@ -178,7 +178,7 @@ dead_never table number (Covered by) dead octets port fits decides =
     (decider_holds octets port number table later.rule decides later.here) in
     false≢true (sym (earlier_fails octets port number by table earlier.rule decides dead.0 earlier.here) ∙ holds)
 
--- the first element that passes, by its place
+-- the first element that passes, by its index
 pub position_is : {A : Type 0} (test : A → Bool) (xs : List A) (number : ℕ) → position test xs ≡ Some number
     → (position_or_len test xs ≡ number) × (number < length xs)
 position_is test xs number is = by (nat_lt (position_or_len test xs) (length xs)) refl is
@@ -201,8 +201,8 @@ position_none test xs is = by (nat_lt (position_or_len test xs) (length xs)) ref
 pub decided_action : (table : Meaning) (octets : List ℕ) (port : ℕ) (decider : Part) → Decides table octets port decider
     → action_of table decider ≡ Some (action_for table octets port)
 decided_action table octets port (part.Rule number) decides =
-    let (place, inside) = position_is (matches octets port) table.rules number decides.1 in
-    let found = find_at (matches octets port) table.rules ∙ ap (slice_get table.rules) place in
+    let (at, inside) = position_is (matches octets port) table.rules number decides.1 in
+    let found = find_at (matches octets port) table.rules ∙ ap (slice_get table.rules) at in
     rw (decides.0, found) (by (slice_get_cases table.rules number).1)
   where
     by : ((x : Rule) × (number < length table.rules) × (slice_get table.rules number ≡ Some x)

@@ -17,7 +17,7 @@ use Rattle.gw_table.specs.declared.section.Section.TheVariants as section
 use Rattle.gw_table.specs.Table.{lies_in}
 use Rattle.gw_table.specs.RuleSets.{span_of, marks, IsSetOf, Follows}
 use Rattle.gw_table.specs.Sections.{start_property, property_of, pdu2_page, row_at}
-use Rattle.gw_table.specs.Index.{splits, place_in, IsPlaced, HasRow}
+use Rattle.gw_table.specs.Index.{splits, position_in, HasSetOf, HasRow}
 use Rattle.gw_table.proofs.Holding.{one_if}
 use Rattle.gw_table.proofs.Listed.{kept}
 
@@ -69,31 +69,31 @@ whole_below zero below = omega arith
 whole_below (suc row) below = omega (arith, ap (λ r. r.whole) (row_of_groups (suc row) (omega arith)))
 
 module _ (rules : List Rule) (words : ℕ) where
-  placed_kept : (old new : List ℕ) (property : Property) (place : ℕ) → take (length old) new ≡ old → length old ≤ length new
-      → IsPlaced property rules words old place → IsPlaced property rules words new place
-  placed_kept old new property place before longer placed = record {
-    within = omega (arith, placed.within, longer);
-    set = subst (IsSetOf property rules) (sym (kept old new (place * words) words before placed.within)) placed.set;
+  set_kept : (old new : List ℕ) (property : Property) (position : ℕ) → take (length old) new ≡ old → length old ≤ length new
+      → HasSetOf property rules words old position → HasSetOf property rules words new position
+  set_kept old new property position before longer held = record {
+    within = omega (arith, held.within, longer);
+    set = subst (IsSetOf property rules) (sym (kept old new (position * words) words before held.within)) held.set;
   }
 
   -- a set that was appended stands behind those that were there
-  pub placed_behind : (property : ℕ → Property) (count before : ℕ) (old new : List ℕ) → length old ≡ before * words
-      → Follows property count rules words old new → (k : ℕ) → k < count → IsPlaced (property k) rules words new (before + k)
-  placed_behind property count before old new size follows k within =
+  pub set_behind : (property : ℕ → Property) (count before : ℕ) (old new : List ℕ) → length old ≡ before * words
+      → Follows property count rules words old new → (k : ℕ) → k < count → HasSetOf (property k) rules words new (before + k)
+  set_behind property count before old new size follows k within =
       let at : (before + k) * words ≡ before * words + k * words = add-mul before k words in
       let one : suc k * words ≡ k * words + words = suc-mul k words in
       let fits : suc k * words ≤ count * words = mul-le (suc k) words count words (omega arith) (omega arith) in
-      let place : length old + k * words ≡ (before + k) * words = omega (arith, at, size) in
+      let starts : length old + k * words ≡ (before + k) * words = omega (arith, at, size) in
       record {
         within = omega (arith, at, one, fits, size, follows.grown);
-        set = subst (λ n. IsSetOf (property k) rules (take words (drop n new))) place (follows.sets k within);
+        set = subst (λ n. IsSetOf (property k) rules (take words (drop n new))) starts (follows.sets k within);
       }
 
   -- the rows below a number are there or have one set for all, and so many are there
   pub record IsMade (bits ranks : List ℕ) (count rank : ℕ) : Type 0 where
     pub grown : length bits ≡ (1538 + rank * 256) * words
     pub few : rank ≤ count
-    pub start : (place : ℕ) → place < 1538 → IsPlaced (start_property place) rules words bits place
+    pub start : (position : ℕ) → position < 1538 → HasSetOf (start_property position) rules words bits position
     pub rows : (row : ℕ) → row < count → HasRow rules words bits ranks row
     pub rest : (row : ℕ) → count ≤ row → get_or ranks row 0 ≡ 0
 
@@ -102,8 +102,8 @@ module _ (rules : List Rule) (words : ℕ) where
   none_made bits ranks follows none = record {
     grown = omega (arith, follows.grown);
     few = omega arith;
-    start = λ place below. subst (IsPlaced (start_property place) rules words bits) (zero-add place)
-        (placed_behind start_property 1538 0 [] bits (sym (zero-mul words)) follows place below);
+    start = λ position below. subst (HasSetOf (start_property position) rules words bits) (zero-add position)
+        (set_behind start_property 1538 0 [] bits (sym (zero-mul words)) follows position below);
     rows = λ row below. absurd (omega arith);
     rest = λ row above. none row;
   }
@@ -131,14 +131,14 @@ module _ (rules : List Rule) (words : ℕ) where
       least : ℕ
       least = (row_at count).least
 
-      common : IsPlaced (Holds field least) rules words bits (row_at count).whole
-      common = subst (λ p. IsPlaced p rules words bits (row_at count).whole) (whole_property count)
+      common : HasSetOf (Holds field least) rules words bits (row_at count).whole
+      common = subst (λ p. HasSetOf p rules words bits (row_at count).whole) (whole_property count)
           (made.start (row_at count).whole (whole_below count below))
 
       here : HasRow rules words bits ranks count
       here number within =
           let unset = made.rest count (omega arith) in
-          subst (λ n. IsPlaced (Holds field (least + number)) rules words bits (place_in n (row_at count).whole number))
+          subst (λ n. HasSetOf (Holds field (least + number)) rules words bits (position_in n (row_at count).whole number))
           (sym unset) (record {
             within = common.within;
             set = λ rule. common.set rule ∙ sym (alike field least number rules rule within whole);
@@ -151,11 +151,11 @@ module _ (rules : List Rule) (words : ℕ) where
   row_added old new ranks ranked count rank made follows here others = record {
     grown = omega (arith, made.grown, follows.grown, more);
     few = omega (arith, made.few);
-    start = λ place below. stays (start_property place) place (made.start place below);
+    start = λ position below. stays (start_property position) position (made.start position below);
     rows = λ row earlier. elim (cases_lt row count) [
       | inl before ↦ (λ number within. subst
-          (λ n. IsPlaced (Holds (row_at row).field ((row_at row).least + number)) rules words new
-          (place_in n (row_at row).whole number))
+          (λ n. HasSetOf (Holds (row_at row).field ((row_at row).least + number)) rules words new
+          (position_in n (row_at row).whole number))
           (sym (others row (λ same. absurd (omega arith)))) (stays _ _ (made.rows row before number within)))
       | inr last ↦ subst (HasRow rules words new ranked) (sym (is row earlier last)) added
     ];
@@ -170,20 +170,20 @@ module _ (rules : List Rule) (words : ℕ) where
           let sum : 1538 + (rank + 1) * 256 ≡ 1538 + rank * 256 + 256 = omega arith in
           ap (λ n. n * words) sum ∙ add-mul (1538 + rank * 256) 256 words
 
-      stays : (property : Property) (place : ℕ) → IsPlaced property rules words old place
-          → IsPlaced property rules words new place
-      stays property place placed =
-          placed_kept old new property place follows.before (omega (arith, follows.grown)) placed
+      stays : (property : Property) (position : ℕ) → HasSetOf property rules words old position
+          → HasSetOf property rules words new position
+      stays property position held =
+          set_kept old new property position follows.before (omega (arith, follows.grown)) held
 
-      at : (number : ℕ) → 1538 + rank * 256 + number ≡ place_in (rank + 1) (row_at count).whole number
+      at : (number : ℕ) → 1538 + rank * 256 + number ≡ position_in (rank + 1) (row_at count).whole number
       at number = grind (arith, nat_tests)
 
       added : HasRow rules words new ranked count
       added number within =
-          subst (λ n. IsPlaced (Holds (row_at count).field ((row_at count).least + number)) rules words new
-          (place_in n (row_at count).whole number)) (sym here)
-          (subst (IsPlaced (Holds (row_at count).field ((row_at count).least + number)) rules words new) (at number)
-          (placed_behind (property_of (section.Row (row_at count).field (row_at count).least)) 256 (1538 + rank * 256) old new
+          subst (λ n. HasSetOf (Holds (row_at count).field ((row_at count).least + number)) rules words new
+          (position_in n (row_at count).whole number)) (sym here)
+          (subst (HasSetOf (Holds (row_at count).field ((row_at count).least + number)) rules words new) (at number)
+          (set_behind (property_of (section.Row (row_at count).field (row_at count).least)) 256 (1538 + rank * 256) old new
           made.grown follows number within))
 
 pub no_ranks : (rows row : ℕ) → ◌≡◌ {A = ℕ} (get_or (replicate rows 0) row 0) 0

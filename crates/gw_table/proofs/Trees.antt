@@ -101,7 +101,7 @@ first_of-some : {A : Type 0} (wrong : Data → Option A) (values : List Value) (
 first_of-some wrong values number value why found at is =
     rw (position-map (λ rule. is_some (wrong rule)) view values, found, seen_at wrong values number, at, is) refl
 
--- the place of the first that passes, where no earlier one does, or the length
+-- the index of the first that passes, where no earlier one does, or the length
 first_at : {X : Type 0} (test : X → Bool) (xs : List X) (number : ℕ) → number < length xs
     → AllWithin (λ x. test x ≡ false) xs 0 number → HoldsAt (λ x. test x ≡ true) xs number → position_or_len test xs ≡ number
 first_at test [] number within before here = absurd (omega arith)

@@ -9,7 +9,7 @@ use Rattle.gw_table.specs.declared.table.Action.TheVariants.{Pass, Block}
 use Rattle.gw_table.specs.declared.table.Span.{Span}
 use Rattle.gw_table.specs.declared.table.Rule.{Rule}
 use Rattle.gw_table.specs.declared.table.Part.TheVariants as part
-use Rattle.gw_table.specs.declared.refusal.Place.TheVariants as place
+use Rattle.gw_table.specs.declared.refusal.KeyLocation.TheVariants as location
 use Rattle.gw_table.specs.declared.refusal.ActionFault.TheVariants.{Absent, NoAction}
 use Rattle.gw_table.specs.declared.refusal.Field.TheVariants.{Pgn, Source}
 use Rattle.gw_table.specs.declared.refusal.RangeFault.TheVariants.{NoRange, OutOfField, Descending}
@@ -60,9 +60,10 @@ bad_toml : (error : Error) → IsTableRefusal (codes "default =") (BadToml error
 unfolding toml_on_literals
 bad_toml error = refl
 
-unknown_text : (key : String Global) → string_bytes key ≡ codes "x" → IsTableRefusal (codes "x = 1") (UnknownKey place.Top key)
+unknown_text : (key : String Global) → string_bytes key ≡ codes "x" → IsTableRefusal (codes "x = 1") (UnknownKey location.Top key)
 unfolding toml_on_literals
-unknown_text key is = (member (codes "x") (integer (pos 1)) no_members, refl, ([], refl, ap (λ k. Some (place.Top, k)) (sym is)))
+unknown_text key is =
+    (member (codes "x") (integer (pos 1)) no_members, refl, ([], refl, ap (λ k. Some (location.Top, k)) (sym is)))
 
 rule_number : IsTableRefusal (codes "rule = 3") NoRuleTables
 unfolding toml_on_literals
@@ -124,7 +125,7 @@ no_rules : IsDocument (with_rules no_items) (record { otherwise = Block; other =
 no_rules = ([], refl, no_fault refl refl refl (omega arith), refl)
 
 order_rows : (written_rules (with_rules (item (integer (pos 1)) no_items)) ≡ None)
-    × (unknown_key no_members (unranged ∷ dropping ∷ unnamed ∷ unnamed ∷ []) ≡ Some (place.Rule 2, codes "x"))
+    × (unknown_key no_members (unranged ∷ dropping ∷ unnamed ∷ unnamed ∷ []) ≡ Some (location.Rule 2, codes "x"))
     × (unknown_key (member (codes "default") (boolean true) no_members) (unranged ∷ dropping ∷ []) ≡ None)
     × (bad_action (member (codes "other") (boolean true) (member (codes "default") (boolean true) no_members)) (dropping ∷ [])
     ≡ Some (part.Default, NoAction))

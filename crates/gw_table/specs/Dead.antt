@@ -51,10 +51,10 @@ causes number = NoGroup ∷ NoPort ∷ NoDestination ∷ map Covered (range_with
 
 -- the first of the causes that the rule of a number has
 pub record IsFirstCause (rules : List Rule) (number : ℕ) (why : WhyDead) : Type 0 where
-  pub place : ℕ
-  pub here : slice_get (causes number) place ≡ Some why
+  pub index : ℕ
+  pub here : slice_get (causes number) index ≡ Some why
   pub dead : IsDead rules number why
-  pub first : All (λ earlier. ¬ IsDead rules number earlier) (take place (causes number))
+  pub first : All (λ earlier. ¬ IsDead rules number earlier) (take index (causes number))
 
 -- inside: the cause that is told of the three that a rule has by itself
 abbrev pub IsOwnCause : Rule → WhyDead → Type 0

@@ -37,7 +37,7 @@ IsSetOf property rules set = (number : ℕ) → has set number ≡ marks propert
 
 -- one word of that set
 abbrev pub IsWordOf : Property → List Rule → ℕ → ℕ → Type 0
-IsWordOf property rules place word = (i : ℕ) → i < 64 → bit_at word i ≡ marks property rules (place * 64 + i)
+IsWordOf property rules index word = (i : ℕ) → i < 64 → bit_at word i ≡ marks property rules (index * 64 + i)
 
 -- 1 for a rule of all four sets
 abbrev pub common : List ℕ → List ℕ → List ℕ → List ℕ → ℕ → ℕ
@@ -50,11 +50,11 @@ pub record IsLowest (marks : ℕ → ℕ) (number : ℕ) : Type 0 where
 
 -- a set in a list of sets of so many words each
 abbrev pub set_at : ℕ → List ℕ → ℕ → List ℕ
-set_at words bits place = take words (drop (place * words) bits)
+set_at words bits position = take words (drop (position * words) bits)
 
--- there is a set at the place
+-- there is a set at the position
 abbrev pub HasSet : ℕ → List ℕ → ℕ → Type 0
-HasSet words bits place = place * words + words ≤ length bits
+HasSet words bits position = position * words + words ≤ length bits
 
 -- the words, and behind them the sets of so many properties
 pub record Follows (property : ℕ → Property) (count : ℕ) (rules : List Rule) (words : ℕ) (old new : List ℕ) : Type 0 where

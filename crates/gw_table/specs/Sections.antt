@@ -10,12 +10,12 @@ use Rattle.gw_table.specs.declared.section.Row.{Row}
 -- of each set at the start: one of the rules that pass, one of port 0, the destinations from 255 down, the sources, and the
 -- first group of each page
 abbrev pub start_property : ℕ → Property
-start_property place =
-    if nat_lt place 1 then Passes
-    else if nat_lt place 2 then Holds From 0
-    else if nat_lt place 258 then Holds Destination (255 - (place - 2))
-    else if nat_lt place 514 then Holds Source (place - 258)
-    else Holds Pgn ((place - 514) * 256)
+start_property position =
+    if nat_lt position 1 then Passes
+    else if nat_lt position 2 then Holds From 0
+    else if nat_lt position 258 then Holds Destination (255 - (position - 2))
+    else if nat_lt position 514 then Holds Source (position - 258)
+    else Holds Pgn ((position - 514) * 256)
 
 abbrev pub property_of : Section → ℕ → Property
 property_of section.Start number = start_property number

@@ -16,8 +16,8 @@ use Rattle.gw_table.specs.declared.table.Rule.{Rule}
 use Rattle.gw_table.specs.declared.table.Part.{Part}
 use Rattle.gw_table.specs.declared.table.Part.TheVariants as part
 use Rattle.gw_table.specs.declared.values.Ranges.{Ranges}
-use Rattle.gw_table.specs.declared.refusal.Place.{Place}
-use Rattle.gw_table.specs.declared.refusal.Place.TheVariants as place
+use Rattle.gw_table.specs.declared.refusal.KeyLocation.{KeyLocation}
+use Rattle.gw_table.specs.declared.refusal.KeyLocation.TheVariants as location
 use Rattle.gw_table.specs.declared.refusal.ActionFault.{ActionFault}
 use Rattle.gw_table.specs.declared.refusal.ActionFault.TheVariants.{Absent, NoAction}
 use Rattle.gw_table.specs.declared.refusal.Field.{Field}
@@ -32,7 +32,7 @@ use Rattle.gw_table.specs.declared.refusal.TableRefusal.TheVariants.{TooManyRule
 abbrev pub refusal_number : TableRefusal → ℕ
 refusal_number (BadToml error) = 50
 refusal_number NoRuleTables = 51
-refusal_number (UnknownKey place key) = 51
+refusal_number (UnknownKey location key) = 51
 refusal_number (BadAction of why) = 52
 refusal_number (BadRange rule field why) = 53
 refusal_number (TooManyRules rules) = 54
@@ -183,10 +183,10 @@ rule_in rule = option_and_then (λ action. option_map (rule_of action) (result_o
 -- what is wrong with a document and its rules: all keys come before all actions, these before all ranges, and these before
 -- the number of rules
 
-abbrev pub unknown_key : Members → List Data → Option (Place × List ℕ)
+abbrev pub unknown_key : Members → List Data → Option (KeyLocation × List ℕ)
 unknown_key document rules =
-    option_or (option_map (λ key. (place.Top, key)) (first_but document_keys document))
-    (option_map (λ found. (place.Rule found.0, found.1)) (first_of unknown_in_rule rules))
+    option_or (option_map (λ key. (location.Top, key)) (first_but document_keys document))
+    (option_map (λ found. (location.Rule found.0, found.1)) (first_of unknown_in_rule rules))
 
 -- `default` and `other` may be absent
 abbrev pub written_fault : List ℕ → Members → Option ActionFault
@@ -208,14 +208,14 @@ pub record IsFaultless (document : Members) (rules : List Data) : Type 0 where
   pub few : length rules ≤ 256
 
 -- the refusal of a key, for which memory may be wanting
-abbrev pub IsKeyRefusal : Place → List ℕ → TableRefusal → Type 0
-IsKeyRefusal place key (UnknownKey at found) = (at ≡ place) × (string_bytes found ≡ key)
-IsKeyRefusal place key OutOfMemory = Unit {0}
-IsKeyRefusal place key _ = ⊥
+abbrev pub IsKeyRefusal : KeyLocation → List ℕ → TableRefusal → Type 0
+IsKeyRefusal location key (UnknownKey at found) = (at ≡ location) × (string_bytes found ≡ key)
+IsKeyRefusal location key OutOfMemory = Unit {0}
+IsKeyRefusal location key _ = ⊥
 
 -- a refusal tells the first of these that is wrong; memory is wanted only to tell a key and for rules without a fault
 abbrev pub IsFirstFault : Members → List Data → TableRefusal → Type 0
-IsFirstFault document rules (UnknownKey place key) = unknown_key document rules ≡ Some (place, string_bytes key)
+IsFirstFault document rules (UnknownKey location key) = unknown_key document rules ≡ Some (location, string_bytes key)
 IsFirstFault document rules (BadAction of why) =
     (unknown_key document rules ≡ None) × (bad_action document rules ≡ Some (of, why))
 IsFirstFault document rules (BadRange rule field why) =

@@ -1,7 +1,7 @@
 //! What is wrong with a table, in one line: where it is, and how it is written right.
 
 use crate::nearest::nearest;
-use crate::refusal::{ActionFault, Field, Place, RangeFault, TableRefusal};
+use crate::refusal::{ActionFault, Field, KeyLocation, RangeFault, TableRefusal};
 use crate::table::Part;
 use std::error::Error;
 use std::fmt;
@@ -30,7 +30,7 @@ impl Display for TableRefusal {
             TableRefusal::NoRuleTables => f.write_str(
                 "`rule` is no array of tables; write `[[rule]]`, with two brackets, above each rule",
             ),
-            TableRefusal::UnknownKey { place, key } => unknown_key(f, *place, key.as_str()),
+            TableRefusal::UnknownKey { location, key } => unknown_key(f, *location, key.as_str()),
             TableRefusal::BadAction { of, why } => bad_action(f, *of, *why),
             TableRefusal::BadRange { rule, field, why } => bad_range(f, *rule, *field, *why),
             TableRefusal::TooManyRules { rules } => {
@@ -54,10 +54,14 @@ fn not_toml<W: fmt::Write>(f: &mut Formatter<W>, error: &toml::de::Error) -> fmt
 }
 
 /// A key is quoted as in TOML, since it may be any text.
-fn unknown_key<W: fmt::Write>(f: &mut Formatter<W>, place: Place, key: &str) -> fmt::Result {
-    match place {
-        Place::Top => unknown_at_top(f, key),
-        Place::Rule(rule) => unknown_in_rule(f, rule, key),
+fn unknown_key<W: fmt::Write>(
+    f: &mut Formatter<W>,
+    location: KeyLocation,
+    key: &str,
+) -> fmt::Result {
+    match location {
+        KeyLocation::Top => unknown_at_top(f, key),
+        KeyLocation::Rule(rule) => unknown_in_rule(f, rule, key),
     }
 }
 
@@ -139,18 +143,16 @@ struct OneLine<'a, W> {
 
 impl<W: fmt::Write> fmt::Write for OneLine<'_, W> {
     fn write_str(&mut self, text: &str) -> fmt::Result {
-        for (index, line) in text.split('\n').enumerate() {
-            if index > 0 {
+        for c in text.chars() {
+            if c == '\n' {
                 self.is_behind_line = true;
-            }
-            if line.is_empty() {
                 continue;
             }
             if self.is_behind_line {
                 self.inner.write_str(": ")?;
                 self.is_behind_line = false;
             }
-            self.inner.write_str(line)?;
+            self.inner.write_char(c)?;
         }
         Ok(())
     }

@@ -20,7 +20,7 @@ ghost use Rattle.gw_table.specs.TableText.{
   IsFirstWrong,
 };
 
-use crate::refusal::{ActionFault, Field, Place, RangeFault};
+use crate::refusal::{ActionFault, Field, KeyLocation, RangeFault};
 use crate::table::Part;
 use crate::values::{action_in, member, ranges_in};
 use toml::Value;
@@ -42,15 +42,18 @@ fn first_of<'a, T: Drop, F: Fn(&'a Value) -> Option<T>>(
 }
 
 /// The first key that is not known, and where it stands.
-pub fn unknown_key<'a>(document: &'a toml::Table, rules: &'a [Value]) -> Option<(Place, &'a String)>
+pub fn unknown_key<'a>(
+    document: &'a toml::Table,
+    rules: &'a [Value],
+) -> Option<(KeyLocation, &'a String)>
     ensures { option_map (λ found. (found.0, string_bytes found.1.now)) result
         ≡ unknown_key (table_view document.now) (map view rules.now) }
 {
     if let Some(key) = unknown_at_top(document) {
-        return Some((Place::Top, key));
+        return Some((KeyLocation::Top, key));
     }
     let (rule, key) = unknown_in_rules(rules)?;
-    Some((Place::Rule(rule), key))
+    Some((KeyLocation::Rule(rule), key))
 }
 
 fn unknown_in_rules(rules: &[Value]) -> Option<(usize, &String)>

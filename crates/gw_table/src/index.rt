@@ -6,7 +6,7 @@ ghost use Rattle.std.specs.Prelude.{IfOk, IfErr, IfSome, IfNone};
 ghost use Rattle.std.specs.List.{list_any};
 ghost use Rattle.gw_table.specs.Table.{lies_in, is_pass, table_passes};
 ghost use Rattle.gw_table.specs.RuleSets.{span_of, IsLowest};
-ghost use Rattle.gw_table.specs.Index.{IsGroup, splits, place_in, group_place, shared, Stands, Indexes};
+ghost use Rattle.gw_table.specs.Index.{IsGroup, splits, position_in, group_position, shared, Stands, Indexes};
 
 use crate::refusal::Field;
 use crate::rule_set::{is_member, lowest_common};
@@ -132,41 +132,41 @@ impl Index {
     fn lowest_shared(&self, pgn: u32, source: u8, destination: u8, from: u8) -> Option<usize>
         requires few { self.now.sets.words ≤ 4 }
         requires fits { pgn < 262144 }
-        requires group { Stands self.now (group_place self.now.ranks pgn) }
+        requires group { Stands self.now (group_position self.now.ranks pgn) }
         requires source { Stands self.now (258 + source) }
         requires destination { Stands self.now (2 + (255 - destination)) }
-        requires from { Stands self.now (place_in (get_or self.now.ranks 0 0) 1 from) }
+        requires from { Stands self.now (position_in (get_or self.now.ranks 0 0) 1 from) }
         ensures first { IfSome result (IsLowest (shared self.now pgn source destination from)) }
         ensures none { IfNone result ((rule : ℕ) → shared self.now pgn source destination from rule ≡ 0) }
     {
         let below_255 = GREATEST_OCTET - u32::from(destination);
         lowest_common(
-            self.sets.at(self.group_place(pgn)),
+            self.sets.at(self.group_position(pgn)),
             self.sets.at(SOURCES + u32::from(source)),
             self.sets.at(DESTINATIONS + below_255),
             self.sets
-                .at(self.place_in(PORTS, ANY_PORT, u32::from(from))),
+                .at(self.position_in(PORTS, ANY_PORT, u32::from(from))),
         )
     }
 
     /// Where the set of a parameter group stands.
-    fn group_place(&self, pgn: u32) -> u32
+    fn group_position(&self, pgn: u32) -> u32
         requires { pgn < 262144 }
-        ensures { result ≡ group_place self.now.ranks pgn }
+        ensures { result ≡ group_position self.now.ranks pgn }
     {
         let page = pgn / NUMBERS;
         if page % NUMBERS < PDU2 {
             return PAGES + page;
         }
-        self.place_in(row_of_page(page), PAGES + page, pgn % NUMBERS)
+        self.position_in(row_of_page(page), PAGES + page, pgn % NUMBERS)
     }
 
     /// Where the set of a number of a row stands: in the row, if it is there.
-    fn place_in(&self, row: u32, whole: u32, number: u32) -> u32
+    fn position_in(&self, row: u32, whole: u32, number: u32) -> u32
         requires row { row < 65 }
         requires whole { whole < 1538 }
         requires number { number < 256 }
-        ensures { result ≡ place_in (get_or self.now.ranks row 0) whole number }
+        ensures { result ≡ position_in (get_or self.now.ranks row 0) whole number }
     {
         match self.ranks[row as usize] {
             0 => whole,

@@ -19,5 +19,5 @@ mod verdict;
 pub use compiler::compile;
 pub use dead::WhyDead;
 pub use index::IndexedTable;
-pub use refusal::{ActionFault, Field, Place, RangeFault, TableRefusal};
+pub use refusal::{ActionFault, Field, KeyLocation, RangeFault, TableRefusal};
 pub use table::{Action, Part, Rule, Span, Table};

@@ -16,7 +16,7 @@ ghost use Rattle.gw_table.specs.TableText.{
 };
 
 use crate::faults::{bad_action, bad_range, unknown_key};
-use crate::refusal::{Place, TableRefusal};
+use crate::refusal::{KeyLocation, TableRefusal};
 use crate::table::{Action, Rule, Table};
 use crate::values::{action_or_block, member, rule_in};
 use std::alloc::{AllocError, Global};
@@ -51,8 +51,8 @@ fn from_document(alloc: Global, document: &toml::Table) -> Result<Table, TableRe
     let Some(written) = written_rules(document) else {
         return Err(TableRefusal::NoRuleTables);
     };
-    if let Some((place, key)) = unknown_key(document, written) {
-        return Err(tell_key(place, key));
+    if let Some((location, key)) = unknown_key(document, written) {
+        return Err(tell_key(location, key));
     }
     if let Some((of, why)) = bad_action(document, written) {
         return Err(TableRefusal::BadAction { of, why });
@@ -75,11 +75,11 @@ fn from_document(alloc: Global, document: &toml::Table) -> Result<Table, TableRe
 }
 
 /// The refusal of a key that is not known.
-fn tell_key(place: Place, key: &String) -> TableRefusal
-    ensures { IsKeyRefusal place (string_bytes key.now) result }
+fn tell_key(location: KeyLocation, key: &String) -> TableRefusal
+    ensures { IsKeyRefusal location (string_bytes key.now) result }
 {
     match key.clone() {
-        Ok(key) => TableRefusal::UnknownKey { place, key },
+        Ok(key) => TableRefusal::UnknownKey { location, key },
         Err(AllocError) => TableRefusal::OutOfMemory,
     }
 }

@@ -7,7 +7,7 @@ use crate::table::{GREATEST_GROUP, GREATEST_OCTET, Part};
 
 /// Where a key stands.
 #[derive(Clone, Copy, PartialEq, Eq, Debug)]
-pub enum Place {
+pub enum KeyLocation {
     /// At the top of the document, before its first `[[rule]]`.
     Top,
     /// In the rule of this number, counted from 0.
@@ -44,7 +44,7 @@ pub enum RangeFault {
 }
 
 /// Why a text is no table, and where. Of several causes the one with the least number is given: over the whole text
-/// the keys come before the actions, and these before the ranges. Of one cause the first place is given: `default`,
+/// the keys come before the actions, and these before the ranges. Of one cause the first is given: `default`,
 /// `other`, then the least rule, and within a table the first key in the order of their octets.
 #[derive(Drop, PartialEq, Eq, Debug)]
 pub enum TableRefusal {
@@ -55,7 +55,7 @@ pub enum TableRefusal {
     /// 51: a key that is none of `default`, `other` and `rule`, or in a rule none of `action`, `pgn`, `source`,
     /// `destination` and `from`.
     UnknownKey {
-        place: Place,
+        location: KeyLocation,
         key: String,
     },
     /// 52: an action that is neither `"pass"` nor `"block"`, or a rule without one.

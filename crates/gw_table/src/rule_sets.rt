@@ -61,13 +61,13 @@ impl RuleSets {
         Ok(())
     }
 
-    /// The set at a place.
-    pub fn at(&self, place: u32) -> &[u64]
-        requires { HasSet self.now.words self.now.bits.items place }
-        ensures set { result.now ≡ set_at self.now.words self.now.bits.items place }
+    /// The set at a position.
+    pub fn at(&self, position: u32) -> &[u64]
+        requires { HasSet self.now.words self.now.bits.items position }
+        ensures set { result.now ≡ set_at self.now.words self.now.bits.items position }
         ensures len { length result.now ≡ self.now.words }
     {
-        let start = place as usize * self.words;
+        let start = position as usize * self.words;
         &self.bits[start..start + self.words]
     }
 }

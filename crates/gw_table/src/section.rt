@@ -79,20 +79,23 @@ impl Section {
     }
 }
 
-fn start_property(place: u32) -> Property
-    requires { place < 1538 }
-    ensures { result ≡ start_property place }
+fn start_property(position: u32) -> Property
+    requires { position < 1538 }
+    ensures { result ≡ start_property position }
 {
-    if place < ANY_PORT {
+    if position < ANY_PORT {
         Property::Passes
-    } else if place < DESTINATIONS {
+    } else if position < DESTINATIONS {
         Property::Holds(Field::From, 0)
-    } else if place < SOURCES {
-        Property::Holds(Field::Destination, GREATEST_OCTET - (place - DESTINATIONS))
-    } else if place < PAGES {
-        Property::Holds(Field::Source, place - SOURCES)
+    } else if position < SOURCES {
+        Property::Holds(
+            Field::Destination,
+            GREATEST_OCTET - (position - DESTINATIONS),
+        )
+    } else if position < PAGES {
+        Property::Holds(Field::Source, position - SOURCES)
     } else {
-        Property::Holds(Field::Pgn, (place - PAGES) * NUMBERS)
+        Property::Holds(Field::Pgn, (position - PAGES) * NUMBERS)
     }
 }
 

@@ -24,7 +24,7 @@ impl Table {
         let Some(destination) = id.destination() else {
             return Part::Other;
         };
-        match first_place(&self.rules, id.pgn(), id.source(), destination, from) {
+        match first_holding_number(&self.rules, id.pgn(), id.source(), destination, from) {
             Some(rule) => Part::Rule(rule),
             None => Part::Default,
         }
@@ -55,7 +55,13 @@ fn first_holding(rules: &[Rule], pgn: u32, source: u8, destination: u8, from: u8
         .find(|rule| rule.holds(pgn, source, destination, from))
 }
 
-fn first_place(rules: &[Rule], pgn: u32, source: u8, destination: u8, from: u8) -> Option<usize>
+fn first_holding_number(
+    rules: &[Rule],
+    pgn: u32,
+    source: u8,
+    destination: u8,
+    from: u8,
+) -> Option<usize>
     ensures { result
         ≡ position (λ rule. lies_in pgn rule.pgn && lies_in source rule.source
         && lies_in destination rule.destination && lies_in from rule.from) rules.now }

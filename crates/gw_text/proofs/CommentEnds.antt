@@ -5,20 +5,20 @@ use Rattle.std.proofs.Common.{◌++◌, append_assoc}
 use Rattle.std.proofs.lemmas.Bool.{cases_lt, false≢true}
 use Rattle.std.proofs.lemmas.Bool.Decides.{nat_tests}
 use Rattle.std.proofs.lemmas.List.{drop_more, drop-drop, drop_all}
-use Rattle.gw_text.specs.declared.comments.Place.{Place}
-use Rattle.gw_text.specs.declared.comments.Place.TheVariants.{Text, Opening}
-use Rattle.gw_text.specs.AssemblerTokens.{has_end, is_next, next_place, shown, without_comments}
+use Rattle.gw_text.specs.declared.comments.LexState.{LexState}
+use Rattle.gw_text.specs.declared.comments.LexState.TheVariants.{Text, Opening}
+use Rattle.gw_text.specs.AssemblerTokens.{has_end, is_next, next_state, shown, without_comments}
 
 -- a `/*` that is closed begins a comment, and no other does
 pub opens : (text : List ℕ) (c at closed : ℕ) → ((i : ℕ) → has_end (drop i text) ≡ nat_lt i closed) → (c == 59) ≡ false
     → (c == 47) ≡ true
-    → is_next 42 (drop at text) ≡ true → (b : Bool) → nat_lt (at + 1) closed ≡ b → next_place Text c (drop at text)
+    → is_next 42 (drop at text) ≡ true → (b : Bool) → nat_lt (at + 1) closed ≡ b → next_state Text c (drop at text)
     ≡ (if b then Opening else Text)
 opens text c at closed ends semicolon slash star b lt =
     let behind : has_end (drop 1 (drop at text)) ≡ b = ap has_end (drop-drop 1 at text) ∙ ends (at + 1) ∙ lt in
     rw (semicolon, slash, star, behind)
 
--- an end that is behind a place is behind each earlier one
+-- an end that is behind an index is behind each earlier one
 step : (text : List ℕ) (k : ℕ) → has_end (drop (k + 1) text) ≡ true → has_end (drop k text) ≡ true
 step text k h = ⊎_elim
     (λ lt. let cut : drop k text ≡ get_or text k 0 ∷ drop (k + 1) text = drop_more text k 0 lt in
@@ -51,7 +51,7 @@ last text end none some i = ⊎_elim
     ∙ sym (lt_false i end past))
     (cases_lt i end)
 
--- one place earlier
+-- one character earlier
 pub one_earlier : (text : List ℕ) (end : ℕ) → 0 < end → end ≤ length text
     → has_end (drop (end - 1) text)
     ≡ ((is_next 42 (drop (end - 1) text) && is_next 47 (drop (end - 1 + 1) text)) || has_end (drop end text))
@@ -78,12 +78,12 @@ pub none_at_end : (text : List ℕ) → has_end (drop (length text) text) ≡ fa
 none_at_end text = ap has_end (drop_all (length text) text (omega arith))
 
 -- one character more
-pub one_shown : (text shown_so_far : List ℕ) (place next : Place) (at c : ℕ) (whole : List ℕ) → at < length text
+pub one_shown : (text shown_so_far : List ℕ) (state next : LexState) (at c : ℕ) (whole : List ℕ) → at < length text
     → c ≡ get_or text at 0
-    → next ≡ next_place place c (drop (at + 1) text)
-    → shown_so_far ++ without_comments place (drop at text) ≡ whole
-    → (shown_so_far ++ shown place next c ∷ []) ++ without_comments next (drop (at + 1) text) ≡ whole
-one_shown text so place next at c whole lt is goes h =
+    → next ≡ next_state state c (drop (at + 1) text)
+    → shown_so_far ++ without_comments state (drop at text) ≡ whole
+    → (shown_so_far ++ shown state next c ∷ []) ++ without_comments next (drop (at + 1) text) ≡ whole
+one_shown text so state next at c whole lt is goes h =
     let cut : drop at text ≡ get_or text at 0 ∷ drop (at + 1) text = drop_more text at 0 lt in
-    append_assoc so (shown place next c ∷ []) (without_comments next (drop (at + 1) text))
-    ∙ sym (ap (λ cs. so ++ without_comments place cs) cut ∙ rw (← is, ← goes) refl) ∙ h
+    append_assoc so (shown state next c ∷ []) (without_comments next (drop (at + 1) text))
+    ∙ sym (ap (λ cs. so ++ without_comments state cs) cut ∙ rw (← is, ← goes) refl) ∙ h

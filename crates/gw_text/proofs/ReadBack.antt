@@ -23,7 +23,7 @@ use Rattle.gw_verify.specs.Flow.{program_forms, HasAt}
 use Rattle.gw_verify.specs.Orderly.{IsOrderly, StaysBelow}
 use Rattle.gw_text.specs.declared.forms.Jump.TheVariants.{NoJump}
 use Rattle.gw_text.specs.AssemblerTokens.{is_digit, is_name_character, lines_of, tokens_of}
-use Rattle.gw_text.specs.AssemblerForms.{form_of, number, only, spelled, mark, taking_port}
+use Rattle.gw_text.specs.AssemblerForms.{form_of, number, only, spelled, mark, ingress_port}
 use Rattle.gw_text.specs.Assembly.{Written, Assembles}
 use Rattle.gw_text.specs.Disassembly.{FieldsFit, label, line_of, disassembly, instruction_text}
 use Rattle.gw_text.proofs.TokenLemmas.{tokens-mark}
@@ -89,19 +89,19 @@ nibble_front : (rest : List ℕ) → tokens_of (codes "4*([" ++ rest) ≡ (codes
 nibble_front rest = ap (λ ts. codes "4" ∷ codes "*" ∷ codes "(" ∷ ts) (tokens-mark 91 rest refl refl)
 
 -- `ld [k]`, or `ld ifidx`
-word_load : (n s k : ℕ) (b : Bool) → (k == taking_port) ≡ b → s < 2 ^ 32 → k < 2 ^ 32 → ReadsSome n s (LoadWord k)
+word_load : (n s k : ℕ) (b : Bool) → (k == ingress_port) ≡ b → s < 2 ^ 32 → k < 2 ^ 32 → ReadsSome n s (LoadWord k)
 word_load n s k true port small fits =
-    let same : taking_port ≡ k = grind (arith, nat_tests) in
+    let same : ingress_port ≡ k = grind (arith, nat_tests) in
     subst (λ k. ReadsSome n s (LoadWord k)) same
-    (some (reads_fixed n s taking_port (LoadWord taking_port) (codes "ld") (codes "ifidx" ∷ [])
-    (record { pieces = spelled (codes "ifidx") ∷ []; code = 0x20; jump = NoJump; constant = taking_port }) small refl refl refl
+    (some (reads_fixed n s ingress_port (LoadWord ingress_port) (codes "ld") (codes "ifidx" ∷ [])
+    (record { pieces = spelled (codes "ifidx") ∷ []; code = 0x20; jump = NoJump; constant = ingress_port }) small refl refl refl
     refl refl refl refl refl))
 word_load n s k false other small fits = absolute n s k (LoadWord k) 108 (codes "d") 0x20 small fits refl (rw other) refl
     (λ d ds h. rw h)
 
 -- every instruction that stays below n reads back
 pub reads : (n s : ℕ) (insn : Insn) → s < 2 ^ 32 → FieldsFit (raw_of insn) → StaysBelow n s (form insn) → ReadsSome n s insn
-reads n s (LoadWord k) small fits stays = word_load n s k (k == taking_port) refl small fits.k
+reads n s (LoadWord k) small fits stays = word_load n s k (k == ingress_port) refl small fits.k
 reads n s (LoadHalf k) small fits stays = absolute n s k (LoadHalf k) 108 (codes "dh") 0x28 small fits.k refl refl refl
     (λ d ds h. rw h)
 reads n s (LoadByte k) small fits stays = absolute n s k (LoadByte k) 108 (codes "db") 0x30 small fits.k refl refl refl

@@ -9,7 +9,7 @@ use Rattle.gw_insn.specs.declared.insn.Raw.{Raw}
 use Rattle.gw_text.specs.declared.refusal.AsmRefusal.{AsmRefusal}
 use Rattle.gw_text.specs.declared.refusal.AsmRefusal.TheVariants.{TooMany}
 use Rattle.gw_text.specs.declared.line.Instruction.{Instruction}
-use Rattle.gw_text.specs.declared.comments.Place.TheVariants.{Text}
+use Rattle.gw_text.specs.declared.comments.LexState.TheVariants.{Text}
 use Rattle.gw_text.specs.AssemblerTokens.{without_comments}
 use Rattle.gw_text.specs.Assembly.{Line, Written, Labels, lines_from, numbered, line_faults, twice, label_twice, defined_again}
 use Rattle.gw_text.specs.Assembly.{definitions, instructions, all_target_faults, too_many, place_of, faults, first_of}

@@ -94,8 +94,8 @@ abbrev pub branch_unless : ℕ → List Form
 branch_unless code = compared code IfFalse comma_label
 
 -- the offset that Linux gives the interface number (SKF_AD_OFF + SKF_AD_IFINDEX): here the ingress port
-abbrev pub taking_port : ℕ
-taking_port = 0xfffff008
+abbrev pub ingress_port : ℕ
+ingress_port = 0xfffff008
 
 abbrev pub word : List ℕ → List Form → Word
 word name forms = record { name = name; forms = forms }
@@ -105,7 +105,7 @@ loads =
     word (codes "ld")
     (plain 0x20 absolute ++ plain 0x40 indexed ++ plain 0x60 scratch ++ plain 0x00 immediate
     ++ plain 0x80 (hash_or_not (codes "len"))
-    ++ forms_with taking_port 0x20 NoJump (hash_or_not (codes "ifidx")))
+    ++ forms_with ingress_port 0x20 NoJump (hash_or_not (codes "ifidx")))
     ∷ word (codes "ldi") (plain 0x00 (immediate ++ bare_number))
     ∷ word (codes "ldh") (plain 0x28 absolute ++ plain 0x48 indexed)
     ∷ word (codes "ldb") (plain 0x30 absolute ++ plain 0x50 indexed)

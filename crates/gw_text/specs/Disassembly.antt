@@ -4,6 +4,7 @@ use Rattle.std.specs.Prelude.{option_map}
 use Rattle.std.specs.List.{flat_map, enumerate_from, find}
 use Rattle.std.specs.Fmt.{digits}
 use Rattle.gw_insn.specs.declared.insn.Raw.{Raw}
+use Rattle.gw_text.specs.AssemblerForms.{ingress_port}
 
 -- the fields that a text shows are of their types
 pub record FieldsFit (raw : Raw) : Type 0 where
@@ -81,13 +82,10 @@ operand_text target place raw = codes " " ++ label (place + 1 + raw.k)
 operand_text (targets word) place raw = codes " " ++ (word ++ branches place raw)
 operand_text targets_number place raw = codes " " ++ (hexadecimal raw.k ++ branches place raw)
 
--- the ingress port in place of its offset
-abbrev pub taking_port : ℕ
-taking_port = 0xfffff008
-
+-- a word load at the offset of the ingress port is `ld ifidx`
 abbrev pub instruction_text : ℕ → Raw → List ℕ
 instruction_text place raw =
-    if raw.code == 0x20 then (if raw.k == taking_port then codes "ld ifidx" else plain) else plain
+    if raw.code == 0x20 then (if raw.k == ingress_port then codes "ld ifidx" else plain) else plain
   where
     plain : List ℕ
     plain = unwrap_or (option_map (λ t. t.word ++ operand_text t.operand place raw) (find (λ t. t.code == raw.code) texts)) []

@@ -55,14 +55,8 @@ impl AsmRefusal {
     }
 
     /// The line, counted from 1, that the refusal is about.
-    pub fn line(self) -> Option<usize>
-        ensures { result ≡ refusal_line self }
-    {
-        self.place()
-    }
-
     // By reference, since a proof pays for each variant of a copy.
-    fn place(&self) -> Option<usize>
+    pub fn line(&self) -> Option<usize>
         ensures { result ≡ refusal_line self.now }
     {
         match *self {
@@ -101,7 +95,7 @@ impl AsmRefusal {
 
 impl Display for AsmRefusal {
     fn fmt<W: fmt::Write>(&self, f: &mut Formatter<W>) -> fmt::Result {
-        if let Some(line) = self.place() {
+        if let Some(line) = self.line() {
             write!(f, "line {line}: ")?;
         }
         f.write_str(self.text())

@@ -18,7 +18,7 @@ use Rattle.gw_trace.proofs.Beginnings.{whole_of, whole_on, bad_on, nothing_is_un
 use Rattle.gw_trace.proofs.Contents.{over_records, by_beginning, contents_unfinished, contents_bad, contents_whole, after_frames}
 use Rattle.gw_trace.proofs.Contents.{captured_on, goes_on}
 
--- a slice from a place on
+-- a slice from an offset on
 pub rest_from : (at : ℕ) (xs : List ℕ) → take (length xs - at) (drop at xs) ≡ drop at xs
 rest_from at xs = take_all (length xs - at) (drop at xs) (rw (length-drop at xs) (omega arith))
 

@@ -9,7 +9,7 @@ use Rattle.gw_trace.specs.Wholes.{AreRecords}
 abbrev pub found : Scan → Contents
 found scan = record { frames = scan.whole; rest = scan.rest.now; fault = scan.fault }
 
--- the octets up to a place are whole records, so many
+-- the octets up to an offset are whole records, so many
 pub record IsFront (order : Endian) (octets : List ℕ) (front : Front) : Type 0 where
   pub within : front.end ≤ length octets
   pub whole : AreRecords order (take front.end octets)

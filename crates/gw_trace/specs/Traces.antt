@@ -22,7 +22,7 @@ abbrev pub number : Endian → ℕ → List ℕ → ℕ
 number Big count octets = big_number count octets
 number Little count octets = little_number count octets
 
--- the number in so many octets from a place on
+-- the number in so many octets from an offset on
 abbrev pub field : Endian → ℕ → ℕ → List ℕ → ℕ
 field order at count octets = number order count (take count (drop at octets))
 

@@ -2,10 +2,12 @@
 
 ghost use Rattle.std.specs.Prelude.{◌≡◌, ◌≤◌, ◌++◌, [], length, take};
 
+use crate::record::RECORD_HEADER;
+use gw_frame::RECORD_OCTETS;
 use std::marker::Model;
 
-/// The most octets of a header or a record that is not whole yet: a record of 16 octets behind its header.
-pub const MAX_PARTIAL: usize = 32;
+/// The most octets of a header or a record that is not whole yet: the longest record behind its header.
+pub const MAX_PARTIAL: usize = RECORD_HEADER + RECORD_OCTETS;
 
 /// The octets of a header or a record that is not whole yet, 32 at most.
 #[derive(Drop)]

@@ -7,7 +7,7 @@ ghost use Rattle.gw_trace.specs.Traces.{captured, captured_length, beginning};
 ghost use Rattle.gw_trace.specs.Wholes.{IsWithin};
 
 use crate::byte_order::Endian;
-use gw_frame::{Frame, FrameRefusal, RECORD_OCTETS};
+use gw_frame::{Frame, FrameRefusal, PAYLOAD_START, RECORD_OCTETS};
 
 /// How many octets the header of a record has.
 pub const RECORD_HEADER: usize = 16;
@@ -41,10 +41,10 @@ pub fn begins(order: Endian, octets: &[u8]) -> Beginning
         return Beginning::Unfinished;
     }
     let captured = captured_len(order, octets);
-    if captured < 8 {
+    if captured < PAYLOAD_START {
         return Beginning::Bad(FrameRefusal::TooShort { len: captured });
     }
-    if captured > 16 {
+    if captured > RECORD_OCTETS {
         return Beginning::Bad(FrameRefusal::TooLong { len: captured });
     }
     if octets.len() < RECORD_HEADER + captured {

@@ -1,7 +1,7 @@
 use Rattle.std.proofs.Common.{◌++◌, ◌∷◌, [], sym, ◌∙◌, ap, arith}
-use Rattle.gw_policy.specs.Batches.{Places, pairs_of, policy_at, policy_after}
+use Rattle.gw_policy.specs.Batches.{PortPolicies, pairs_of, policy_at, policy_after}
 use Rattle.gw_policy.proofs.PairLists.{handed_on, all_handed_on, nothing_more}
-use Rattle.gw_policy.proofs.PolicySets.{policy_after-put, sixteen_places, stands_after-more}
+use Rattle.gw_policy.proofs.PolicySets.{policy_after-put, sixteen_policies, stands_after-more}
 use Rattle.gw_policy.proofs.in_force.PolicySet.absorb.Goals as goal
 
 pub loop-pair-preserved-in-Some-pair : goal.loop-pair-preserved-in-Some-pair
@@ -37,12 +37,12 @@ returns-clause-absorbed c =
       front = omega (
         arith,
         c.saturating_add-self-inside.ensures,
-        ap (λ (set : Places). set.front) c.self.view_is,
+        ap (λ (set : PortPolicies). set.front) c.self.view_is,
         c.loop-pair.invariant.front,
       );
       policies =
-          sixteen_places c.self.inside.places (λ port. policy_after port c.args.batch.now (policy_at port old)) c.self.invariant
-          (λ port below.
+          sixteen_policies c.self.inside.policies (λ port. policy_after port c.args.batch.now (policy_at port old))
+          c.self.invariant (λ port below.
           ap (policy_at port) c.self.view_is ∙ c.loop-pair.invariant.policies port below
           ∙ ap (λ pairs. policy_after port pairs (policy_at port old)) whole);
     }

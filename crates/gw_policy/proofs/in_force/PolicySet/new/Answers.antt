@@ -1,13 +1,13 @@
 use Rattle.std.proofs.Common.{◌∙◌, rules, refl}
-use Rattle.gw_policy.proofs.PolicySets.{empty_places, none_in_force}
+use Rattle.gw_policy.proofs.PolicySets.{empty_policies, none_in_force}
 use Rattle.gw_policy.proofs.in_force.PolicySet.new.Goals as goal
 
 pub returns-clause-blocks : goal.returns-clause-blocks
-returns-clause-blocks c = empty_places c.default.result (λ i d within. search rules)
+returns-clause-blocks c = empty_policies c.default.result (λ i d within. search rules)
 
 pub returns-clause-start : goal.returns-clause-start
 returns-clause-start c = record {
   front = refl;
-  policies = λ port. empty_places c.default.result (λ i d within. search rules) port
+  policies = λ port. empty_policies c.default.result (λ i d within. search rules) port
       ∙ none_in_force port;
 }

@@ -4,10 +4,11 @@ use Rattle.gw_table.specs.declared.table.Part.TheVariants as part
 use Rattle.gw_table.proofs.NeverDecides.{decided_action}
 use Rattle.gw_table.proofs.table.Table.decides.Goals as goal
 
-pub returns-in-Some-first_place-clause-action : goal.returns-in-Some-first_place-clause-action
-returns-in-Some-first_place-clause-action c =
-    let decides : Decides c.args.self.now c.args.frame.now c.args.from (part.Rule c.in-Some-first_place.rule) = search rules in
-    decided_action c.args.self.now c.args.frame.now c.args.from (part.Rule c.in-Some-first_place.rule) decides
+pub returns-in-Some-first_holding_number-clause-action : goal.returns-in-Some-first_holding_number-clause-action
+returns-in-Some-first_holding_number-clause-action c =
+    let decider = part.Rule c.in-Some-first_holding_number.rule in
+    let decides : Decides c.args.self.now c.args.frame.now c.args.from decider = search rules in
+    decided_action c.args.self.now c.args.frame.now c.args.from decider decides
 
 pub returns-in-None-clause-action : goal.returns-in-None-clause-action
 returns-in-None-clause-action c =
