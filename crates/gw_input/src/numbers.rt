@@ -33,7 +33,7 @@ fn are_digits(word: &[u8]) -> bool
 }
 
 /// The number that at most ten digits spell.
-#[tactic(auto, using(crate::proofs::DecimalValues::decimal_small))]
+#[tactic(auto, using(gw_insn::proofs::Callers::decimal_small))]
 fn decimal_value(digits: &[u8]) -> u64
     requires few { length digits.now ≤ 10 }
     requires ascii { All IsAsciiDigit digits.now }

@@ -1,6 +1,7 @@
 pub mod Callers
 pub mod Examples
 pub mod Rows
+pub mod Encoded
 pub mod Numbers
 pub mod Items
 pub mod Listings

@@ -30,7 +30,7 @@ by_steps = record {
   more = λ n c cs h. ap (λ m. decimal_from m cs) (omega arith);
 }
 
-numerals : IsNumeralModel (All IsAsciiDigit) decimal
+pub numerals : IsNumeralModel (All IsAsciiDigit) decimal
 numerals = numerals_by_fold (All IsAsciiDigit) all_digits decimal_from by_steps
 
 -- ten digits or fewer fit

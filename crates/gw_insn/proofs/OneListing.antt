@@ -22,7 +22,7 @@ items_alone n (r ∷ code) (s ∷ whole) {front} {back} e a b same =
     (cc, others.1)
 
 -- behind the first items of a list stands its next one
-next_item : (n : ℕ) (code whole : List Raw) (text other middle back : List ℕ) → text ≡ other → length code < length whole
+pub next_item : (n : ℕ) (code whole : List Raw) (text other middle back : List ℕ) → text ≡ other → length code < length whole
     → length whole ≤ n → HasItems n text code middle → HasItems n other whole back
     → (r : Raw) × (rest : List ℕ) × HasItem (eqb n (length code + 1)) middle r rest
 next_item n [] [] text other middle back e longer within a b = absurd (omega arith)
@@ -36,7 +36,8 @@ next_item n (r ∷ code) (s ∷ whole) text other middle back e longer within a 
     let same : eqb (n - 1) (length code + 1) ≡ eqb n (length (r ∷ code) + 1) = grind (arith, nat_tests) in
     (next.0, next.1, subst (λ is_last. HasItem is_last middle next.0 next.1) same next.2)
 
-listing_alone : {text : List ℕ} {code whole : List Raw} → IsListing text code → IsListing text whole → code ≡ whole
+-- a text lists one code
+pub listing_alone : {text : List ℕ} {code whole : List Raw} → IsListing text code → IsListing text whole → code ≡ whole
 listing_alone {text} {code} {whole} a b =
     let same : (length code ≡ length whole) × (a.body ≡ b.body) = field_alone refl a.count b.count in
     (items_alone (length code) code whole same.1 a.items

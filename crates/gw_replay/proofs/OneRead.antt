@@ -18,7 +18,7 @@ use Rattle.gw_insn.specs.declared.reading.ListRefusal.{ListRefusal}
 use Rattle.gw_insn.specs.declared.reading.ListRefusal.TheVariants as list
 use Rattle.gw_insn.specs.Table.{insn_of}
 use Rattle.gw_insn.specs.Listing.{refusal_number}
-use Rattle.gw_insn.proofs.Callers.{only_memory}
+use Rattle.gw_insn.proofs.Callers.{listing_alone, only_memory}
 use Rattle.gw_verify.specs.declared.cause.Cause.{Cause}
 use Rattle.gw_verify.specs.declared.cause.Cause.TheVariants as cause
 use Rattle.gw_verify.specs.Cause.{cause_number}
@@ -27,7 +27,7 @@ use Rattle.gw_verify.specs.Accepted.{IsAccepted, IsRefusal}
 use Rattle.gw_table.specs.Table.{Meaning}
 use Rattle.gw_table.specs.TableText as text
 use Rattle.gw_table.specs.declared.table.Part.{Part}
-use Rattle.gw_table.specs.declared.refusal.Place.{Place}
+use Rattle.gw_table.specs.declared.refusal.KeyLocation.{KeyLocation}
 use Rattle.gw_table.specs.declared.refusal.ActionFault.{ActionFault}
 use Rattle.gw_table.specs.declared.refusal.Field.{Field}
 use Rattle.gw_table.specs.declared.refusal.RangeFault.{RangeFault}
@@ -45,7 +45,7 @@ use Rattle.gw_replay.specs.Policies.{IsProgramText, IsTableRead, IsTableHex}
 use Rattle.gw_input.specs.Records.{IsRecordText, record_number}
 use Rattle.gw_replay.specs.Telling.{TellsListing, TellsCode, TellsProgram, Found, judged, found_in, found_of, table_found}
 use Rattle.gw_replay.specs.Telling.{told_found, told_octets, table_told, spelled_record, record_told}
-use Rattle.gw_replay.proofs.OneListing.{listing_alone, list_refusal_alone}
+use Rattle.gw_replay.proofs.OneListing.{list_refusal_alone}
 
 -- code has one refusal at most
 abbrev pub OneRefusal : Type 0
@@ -129,7 +129,7 @@ program_tells listing _ h = absurd h
 -- tables
 
 -- a document with an unknown key is refused by it
-by_keys : (document : Members) (rules : List Data) (key : Place × List ℕ) → text.unknown_key document rules ≡ Some key
+by_keys : (document : Members) (rules : List Data) (key : KeyLocation × List ℕ) → text.unknown_key document rules ≡ Some key
     → found_in document (Some rules) ≡ Err (51, [])
 by_keys document rules key keys = λ i.
     judged (keys i) (text.bad_action document rules) (text.bad_range rules) (nat_le (length rules) 256)

@@ -1,10 +1,8 @@
 -- Each code is accepted, or has a first fault.
-use Rattle.std.proofs.Common.{ℕ, zero, suc, ◌≡◌, ◌+◌, ◌-◌, ◌<◌, ◌≤◌, ◌⊎◌, inl, inr, List, [], ◌∷◌, ◌++◌, length, map}
-use Rattle.std.proofs.Common.{Option, Some, None, refl, subst, sym, ap, ◌∙◌, arith}
-use Rattle.std.specs.Prelude.{All, slice_get, option_map}
+use Rattle.std.proofs.Common.{ℕ, zero, suc, ◌≡◌, ◌+◌, ◌-◌, ◌<◌, ◌≤◌, ◌⊎◌, inl, inr, List, [], ◌∷◌, length, map, Option, Some}
+use Rattle.std.proofs.Common.{None, refl, subst, sym, ap, ◌∙◌, arith}
+use Rattle.std.specs.Prelude.{slice_get, option_map}
 use Rattle.std.proofs.lemmas.Bool.{cases_lt, cases_eq}
-use Rattle.std.proofs.lemmas.List.Elements.{All-head, All-tail}
-use Rattle.std.proofs.lemmas.Option.{slice_get_within}
 use Rattle.gw_insn.specs.declared.insn.Raw.{Raw}
 use Rattle.gw_insn.specs.declared.insn.Insn.{Insn}
 use Rattle.gw_insn.specs.Form.{Form, Load, LoadScratch, Store, Alu, Jump, Branch, ReturnConstant, ReturnA, Word, Half, Byte}
@@ -12,15 +10,14 @@ use Rattle.gw_insn.specs.Form.{Constant, Register, Div, Mod, Lsh, Rsh, form}
 use Rattle.gw_insn.specs.Table.{insn_of}
 use Rattle.gw_verify.specs.declared.cause.Cause.{Cause}
 use Rattle.gw_verify.specs.declared.cause.Cause.TheVariants.{Empty, TooLong, UnknownCode, DivideByZero, ShiftTooFar, NoSuchWord}
-use Rattle.gw_verify.specs.declared.cause.Cause.TheVariants.{JumpOut, Ancillary, NoReturnAtEnd, UnsetWord, OutOfMemory}
-use Rattle.gw_verify.specs.Cause.{rank}
-use Rattle.gw_verify.specs.Flow.{Forms, forms_of, HasAt, LeadsTo, Walks, IsPath, Stores, Loads, StoresAt, PassesBy}
-use Rattle.gw_verify.specs.Flow.{IsBare}
-use Rattle.gw_verify.specs.FlowLaws.{leads_forward, bare_start, bare_on}
-use Rattle.gw_verify.specs.Accepted.{DividesByZero, ShiftsTooFar, NamesNoWord, JumpsOut, IsAncillary, IsNoReturn, IsFault}
-use Rattle.gw_verify.specs.Accepted.{IsAccepted, IsFirstFault}
-use Rattle.gw_verify.specs.OwnFault.{IsOwnFault, HasOwnFault}
+use Rattle.gw_verify.specs.declared.cause.Cause.TheVariants.{JumpOut, Ancillary, NoReturnAtEnd, UnsetWord}
+use Rattle.gw_verify.specs.Flow.{Forms, forms_of, HasAt, LeadsTo, Stores, Loads, PassesBy, IsBare}
+use Rattle.gw_verify.specs.Accepted.{DividesByZero, ShiftsTooFar, NamesNoWord, JumpsOut, IsAncillary, IsNoReturn, IsAccepted}
+use Rattle.gw_verify.specs.Accepted.{IsFirstFault}
+use Rattle.gw_verify.specs.OwnFault.{IsOwnFault, HasOwnFault, NoOwnFaultBelow, EndsInReturn}
 use Rattle.gw_verify.specs.UnsetLoad.{IsUnsetLoad}
+use Rattle.gw_verify.proofs.Callers.{bare_start, bare_on, bare_inside, Reached, at_start, from, reached_from_bare}
+use Rattle.gw_verify.proofs.Callers.{first_long, first_own, first_no_return, first_unset, accepted}
 use Rattle.gw_replay.proofs.SomeListing.{Decided, at_most, both, either}
 
 -- the least number below n of which a fact holds, or none
@@ -142,28 +139,9 @@ own_at forms i = found (slice_get forms i) refl
 
 -- bare places
 
--- a bare place is the first, or follows a bare place that does not store the word
+-- place j follows place i, which is bare of the word and does not store it
 abbrev Before : Forms → ℕ → ℕ → ℕ → Type 0
 Before forms word j i = IsBare forms i word × PassesBy forms word i j
-
-bare_from : (forms : Forms) (word j : ℕ) → IsBare forms j word
-    → ((j ≡ 0) × (0 < length forms)) ⊎ ((i : ℕ) × Before forms word j i)
-bare_from forms word j b = start b.to.earlier (subst (IsPath forms) b.to.ends b.to.path) b.to.unset
-  where
-    along : (i : ℕ) (is : List ℕ) → IsBare forms i word → Walks forms i (is ++ j ∷ [])
-        → All (λ k. ¬ StoresAt forms k word) (i ∷ is) → (k : ℕ) × Before forms word j k
-    along i [] bare walk unset =
-        (i, (bare, record { next = walk.0; unset = All-head (λ k. ¬ StoresAt forms k word) i [] unset }))
-    along i (k ∷ ks) bare walk unset =
-        along k ks
-        (bare_on forms word i k bare (All-head (λ k. ¬ StoresAt forms k word) i (k ∷ ks) unset) walk.0)
-        walk.1 (All-tail (λ k. ¬ StoresAt forms k word) i (k ∷ ks) unset)
-
-    start : (earlier : List ℕ) → IsPath forms (earlier ++ j ∷ []) → All (λ k. ¬ StoresAt forms k word) earlier
-        → ((j ≡ 0) × (0 < length forms)) ⊎ ((i : ℕ) × Before forms word j i)
-    start [] path unset = inl (path.0, path.1)
-    start (i ∷ is) path unset =
-        inr (along i is (subst (λ k. IsBare forms k word) (sym path.0) (bare_start forms word path.1)) path.2 unset)
 
 stores : (insn : Form) (word : ℕ) → Decided (Stores insn word)
 stores (Store register k) word = cases_eq k word
@@ -211,11 +189,11 @@ bare_next forms word n known =
     first_place : Decided ((n ≡ 0) × (0 < length forms)) → ((i : ℕ) → i < n → Before forms word n i → ⊥)
         → Decided (IsBare forms n word)
     first_place (inl h) none = inl (subst (λ k. IsBare forms k word) (sym h.0) (bare_start forms word h.1))
-    first_place (inr no_start) none = inr (λ b. from (bare_from forms word n b))
+    first_place (inr no_start) none = inr (λ b. comes b (reached_from_bare forms word n b))
       where
-        from : ((n ≡ 0) × (0 < length forms)) ⊎ ((i : ℕ) × Before forms word n i) → ⊥
-        from (inl h) = no_start h
-        from (inr h) = none h.0 (leads_forward h.1.1.next.insn h.0 n h.1.1.next.leads) h.1
+        comes : IsBare forms n word → Reached forms word n n → ⊥
+        comes b (at_start first) = no_start (first, omega (arith, bare_inside forms word n b))
+        comes b (from i less bare passes) = none i less (bare, passes)
 
     by : Least (Before forms word n) n ⊎ ((i : ℕ) → i < n → Before forms word n i → ⊥) → Decided (IsBare forms n word)
     by (inl found) = inl (bare_on forms word found.at n found.holds.0 found.holds.1.unset found.holds.1.next)
@@ -267,49 +245,6 @@ unset_at forms i = found (slice_get forms i) refl
 abbrev pub AcceptedOrNot : Forms → Type 0
 AcceptedOrNot forms = IsAccepted forms ⊎ ((cause : Cause) × (i : ℕ) × IsFirstFault forms cause i)
 
-own_fault_is : (forms : Forms) (cause : Cause) (i : ℕ) (found : Option Form)
-    → slice_get forms i ≡ Some found → IsOwnFault (length forms) i found cause → IsFault forms cause i × (rank cause ≡ 2)
-own_fault_is forms UnknownCode i None here w = (here, refl)
-own_fault_is forms DivideByZero i (Some insn) here w = (record { insn = insn; here = here; holds = w }, refl)
-own_fault_is forms ShiftTooFar i (Some insn) here w = (record { insn = insn; here = here; holds = w }, refl)
-own_fault_is forms NoSuchWord i (Some insn) here w = (record { insn = insn; here = here; holds = w }, refl)
-own_fault_is forms JumpOut i (Some insn) here w = (record { insn = insn; here = here; holds = w }, refl)
-own_fault_is forms Ancillary i (Some insn) here w = (record { insn = insn; here = here; holds = w }, refl)
-own_fault_is forms _ i None here w = absurd w
-own_fault_is forms _ i (Some insn) here w = absurd w
-
--- what a fault at a place is, in each rank
-data FaultKind (forms : Forms) (cause : Cause) (i : ℕ) : Type 0 where
-  no_code : forms ≡ [] → i ≡ 0 → rank cause ≡ 0 → FaultKind forms cause i
-  too_long : 4096 < length forms → i ≡ 4096 → rank cause ≡ 1 → FaultKind forms cause i
-  own : OwnAt forms i → rank cause ≡ 2 → FaultKind forms cause i
-  no_return : i + 1 ≡ length forms → (insn : Form) → HasAt forms i insn → IsNoReturn insn → rank cause ≡ 3
-      → FaultKind forms cause i
-  unset : UnsetAt forms i → rank cause ≡ 4 → FaultKind forms cause i
-
-kind_of : (forms : Forms) (cause : Cause) (i : ℕ) → IsFault forms cause i → FaultKind forms cause i
-kind_of forms Empty i f = no_code f.0 f.1 refl
-kind_of forms TooLong i f = too_long f.0 f.1 refl
-kind_of forms UnknownCode i f = own (UnknownCode, record { found = None; here = f; fault = tt }) refl
-kind_of forms DivideByZero i f = own (DivideByZero, record { found = Some f.insn; here = f.here; fault = f.holds }) refl
-kind_of forms ShiftTooFar i f = own (ShiftTooFar, record { found = Some f.insn; here = f.here; fault = f.holds }) refl
-kind_of forms NoSuchWord i f = own (NoSuchWord, record { found = Some f.insn; here = f.here; fault = f.holds }) refl
-kind_of forms JumpOut i f = own (JumpOut, record { found = Some f.insn; here = f.here; fault = f.holds }) refl
-kind_of forms Ancillary i f = own (Ancillary, record { found = Some f.insn; here = f.here; fault = f.holds }) refl
-kind_of forms NoReturnAtEnd i f = no_return f.0 f.1.insn f.1.here f.1.holds refl
-kind_of forms (UnsetWord word) i f = unset (word, record { load = f.0; bare = f.1 }) refl
-kind_of forms OutOfMemory i f = absurd f
-
--- a fault is the first where each other one has a higher rank, or its rank at a later place
-first_by : (forms : Forms) (cause : Cause) (i r : ℕ) → IsFault forms cause i → rank cause ≡ r
-    → ((other : Cause) (j : ℕ) → FaultKind forms other j → (r ≤ rank other) × (rank other ≡ r → i ≤ j))
-    → IsFirstFault forms cause i
-first_by forms cause i r fault is others = record {
-  fault = fault;
-  rank_least = λ other j f. let least_rank = (others other j (kind_of forms other j f)).0 in omega (arith, is, least_rank);
-  place_least = λ other j f same. (others other j (kind_of forms other j f)).1 (same ∙ is);
-}
-
 -- what an instruction at the end says, if it is known and no return
 abbrev EndsOpen : Forms → ℕ → Type 0
 EndsOpen forms last = (insn : Form) × HasAt forms last insn × IsNoReturn insn
@@ -328,109 +263,50 @@ ends_open forms last = found (slice_get forms last) refl
     found (Some (Some insn)) here = by insn here (returns_not insn)
 
 module _ (forms : Forms) (some : 0 < length forms) where
-  not_empty : forms ≡ [] → ⊥
-  not_empty is = omega (arith, some, ap length is)
-
-  long : 4096 < length forms → AcceptedOrNot forms
-  long many = inr (TooLong, 4096, first_by forms TooLong 4096 1 (many, refl) refl others)
-    where
-      others : (other : Cause) (j : ℕ) → FaultKind forms other j → (1 ≤ rank other) × (rank other ≡ 1 → 4096 ≤ j)
-      others other j (no_code e z r) = absurd (not_empty e)
-      others other j (too_long l e r) = (omega (arith, r), λ same. omega (arith, e))
-      others other j (own h r) = (omega (arith, r), λ same. absurd (omega (arith, r, same)))
-      others other j (no_return e insn here open' r) = (omega (arith, r), λ same. absurd (omega (arith, r, same)))
-      others other j (unset h r) = (omega (arith, r), λ same. absurd (omega (arith, r, same)))
-
   module _ (few : length forms ≤ 4096) where
     by_itself : Least (OwnAt forms) (length forms) → AcceptedOrNot forms
     by_itself found = inr (
       found.holds.0,
       found.at,
-      first_by forms found.holds.0 found.at 2 is.0 is.1 others,
+      first_own forms some few found.holds.0 found.at found.holds.1 (λ cause i less own. found.first i less (cause, own)),
     )
-      where
-        own_here : HasOwnFault forms found.holds.0 found.at
-        own_here = found.holds.1
 
-        is : IsFault forms found.holds.0 found.at × (rank found.holds.0 ≡ 2)
-        is = own_fault_is forms found.holds.0 found.at own_here.found own_here.here own_here.fault
-
-        others : (other : Cause) (j : ℕ) → FaultKind forms other j → (2 ≤ rank other) × (rank other ≡ 2 → found.at ≤ j)
-        others other j (no_code e z r) = absurd (not_empty e)
-        others other j (too_long l e r) = absurd (omega (arith, few, l))
-        others other j (own h r) = (
-          omega (arith, r),
-          λ same. elim (cases_lt j found.at) [ inl less ↦ absurd (found.first j less h) | inr le ↦ le ],
-        )
-        others other j (no_return e insn here open' r) = (omega (arith, r), λ same. absurd (omega (arith, r, same)))
-        others other j (unset h r) = (omega (arith, r), λ same. absurd (omega (arith, r, same)))
-
-    module _ (clean : (i : ℕ) → i < length forms → OwnAt forms i → ⊥) where
-      not_own : (j : ℕ) → OwnAt forms j → ⊥
-      not_own j h = clean j (slice_get_within forms j _ h.1.here) h
-
-      opens : (last : ℕ) → last + 1 ≡ length forms → EndsOpen forms last → AcceptedOrNot forms
-      opens last at h = inr (
+    module _ (clean : NoOwnFaultBelow forms (length forms)) (last : ℕ) (at : last + 1 ≡ length forms) where
+      opens : EndsOpen forms last → AcceptedOrNot forms
+      opens h = inr (
         NoReturnAtEnd,
         last,
-        first_by forms NoReturnAtEnd last 3 (at, record { insn = h.0; here = h.1; holds = h.2 }) refl others,
+        first_no_return forms some few clean last (at, record { insn = h.0; here = h.1; holds = h.2 }),
       )
-        where
-          others : (other : Cause) (j : ℕ) → FaultKind forms other j → (3 ≤ rank other) × (rank other ≡ 3 → last ≤ j)
-          others other j (no_code e z r) = absurd (not_empty e)
-          others other j (too_long l e r) = absurd (omega (arith, few, l))
-          others other j (own own' r) = absurd (not_own j own')
-          others other j (no_return e insn here open' r) = (omega (arith, r), λ same. omega (arith, e, at))
-          others other j (unset u r) = (omega (arith, r), λ same. absurd (omega (arith, r, same)))
 
-      module _ (last : ℕ) (at : last + 1 ≡ length forms) (closed : EndsOpen forms last → ⊥) where
-        not_open : (j : ℕ) → j + 1 ≡ length forms → (insn : Form) → HasAt forms j insn → IsNoReturn insn → ⊥
-        not_open j e insn here open' =
-            let same : j ≡ last = omega (arith, e, at) in
+      module _ (closed : EndsOpen forms last → ⊥) where
+        ends : EndsInReturn forms
+        ends i insn e here open' =
+            let same : i ≡ last = omega (arith, e, at) in
             closed (insn, subst (λ k. HasAt forms k insn) same here, open')
 
-        unsets : Least (UnsetAt forms) (length forms) → AcceptedOrNot forms
-        unsets found = inr (
+        by_load : Least (UnsetAt forms) (length forms) ⊎ ((i : ℕ) → i < length forms → UnsetAt forms i → ⊥)
+            → AcceptedOrNot forms
+        by_load (inl found) = inr (
           UnsetWord found.holds.0,
           found.at,
-          first_by forms (UnsetWord found.holds.0) found.at 4 (found.holds.1.load, found.holds.1.bare) refl others,
+          first_unset forms some few clean ends found.holds.0 found.at found.holds.1
+              (λ word i less load. found.first i less (word, load)),
         )
-          where
-            others : (other : Cause) (j : ℕ) → FaultKind forms other j → (4 ≤ rank other) × (rank other ≡ 4 → found.at ≤ j)
-            others other j (no_code e z r) = absurd (not_empty e)
-            others other j (too_long l e r) = absurd (omega (arith, few, l))
-            others other j (own own' r) = absurd (not_own j own')
-            others other j (no_return e insn here open' r) = absurd (not_open j e insn here open')
-            others other j (unset u r) = (
-              omega (arith, r),
-              λ same. elim (cases_lt j found.at) [ inl less ↦ absurd (found.first j less u) | inr le ↦ le ],
-            )
+        by_load (inr none) = inl (accepted forms some few clean ends (λ word i less load. none i less (word, load)))
 
-        accepts : ((i : ℕ) → i < length forms → UnsetAt forms i → ⊥) → AcceptedOrNot forms
-        accepts none = inl (λ cause i fault. never cause i (kind_of forms cause i fault))
-          where
-            never : (cause : Cause) (i : ℕ) → FaultKind forms cause i → ⊥
-            never cause i (no_code e z r) = not_empty e
-            never cause i (too_long l e r) = omega (arith, few, l)
-            never cause i (own own' r) = not_own i own'
-            never cause i (no_return e insn here open' r) = not_open i e insn here open'
-            never cause i (unset u r) = none i (slice_get_within forms i _ u.1.load.here) u
-
-  by_loads : (few : length forms ≤ 4096) → (clean : (i : ℕ) → i < length forms → OwnAt forms i → ⊥)
-      → (last : ℕ) → last + 1 ≡ length forms → Decided (EndsOpen forms last) → AcceptedOrNot forms
-  by_loads few clean last at (inl open') = opens few clean last at open'
-  by_loads few clean last at (inr closed) =
-      elim (least (UnsetAt forms) (length forms) (λ i less. unset_at forms i)) [
-        | inl found ↦ unsets few clean last at closed found
-        | inr none ↦ accepts few clean last at closed none
-      ]
+      by_end : Decided (EndsOpen forms last) → AcceptedOrNot forms
+      by_end (inl open') = opens open'
+      by_end (inr closed) = by_load closed (least (UnsetAt forms) (length forms) (λ i less. unset_at forms i))
 
   by_length : (4096 < length forms) ⊎ (length forms ≤ 4096) → AcceptedOrNot forms
-  by_length (inl many) = long many
+  by_length (inl many) = inr (TooLong, 4096, first_long forms many)
   by_length (inr few) =
       elim (least (OwnAt forms) (length forms) (λ i less. own_at forms i)) [
         | inl found ↦ by_itself few found
-        | inr clean ↦ by_loads few clean (length forms - 1) (omega (arith, some)) (ends_open forms (length forms - 1))
+        | inr clean ↦
+            let last = length forms - 1 in
+            by_end few (λ cause i less own. clean i less (cause, own)) last (omega (arith, some)) (ends_open forms last)
       ]
 
 -- code is accepted, or this is its first fault

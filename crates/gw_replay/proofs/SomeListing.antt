@@ -1,17 +1,19 @@
 -- Each text is a listing, or meets a refusal other than want of memory.
 use Rattle.std.proofs.Common.{ℕ, zero, suc, ◌≡◌, ◌≢◌, ◌+◌, ◌-◌, ◌<◌, ◌≤◌, ◌⊎◌, inl, inr, Bool, true, false, eqb, List, []}
-use Rattle.std.proofs.Common.{◌∷◌, ◌++◌, length, refl, subst, sym, ap, ◌∙◌, arith}
+use Rattle.std.proofs.Common.{◌∷◌, ◌++◌, length, take, drop, refl, subst, sym, ap, arith}
 use Rattle.std.specs.Prelude.{All}
-use Rattle.std.specs.Char.{IsAsciiDigit}
-use Rattle.std.proofs.lemmas.Bool.{cases_lt, cases_eq, false≢true}
+use Rattle.std.specs.Char.{IsAsciiDigit, is_ascii_digit}
+use Rattle.std.specs.List.{prefix_len}
+use Rattle.std.proofs.lemmas.Bool.{cases_lt, cases_eq}
 use Rattle.std.proofs.lemmas.Bool.Decides.{nat_tests}
+use Rattle.std.proofs.lemmas.List.{take-append-drop}
 use Rattle.std.proofs.lemmas.List.Elements.{All-nil, All-cons, All-head, All-tail}
 use Rattle.gw_insn.specs.declared.insn.Raw.{Raw}
 use Rattle.gw_insn.specs.declared.reading.ListRefusal.{ListRefusal}
 use Rattle.gw_insn.specs.declared.reading.ListRefusal.TheVariants.{BadCount, BadField, Trailing, OutOfMemory}
 use Rattle.gw_insn.specs.Listing.{comma, space, decimal, IsWhite, StartsWithDigit, StartsWithComma, IsNumber, HasNumber}
-use Rattle.gw_insn.specs.Listing.{HasInstruction, HasComma, HasItem, HasItems, HasCount, IsListing, IsListRefusal}
-use Rattle.gw_insn.proofs.Callers.{field_alone}
+use Rattle.gw_insn.specs.Listing.{HasInstruction, HasItem, HasItems, HasCount, IsListing, IsListRefusal}
+use Rattle.gw_insn.proofs.Callers.{digits_passed, digits_end, number_at, number_alone, lacks_jt, lacks_jf, lacks_k, lacks_comma}
 
 -- a fact holds or does not
 abbrev pub Decided : Type 0 → Type 0
@@ -47,9 +49,6 @@ all_or_not P known (x ∷ xs) = go (known x) (all_or_not P known xs)
 white_or_not : (c : ℕ) → Decided (IsWhite c)
 white_or_not c = either (cases_eq c 32) (either (cases_eq c 9) (either (cases_eq c 10) (cases_eq c 13)))
 
-digit_or_not : (c : ℕ) → Decided (IsAsciiDigit c)
-digit_or_not c = both (at_most 48 c) (at_most c 57)
-
 -- the digits at the front of a text
 record Digits (text : List ℕ) : Type 0 where
   pub digits : List ℕ
@@ -59,33 +58,13 @@ record Digits (text : List ℕ) : Type 0 where
   pub ends : StartsWithDigit after → ⊥
 
 digits_of : (text : List ℕ) → Digits text
-digits_of [] = record { digits = []; after = []; spelled = refl; ascii = All-nil IsAsciiDigit; ends = λ h. h }
-digits_of (c ∷ cs) = go (digit_or_not c) (digits_of cs)
-  where
-    go : Decided (IsAsciiDigit c) → Digits cs → Digits (c ∷ cs)
-    go (inl digit) rest = record {
-      digits = c ∷ rest.digits;
-      after = rest.after;
-      spelled = ap (λ (t : List ℕ). c ∷ t) rest.spelled;
-      ascii = All-cons IsAsciiDigit c rest.digits digit rest.ascii;
-      ends = rest.ends;
-    }
-    go (inr other) rest = record { digits = []; after = c ∷ cs; spelled = refl; ascii = All-nil IsAsciiDigit; ends = other }
-
--- where they end is determined
-same_digits : (xs ys front back : List ℕ) → xs ++ front ≡ ys ++ back → All IsAsciiDigit xs → All IsAsciiDigit ys
-    → (StartsWithDigit front → ⊥) → (StartsWithDigit back → ⊥) → (xs ≡ ys) × (front ≡ back)
-same_digits [] [] front back e xs_are ys_are front_ends back_ends = (refl, e)
-same_digits [] (y ∷ ys) front back e xs_are ys_are front_ends back_ends =
-    absurd (front_ends (subst StartsWithDigit (sym e) (All-head IsAsciiDigit y ys ys_are)))
-same_digits (x ∷ xs) [] front back e xs_are ys_are front_ends back_ends =
-    absurd (back_ends (subst StartsWithDigit e (All-head IsAsciiDigit x xs xs_are)))
-same_digits (x ∷ xs) (y ∷ ys) front back e xs_are ys_are front_ends back_ends =
-    let tails : xs ++ front ≡ ys ++ back = cc in
-    let same : (xs ≡ ys) × (front ≡ back) =
-    same_digits xs ys front back tails (All-tail IsAsciiDigit x xs xs_are)
-    (All-tail IsAsciiDigit y ys ys_are) front_ends back_ends in
-    (cc, same.1)
+digits_of text = record {
+  digits = take (prefix_len is_ascii_digit text) text;
+  after = drop (prefix_len is_ascii_digit text) text;
+  spelled = sym (take-append-drop (prefix_len is_ascii_digit text) text);
+  ascii = digits_passed text;
+  ends = digits_end text;
+}
 
 -- something stands at the front of a text with a rest behind it, or nothing does
 abbrev Front : {A : Type 0} → (A → List ℕ → Type 0) → Type 0
@@ -110,21 +89,12 @@ number_front most text =
       },
     )
     go (inr none) = inr (λ n rest h.
-        let same : d.digits ≡ h.digits =
-        (same_digits d.digits h.digits d.after rest (sym d.spelled ∙ h.spelled) d.ascii h.number.ascii d.ends h.ends).0 in
-        let number : IsNumber most d.digits n = subst (λ ds. IsNumber most ds n) (sym same) h.number in
+        let number : IsNumber most d.digits n =
+        number_at text d.digits d.after d.spelled d.ascii d.ends most n rest h in
         let some = number.some in
         let value = number.value in
         let fits = number.fits in
         none (omega (arith, some), (number.few, omega (arith, value, fits))))
-
--- a text begins with one number
-number_alone : {least most m n : ℕ} {text other front back : List ℕ} → text ≡ other → HasNumber least text m front
-    → HasNumber most other n back → (m ≡ n) × (front ≡ back)
-number_alone {front} {back} e a b =
-    let same : (a.digits ≡ b.digits) × (front ≡ back) =
-    same_digits a.digits b.digits front back (sym a.spelled ∙ e ∙ b.spelled) a.number.ascii b.number.ascii a.ends b.ends in
-    (sym a.number.value ∙ ap decimal same.0 ∙ b.number.value, same.1)
 
 -- the same of a number with a mark behind it
 field_front : (most mark : ℕ) (text : List ℕ) → Front (λ n rest. HasNumber most text n (mark ∷ rest))
@@ -154,41 +124,24 @@ instruction_front text = behind_text (field_front 65535 space text)
       k.1,
       record { after_code = after_code; after_jt = after_jt; after_jf = after_jf; code = a; jt = b; jf = c; k = k.2 },
     )
-    behind_jf code jt jf after_code after_jt after_jf a b c (inr none) = inr (λ r rest h.
-        let same_code = field_alone refl a h.code in
-        let same_jt = field_alone same_code.1 b h.jt in
-        let same_jf = field_alone same_jt.1 c h.jf in
-        none r.k rest (subst (λ t. HasNumber 4294967295 t r.k rest) (sym same_jf.1) h.k))
+    behind_jf code jt jf after_code after_jt after_jf a b c (inr none) = inr (lacks_k a b c none)
 
     behind_jt : (code jt : ℕ) (after_code after_jt : List ℕ) → HasNumber 65535 text code (space ∷ after_code)
         → HasNumber 255 after_code jt (space ∷ after_jt) → Front (λ n rest. HasNumber 255 after_jt n (space ∷ rest))
         → Front (HasInstruction text)
     behind_jt code jt after_code after_jt a b (inl jf) =
         behind_jf code jt jf.0 after_code after_jt jf.1 a b jf.2 (number_front 4294967295 jf.1)
-    behind_jt code jt after_code after_jt a b (inr none) = inr (λ r rest h.
-        let same_code = field_alone refl a h.code in
-        let same_jt = field_alone same_code.1 b h.jt in
-        none r.jf h.after_jf (subst (λ t. HasNumber 255 t r.jf (space ∷ h.after_jf)) (sym same_jt.1) h.jf))
+    behind_jt code jt after_code after_jt a b (inr none) = inr (lacks_jf a b none)
 
     behind_code : (code : ℕ) (after_code : List ℕ) → HasNumber 65535 text code (space ∷ after_code)
         → Front (λ n rest. HasNumber 255 after_code n (space ∷ rest)) → Front (HasInstruction text)
     behind_code code after_code a (inl jt) =
         behind_jt code jt.0 after_code jt.1 a jt.2 (field_front 255 space jt.1)
-    behind_code code after_code a (inr none) = inr (λ r rest h.
-        let same_code = field_alone refl a h.code in
-        none r.jt h.after_jt (subst (λ t. HasNumber 255 t r.jt (space ∷ h.after_jt)) (sym same_code.1) h.jt))
+    behind_code code after_code a (inr none) = inr (lacks_jt a none)
 
     behind_text : Front (λ n rest. HasNumber 65535 text n (space ∷ rest)) → Front (HasInstruction text)
     behind_text (inl code) = behind_code code.0 code.1 code.2 (field_front 255 space code.1)
     behind_text (inr none) = inr (λ r rest h. none r.code h.after_code h.code)
-
--- where an instruction ends is determined
-end_alone : {text front back : List ℕ} {r s : Raw} → HasInstruction text r front → HasInstruction text s back → front ≡ back
-end_alone a b =
-    let code = field_alone refl a.code b.code in
-    let jt = field_alone code.1 a.jt b.jt in
-    let jf = field_alone jt.1 a.jf b.jf in
-    (number_alone jf.1 a.k b.k).1
 
 -- an item stands there, or none does
 item_front : (is_last : Bool) (text : List ℕ) → Front (HasItem is_last text)
@@ -205,11 +158,7 @@ item_front is_last text = go (instruction_front text)
         starts : (end : List ℕ) → ((rest : List ℕ) → end ≡ comma ∷ rest → ⊥) → StartsWithComma end → ⊥
         starts [] none is = is
         starts (c ∷ cs) none is = none cs (ap (λ d. d ∷ cs) is)
-    open_end false r end h none = inr (λ s rest item. no_item s rest item.end item.instruction item.closed)
-      where
-        no_item : (s : Raw) (rest other : List ℕ) → HasInstruction text s other → HasComma false other rest → ⊥
-        no_item s rest other k (inl closed) = none rest (end_alone h k ∙ closed)
-        no_item s rest other k (inr open') = false≢true open'.0
+    open_end false r end h none = inr (lacks_comma refl h none)
 
     ended : (r : Raw) (end : List ℕ) → HasInstruction text r end → Front (HasItem is_last text)
     ended r [] h = open_end is_last r [] h (λ rest e. cc)

@@ -22,7 +22,7 @@ use Rattle.gw_table.specs.Table.{Meaning}
 use Rattle.gw_table.specs.TableText.{written_rules, unknown_key, bad_action, bad_range, meaning_in}
 use Rattle.gw_table.specs.Emission.{emission}
 use Rattle.gw_table.specs.declared.table.Part.{Part}
-use Rattle.gw_table.specs.declared.refusal.Place.{Place}
+use Rattle.gw_table.specs.declared.refusal.KeyLocation.{KeyLocation}
 use Rattle.gw_table.specs.declared.refusal.ActionFault.{ActionFault}
 use Rattle.gw_table.specs.declared.refusal.Field.{Field}
 use Rattle.gw_table.specs.declared.refusal.RangeFault.{RangeFault}
@@ -61,7 +61,7 @@ abbrev pub Found : Type 0
 Found = Result Meaning (ℕ × List ℕ)
 
 -- by what is wrong with a document, the first first: its keys, its actions, its ranges, and too many rules
-abbrev pub judged : Option (Place × List ℕ) → Option (Part × ActionFault) → Option (ℕ × (Field × RangeFault)) → Bool → Meaning
+abbrev pub judged : Option (KeyLocation × List ℕ) → Option (Part × ActionFault) → Option (ℕ × (Field × RangeFault)) → Bool → Meaning
     → Found
 judged (Some key) action range few meaning = Err (51, [])
 judged None (Some action) range few meaning = Err (52, [])

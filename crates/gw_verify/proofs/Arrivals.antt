@@ -9,7 +9,7 @@ use Rattle.gw_verify.specs.declared.arrival.Arrival.{Arrival}
 use Rattle.gw_verify.specs.declared.arrival.Arrival.TheVariants.{Never, Start, From}
 use Rattle.gw_verify.specs.Arrivals.{IsArrival, AreArrivals, ComeFromBefore, with_arrival_from}
 use Rattle.gw_verify.specs.Flow.{Forms, HasAt, LeadsTo, Stores, PassesBy, IsBare, IsBarePathTo}
-use Rattle.gw_verify.specs.FlowLaws.{bare_start, bare_on, bare_path_start, bare_path_on}
+use Rattle.gw_verify.proofs.FlowLaws.{bare_start, bare_on, bare_path_start, bare_path_on}
 use Rattle.gw_verify.specs.Next.{next_of, at_next}
 use Rattle.gw_verify.proofs.Bare.{Reached, reached_more, reached_cases, reached_from_bare, next_forward, bare_inside, step}
 use Rattle.gw_verify.proofs.Bare.{step_leads}

@@ -6,7 +6,7 @@ use Rattle.std.proofs.lemmas.Bool.{cases_eq}
 use Rattle.std.proofs.lemmas.List.Elements.{All-head, All-tail}
 use Rattle.gw_insn.specs.Form.{Form}
 use Rattle.gw_verify.specs.Flow.{Forms, HasAt, LeadsTo, IsNext, Walks, IsPath, Stores, StoresAt, PassesBy, IsBare}
-use Rattle.gw_verify.specs.FlowLaws.{leads_forward, bare_start, bare_on}
+use Rattle.gw_verify.proofs.FlowLaws.{leads_forward, bare_start, bare_on}
 use Rattle.gw_verify.proofs.Decoding.{one_form, no_form}
 
 -- each next place is a later one

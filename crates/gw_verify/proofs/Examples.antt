@@ -6,7 +6,7 @@ use Rattle.gw_verify.specs.declared.cause.Cause.TheVariants.{UnsetWord, UnknownC
 use Rattle.gw_verify.specs.Accepted.{IsFault, IsAncillary}
 use Rattle.gw_verify.specs.Cause.{cause_number}
 use Rattle.gw_verify.specs.Flow.{Forms, forms_of, PassesBy, IsBare, IsBarePathTo}
-use Rattle.gw_verify.specs.FlowLaws.{bare_path_start, bare_path_on}
+use Rattle.gw_verify.proofs.FlowLaws.{bare_path_start, bare_path_on}
 use Rattle.gw_verify.proofs.Bare.{Reached, at_start, from, reached_from_bare, step, step_leads}
 
 -- `jeq #0, L1, L2` / `L1: st M[3]` / `L2: ld M[3]` / `ret a`

@@ -104,6 +104,10 @@ module _ (forms : Forms) where
   has_some : 0 < length forms → NoFaultBelow forms 1
   has_some some = no_fault_more forms 0 (λ other j k. omega (arith, k.1)) (λ other j f. omega arith)
 
+  -- too many instructions, which no empty code has
+  pub first_long : 4096 < length forms → IsFirstFault forms TooLong 4096
+  first_long many = first forms TooLong 4096 1 refl (many, refl) (has_some (omega arith)) (λ other j k. omega (arith, k.2))
+
   module _ (some : 0 < length forms) (short : length forms ≤ 4096) where
     -- The checks in their order: each leaves one rank less, and the first fault of a rank is the first of all.
     is_short : NoFaultBelow forms 2

@@ -1,4 +1,6 @@
+pub mod Callers
 pub mod Decoding
+pub mod FlowLaws
 pub mod Bare
 pub mod Masks
 pub mod Arrivals

@@ -11,7 +11,7 @@ use Rattle.gw_verify.specs.Accepted.{At}
 use Rattle.gw_verify.specs.Flow.{Forms, HasAt, LeadsTo, Loads, IsBare}
 use Rattle.gw_verify.specs.Next.{next_of, at_next}
 use Rattle.gw_verify.specs.Orderly.{IsOrderly, NamesWord, StaysBelow}
-use Rattle.gw_verify.specs.FlowLaws.{leads_below}
+use Rattle.gw_verify.proofs.FlowLaws.{leads_below}
 use Rattle.gw_verify.specs.UnsetLoad.{marked, IsLeft, IsUnsetLoad, NoUnsetLoadBelow}
 use Rattle.gw_verify.proofs.Bare.{Reached, at_start, from, reached_more, reached_cases, bare_from_reached, reached_from_bare}
 use Rattle.gw_verify.proofs.Bare.{step, step_leads, step_unset, no_step}

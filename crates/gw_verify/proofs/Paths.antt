@@ -4,7 +4,7 @@ use Rattle.std.proofs.lemmas.List.{take_more, get_or_append_left, length_push, s
 use Rattle.gw_verify.specs.declared.cause.Cause.TheVariants.{UnsetWord}
 use Rattle.gw_verify.specs.Accepted.{IsAccepted, At, EndsAtLoad}
 use Rattle.gw_verify.specs.Flow.{Forms, IsNext, Walks, IsPath, Loads, PassesBy, IsBarePath, IsBarePathTo}
-use Rattle.gw_verify.specs.FlowLaws.{bare_path_on}
+use Rattle.gw_verify.proofs.FlowLaws.{bare_path_on}
 
 -- the first n places of the list are a bare path
 abbrev pub IsFront : Forms → ℕ → List ℕ → ℕ → Type 0

@@ -4,9 +4,8 @@ pub mod Flow
 pub mod Accepted
 pub mod Orderly
 pub mod Explanation
--- inside: how the passes over the code find faults and paths, and lemmas that gw_machine's proofs share
+-- inside: how the passes over the code find faults and paths
 pub mod Next
 pub mod OwnFault
 pub mod UnsetLoad
 pub mod Arrivals
-pub mod FlowLaws

@@ -15,7 +15,7 @@ use std::fmt;
 use std::fmt::{Display, Formatter};
 
 /// A list of places of a code, each an instruction counted from 0.
-#[derive(Drop, Debug, PartialEq, Eq)]
+#[derive(Drop, Debug)]
 pub struct Path {
     /// The places, the first place of the code first.
     pub places: Vec<u32>,

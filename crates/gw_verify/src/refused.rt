@@ -5,14 +5,14 @@ ghost use Rattle.gw_verify.specs.Accepted.{IsRefusal};
 
 use crate::cause::Cause;
 use crate::path::{Path, explain};
-use gw_insn::{INTERFACE, MAX_INSNS, Raw, SCRATCH_WORDS};
+use gw_insn::{MAX_INSNS, Raw};
 use std::alloc::{AllocError, Global};
 use std::error::Error;
 use std::fmt;
 use std::fmt::{Display, Formatter};
 
 /// A refusal, with the code that it hands back. The type keeps that the refusal is the code's.
-#[derive(Drop, Debug, PartialEq, Eq)]
+#[derive(Drop, Debug)]
 pub struct Refused {
     /// What is wrong.
     pub why: Cause,
@@ -42,60 +42,57 @@ impl Display for Refused {
     fn fmt<W: fmt::Write>(&self, f: &mut Formatter<W>) -> fmt::Result {
         let place = self.place;
         let len = self.code.len();
-        match self.why {
-            Cause::Empty => f.write_str(
-                "the code has no instructions, and at least a return is needed",
-            ),
-            Cause::TooLong => write!(
-                f,
-                "the code has {len} instructions, and at most {MAX_INSNS} are accepted"
-            ),
-            Cause::UnknownCode => {
-                let code = self.code[place].code;
-                write!(
+        // What stands before and behind the number of a cause. One `write!` serves them all, since the prover pays for each.
+        let (before, number, behind) = match self.why {
+            Cause::Empty => {
+                return f.write_str("the code has no instructions, and at least a return is needed");
+            }
+            Cause::TooLong => {
+                return write!(
                     f,
-                    "instruction {place} has the code {code}, which is none of the 49 of classic BPF"
+                    "the code has {len} instructions, and at most {MAX_INSNS} are accepted"
+                );
+            }
+            Cause::UnknownCode => {
+                let code = u64::from(self.code[place].code);
+                (
+                    " has the code ",
+                    code,
+                    ", which is none of the 49 of classic BPF",
                 )
             }
-            Cause::DivideByZero => write!(f, "instruction {place} divides by the constant 0"),
+            Cause::DivideByZero => (" divides by the constant ", 0, ""),
             Cause::ShiftTooFar => {
-                let k = self.code[place].k;
-                write!(
-                    f,
-                    "instruction {place} shifts by {k}, and at most 31 is meant"
-                )
+                let k = u64::from(self.code[place].k);
+                (" shifts by ", k, ", and at most 31 is meant")
             }
             Cause::NoSuchWord => {
-                let k = self.code[place].k;
-                write!(
-                    f,
-                    "instruction {place} names M[{k}], and the words are M[0] to M[{}]",
-                    SCRATCH_WORDS - 1
-                )
+                let k = u64::from(self.code[place].k);
+                (" names M[", k, "], and the words are M[0] to M[15]")
             }
-            Cause::JumpOut => write!(
-                f,
-                "instruction {place} jumps out of the code, which has {len} instructions"
+            Cause::JumpOut => (
+                " jumps out of the code, which has ",
+                len as u64,
+                " instructions",
             ),
             Cause::Ancillary => {
-                let k = self.code[place].k;
-                write!(
-                    f,
-                    "instruction {place} loads from {k}, an extension of Linux that is not `ld ifidx` (`32 0 0 {INTERFACE}`)"
-                )
+                let k = u64::from(self.code[place].k);
+                let behind = ", an extension of Linux that is not `ld ifidx` (`32 0 0 4294963208`)";
+                (" loads from ", k, behind)
             }
-            Cause::NoReturnAtEnd => write!(
-                f,
-                "instruction {place}, the last, is no return, as `6 0 0 1` is"
-            ),
+            Cause::NoReturnAtEnd => {
+                return write!(
+                    f,
+                    "instruction {place}, the last, is no return, as `6 0 0 1` is"
+                );
+            }
             Cause::UnsetWord { word } => {
-                write!(
-                    f,
-                    "instruction {place} loads M[{word}], which a path to it leaves unset"
-                )
+                let word = u64::from(word);
+                (" loads M[", word, "], which a path to it leaves unset")
             }
-            Cause::OutOfMemory => f.write_str("memory was refused for the program"),
-        }
+            Cause::OutOfMemory => return f.write_str("memory was refused for the program"),
+        };
+        write!(f, "instruction {place}{before}{number}{behind}")
     }
 }
 

@@ -1,4 +1,4 @@
--- What follows of where instructions lead, for the proofs of gw_machine too: another crate's proofs can cite specs/ alone.
+-- What follows of where instructions lead.
 use Rattle.std.specs.Prelude.{ℕ, ◌≡◌, ◌+◌, ◌<◌, ◌≤◌, List, [], ◌∷◌, ◌++◌, All, length}
 use Rattle.std.proofs.Common.{inl, inr, refl, subst, sym, add-one}
 use Rattle.std.proofs.Math.Nat.{le-add_right, le_refl}
