@@ -3,3 +3,4 @@ pub mod Prefixes
 pub mod Adding
 pub mod InForce
 pub mod Shelves
+pub mod Visits

@@ -1,7 +1,10 @@
--- The rule of a board's list of batches, and what its steps tell. What `logbook` calls a log is the list, oldest first.
+-- The rules of a board: of its list of batches, and of the number that `left_right` shows. What `logbook` calls a log is the
+-- list, oldest first.
 use Rattle.std.specs.Prelude.{ℕ, ◌≡◌, ◌==◌, ◌≤◌, true, List, [], ◌∷◌, ◌++◌, length, MatchBool}
+use Rattle.std.specs.List.{All}
 use Rattle.logbook.specs.Pages.{Cell, Step, View, Book, Named}
 use Rattle.gw_policy.specs.Batches.{Pair}
+use Rattle.gw_board.specs.declared.count.Visits.{Visits}
 
 -- the first word is the list's length. A book has two words, of which this one leaves the second at 0
 abbrev pub IsLengthKept : List Cell → List (List Pair) → Type 0
@@ -14,3 +17,7 @@ head_of b = record { tracked = true; key = 0; book = b }
 abbrev pub AddsBatch : Step (List Pair) → View (List Pair) ℕ → ℕ → View (List Pair) ℕ → Type 0
 AddsBatch s before found after =
     MatchBool (found == s.old) (after.0 ≡ before.0 ++ s.ask ∷ []) (length after.0 ≡ found) × (length after.0 ≤ 65535)
+
+-- no end found a greater number
+abbrev pub FoundBelow : ℕ → List Visits → Type 0
+FoundBelow shown ends = All (λ visits. visits.found ≤ shown) ends

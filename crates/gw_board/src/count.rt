@@ -1,9 +1,11 @@
 //! How many batches are published: the number that `left_right` shows to the watches.
 
-ghost use Rattle.std.specs.Prelude.{◌≡◌, ◌^◌, ◌<◌, [], ◌∷◌, ◌++◌, fold, IfOk, MatchResult};
+ghost use Rattle.std.specs.Prelude.{◌≡◌, ◌^◌, ◌<◌, [], ◌∷◌, ◌++◌, drop, fold, max, IfOk, IsOk, MatchResult};
+ghost use Rattle.gw_board.specs.Ends.{no_visits, Finds};
+ghost use Rattle.gw_board.specs.Rules.{FoundBelow};
 
 use core::mem::replace_with;
-use crossbeam_utils::rule::Unruled;
+use crossbeam_utils::rule::{Outcome, Protocol};
 use left_right::Absorb;
 use left_right::reader::Reader;
 use left_right::writer::Writer;
@@ -12,7 +14,7 @@ use std::marker::Model;
 use std::mem::ManuallyDrop;
 use std::sync::Wait;
 
-/// How many batches are published. An operation is the next such number.
+/// How many batches are published. An operation is the next such number, and it never falls.
 #[derive(Clone, Copy)]
 pub struct Count(pub u64);
 
@@ -21,22 +23,84 @@ impl Absorb<u64> for Count {
 
     ghost state = { λ c. c.0 };
 
-    ghost applied = { λ _ next. next };
+    ghost applied = { max };
 
     ghost never_fails = { Unit {0} };
 
     fn absorb_first(&mut self, operation: &u64, _other: &Count) -> Result<(), AllocError> {
-        self.0 = *operation;
+        self.0 = self.0.max(*operation);
         Ok(())
     }
 }
 
-/// A watch's end, which never waits.
-pub type CountReader = Reader<Count, (), Unruled>;
+/// How often an end entered, and the number that it found the last time. No value of it is made.
+pub struct Visits {
+    pub entered: u64,
+    pub found: u64,
+}
+
+/// The rule that `left_right` keeps: no end found a greater number than the one that is shown.
+pub struct NeverFalls;
+
+impl Protocol<Count, Visits> for NeverFalls {
+    ghost use Rattle.gw_board.specs.Ends.{no_visits};
+    ghost use Rattle.gw_board.specs.Rules.{FoundBelow};
+
+    ghost holds = { λ count. FoundBelow count.0 };
+
+    ghost first = { no_visits };
+}
+
+// What the step tells by which a watch enters.
+struct Entering;
+
+impl Outcome<Count, Visits> for Entering {
+    ghost use Rattle.gw_board.specs.Ends.{Finds};
+
+    ghost then = { λ before count _ after. Finds count.0 before after };
+}
+
+// The step by which the operator shows the next number tells nothing.
+struct ShowingNext;
+
+impl Outcome<Count, Visits> for ShowingNext {
+    ghost then = { λ _ _ _ _. Unit {0} };
+}
+
+/// A watch's end, which never waits. Contracts see it as `Visits`.
+#[derive(Drop)]
+pub struct CountReader {
+    reader: Reader<Count, Visits, NeverFalls>,
+}
+
+impl Model for CountReader {
+    ghost use Rattle.left_right.specs.Sides.{view as view_of};
+    ghost use Rattle.gw_board.specs.declared.count.Visits.{Visits};
+
+    ghost Value = { Visits };
+
+    ghost view = { λ r. view_of r.reader.place };
+}
+
+impl CountReader {
+    /// Enters, takes the number that is shown at that step, and leaves. The reader comes back where the operator is at its end.
+    pub fn enter(self) -> Result<(CountReader, u64), CountReader>
+        ensures { MatchResult result (λ entered. Finds entered.1 self entered.0) (λ back. back ≡ self) }
+    {
+        match self.reader.enter_as::<Entering>() {
+            Ok(reading) => {
+                let count = reading.get().0;
+                let reader = reading.leave();
+                Ok((CountReader { reader }, count))
+            }
+            Err(reader) => Err(CountReader { reader }),
+        }
+    }
+}
 
 /// The operator's end. Contracts see it as `Showing`.
 pub struct CountWriter {
-    writer: Writer<Count, u64, (), Unruled>,
+    writer: Writer<Count, u64, Visits, NeverFalls>,
 }
 
 impl Model for CountWriter {
@@ -60,8 +124,12 @@ impl CountWriter {
         Ok(CountWriter { writer })
     }
 
-    pub fn reader(&self) -> Result<CountReader, AllocError> {
-        self.writer.factory().reader()
+    /// A reader that never entered.
+    pub fn reader(&self) -> Result<CountReader, AllocError>
+        ensures { IfOk result (λ reader. reader ≡ no_visits) }
+    {
+        let reader = self.writer.factory().reader()?;
+        Ok(CountReader { reader })
     }
 
     /// Takes in the next count, which readers do not find yet. It comes back where memory was refused.
@@ -73,14 +141,14 @@ impl CountWriter {
         self.writer.append(count)
     }
 
-    /// Shows the last count that was taken in, and waits until no reader has the one before.
+    /// Shows the greatest count that was taken in, and waits until no reader has the one before.
     pub fn publish<R: Wait>(&mut self, rt: &R)
-        ensures { self.new ≡ record { shown = fold (λ _ next. next) self.old.shown self.old.pending; pending = [] } }
+        ensures { self.new ≡ record { shown = fold max self.old.shown self.old.pending; pending = [] } }
     {
         let published = replace_with(
             &mut self.writer,
             rt,
-            |writer: Writer<Count, u64, (), Unruled>, rt: &R| writer.publish_as::<Unruled, R>(rt),
+            |writer: Writer<Count, u64, Visits, NeverFalls>, rt: &R| show_next(writer, rt),
         );
         match published {
             Ok(()) => (),
@@ -93,6 +161,21 @@ impl CountWriter {
         let CountWriter { writer } = self;
         writer.take(rt);
     }
+}
+
+// Shows what was taken in. The number does not fall, which the rule asks for.
+fn show_next<R: Wait>(
+    writer: Writer<Count, u64, Visits, NeverFalls>,
+    rt: &R,
+) -> (
+    Writer<Count, u64, Visits, NeverFalls>,
+    Result<(), AllocError>,
+)
+    ensures succeeds { IsOk result.1 }
+    ensures shown { result.0.desk.shown.value.0 ≡ fold max writer.desk.shown.value.0 (drop writer.behind writer.log.items) }
+    ensures pending { drop result.0.behind result.0.log.items ≡ [] }
+{
+    writer.publish_as::<ShowingNext, R>(rt)
 }
 
 // A writer ends by waiting for its readers, which a drop may not do: it has no `Wait`. So where an operator is dropped the

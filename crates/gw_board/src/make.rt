@@ -52,7 +52,7 @@ fn watch(
 ) -> Result<Watch, AllocError>
     requires empty { nothing.now.batches ≡ [] }
     requires board { (arc_value shelf.now).tag ≡ numbers_of nothing.now.board }
-    ensures { IfOk result (λ watch. watch ≡ nothing.now) }
+    ensures { IfOk result (λ watch. watch ≡ new_watch nothing.now.board) }
 {
     let shelf = Arc::try_clone(shelf)?;
     Ok(Watch::new(writer.reader()?, shelf, nothing.again()))

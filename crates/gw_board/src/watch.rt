@@ -1,18 +1,17 @@
 //! The end that reads.
 
-ghost use Rattle.std.specs.Prelude.{◌≡◌, ◌≤◌, MatchResult, length};
-ghost use Rattle.gw_policy.specs.Batches.{Places};
+ghost use Rattle.std.specs.Prelude.{◌≡◌, ◌≤◌, IfOk, MatchResult, OnOk, length};
+ghost use Rattle.gw_policy.specs.Batches.{PortPolicies};
 ghost use Rattle.std.specs.Arc.{arc_value};
 ghost use Rattle.std.specs.Fn.{FnOnceReturnsAt};
 ghost use mathlib.Core.List.{IsPrefix};
-ghost use Rattle.gw_board.specs.Ends.{numbers_of};
+ghost use Rattle.gw_board.specs.Ends.{Enters, Finds, new_watch, no_visits, numbers_of};
 ghost use Rattle.gw_board.specs.Lists.{longer, InForceAfter};
 
 use crate::count::CountReader;
 use crate::history::Prefix;
 use crate::refusals::NoReading;
 use crate::shelf::Shelf;
-use crossbeam_utils::rule::Unruled;
 use gw_policy::PolicySet;
 use std::alloc::Global;
 use std::marker::Model;
@@ -48,7 +47,7 @@ impl Told {
     }
 }
 
-/// Reads the policies in force without waiting. Contracts see the list of batches that it knows, as `Known`.
+/// Reads the policies in force without waiting. Contracts see it as `Watching`.
 #[derive(Drop)]
 pub struct Watch {
     // There but while a call reads.
@@ -64,11 +63,11 @@ impl Model for Watch {
     ghost use Rattle.std.specs.Prelude.{◌≡◌};
     ghost use Rattle.std.specs.Arc.{arc_value};
     ghost use Rattle.gw_board.specs.Lists.{InForceAfter};
-    ghost use Rattle.gw_board.specs.Ends.{Known, numbers_of};
+    ghost use Rattle.gw_board.specs.Ends.{Watching, numbers_of, visits_of};
 
-    ghost Value = { Known };
+    ghost Value = { Watching };
 
-    ghost view = { λ w. w.known };
+    ghost view = { λ w. record { board = w.known.board; batches = w.known.batches; visits = visits_of w.reader } };
 
     ghost invariant = { λ w. InForceAfter w.set w.read.batches × (w.read.board ≡ w.known.board)
         × ((arc_value w.shelf).tag ≡ numbers_of w.known.board) };
@@ -81,7 +80,8 @@ impl Watch {
     pub(crate) fn new(reader: CountReader, shelf: Arc<Shelf, Global>, nothing: Prefix) -> Watch
         requires empty { nothing.batches ≡ [] }
         requires board { (arc_value shelf).tag ≡ numbers_of nothing.board }
-        ensures { result ≡ nothing }
+        requires outside { reader ≡ no_visits }
+        ensures { result ≡ new_watch nothing.board }
     {
         Watch {
             reader: Some(reader),
@@ -118,13 +118,14 @@ impl Watch {
         ensures board { self.new.board ≡ self.old.board }
         ensures read { MatchResult result
             (λ r. IsPrefix self.old.batches self.new.batches
-            × (set : Places) × InForceAfter set self.new.batches × FnOnceReturnsAt F.FnOnce f set r)
-            (λ _. self.new ≡ self.old) }
+            × (set : PortPolicies) × InForceAfter set self.new.batches × FnOnceReturnsAt F.FnOnce f set r)
+            (λ _. self.new.batches ≡ self.old.batches) }
+        ensures entered { OnOk result (Enters self.old self.new) }
     {
         let count = self.published()?;
         self.catch_up(count)?;
         // A list that was learnt may be ahead of what `left_right` shows, and a frame is never judged by a shorter one.
-        if self.read.len() < self.len() {
+        if self.read.len() < count.max(self.len()) {
             return Err(NoReading);
         }
         self.known = self.read.longer(&self.known);
@@ -133,15 +134,15 @@ impl Watch {
 
     // How many batches are published, as found at the one step of entering.
     fn published(&mut self) -> Result<u64, NoReading>
-        ensures { self.new ≡ self.old }
+        ensures known { (self.new.board ≡ self.old.board) × (self.new.batches ≡ self.old.batches) }
+        ensures found { IfOk result (λ count. Finds count self.old.visits self.new.visits) }
     {
         let Some(reader) = self.reader.take() else {
             return Err(NoReading);
         };
-        match reader.enter_as::<Unruled>() {
-            Ok(reading) => {
-                let count = reading.get().0;
-                self.reader = Some(reading.leave());
+        match reader.enter() {
+            Ok((reader, count)) => {
+                self.reader = Some(reader);
                 Ok(count)
             }
             Err(reader) => {

@@ -3,10 +3,9 @@ use Rattle.std.proofs.Common.{◌≡◌, ◌∙◌, ℕ, suc, ◌+◌, ◌-◌, 
 use Rattle.std.proofs.Common.{option_map, ⊎_elim, sym, ap, subst, arith, length-append, append_assoc}
 use Rattle.std.specs.List.{All}
 use Rattle.std.proofs.lemmas.Bool.{cases_eq}
-use Rattle.std.proofs.lemmas.List.{get_or_append_left, get_or_push, length-map, map-append}
+use Rattle.std.proofs.lemmas.List.{get_or-map, get_or_append_left, get_or_push, length-map, map-append}
 use Rattle.std.proofs.Math.Nat.{suc-mul}
-use Rattle.std.proofs.Math.ListN.{get_or-map}
-use Rattle.gw_board.specs.Ends.{Board, Known}
+use Rattle.gw_board.specs.Ends.{Board, Known, Watching, known_of, new_watch}
 use Rattle.gw_lanes.specs.Ends.{Inlet, Outlet, new_outlet}
 use Rattle.gw_ports.specs.Ends.{Ingress, Egress, lane_to}
 use Rattle.gw_ports.specs.Making.{IsNewIngress, AreNewEnds, known_at, lanes_from, new_egress, egress_with}
@@ -107,12 +106,15 @@ module _ (ports frames room port : ℕ) (watches rest : List Known) (ins : List 
       }
 
 -- ends that know what new watches know
-pub know_nothing : (board : Board) (ins : List Ingress) (watches : List Known) → map known_at ins ≡ watches
-    → All (λ w. w ≡ record { board = board; batches = [] }) watches
+pub know_nothing : (board : Board) (ins : List Ingress) (watches : List Watching) → map known_at ins ≡ map known_of watches
+    → All (λ w. w ≡ new_watch board) watches
     → All (λ a. (a.board ≡ board) × (a.known ≡ [])) ins
 know_nothing board ins watches same all = λ k d below.
     let size = ap length same in
     let c = length-map ins known_at in
-    let is : known_at (get_or ins k d) ≡ record { board = board; batches = [] } = sym (get_or-map known_at ins k d)
-    ∙ ap (λ l. get_or l k (known_at d)) same ∙ all k (known_at d) (omega arith) in
+    let n = length-map watches known_of in
+    let new = new_watch board in
+    let is : known_at (get_or ins k d) ≡ known_of new = sym (get_or-map known_at ins k d (known_at d) below)
+    ∙ ap (λ l. get_or l k (known_at d)) same ∙ get_or-map known_of watches k new (known_at d) (omega arith)
+    ∙ ap (λ w. known_of w) (all k new (omega arith)) in
     (ap (λ w. w.board) is, ap (λ w. w.batches) is)

@@ -23,6 +23,7 @@ ghost use Rattle.std.specs.Prelude.{
   option_map,
 };
 ghost use Rattle.std.specs.Vec.Iter.{into_iter_items};
+ghost use Rattle.gw_board.specs.Ends.{known_of};
 ghost use Rattle.gw_lanes.specs.Ends.{new_inlet, new_outlet};
 ghost use Rattle.gw_ports.specs.Ends.{Egress, HasLanes, lane_at};
 ghost use Rattle.gw_ports.specs.Making.{AreNewEnds, IsNewLane, known_at, new_egress, egress_with};
@@ -45,7 +46,7 @@ pub(super) fn deal(
     requires count { vec_len ends.ins ≡ limits.ports * (limits.ports - 1) }
     requires new { All (λ inlet. inlet ≡ new_inlet inlet.ring limits.lane) ends.ins.items }
     requires paired { ends.outs.items ≡ map new_outlet ends.ins.items }
-    ensures known { IfOk result (λ dealt. map known_at dealt.0.items ≡ watches.items) }
+    ensures known { IfOk result (λ dealt. map known_at dealt.0.items ≡ map known_of watches.items) }
     ensures ends { IfOk result (λ dealt. AreNewEnds limits.ports limits.frames limits.lane dealt.0.items dealt.1.items) }
 {
     let LaneEnds { ins, outs } = ends;

@@ -90,7 +90,7 @@ fn judge(
     ensures judged { MatchResult result
         (λ allowed. IsPrefix watch.old.batches watch.new.batches
         × (allowed ≡ allowed_ports ports local (reverse watch.new.batches) ingress frame.now))
-        (λ _. watch.new ≡ watch.old) }
+        (λ _. watch.new.batches ≡ watch.old.batches) }
 {
     watch.with(|set| allowed(set, ports, ingress, local, frame))
 }

@@ -1,9 +1,9 @@
 use Rattle.std.proofs.Common.{rules, ◌≡◌, [], ◌∷◌, ◌++◌, List, All, vec_len, ◌+◌, arith, sym, subst}
-use Rattle.gw_board.specs.Ends.{Board, Known, new_watch}
+use Rattle.gw_board.specs.Ends.{Board, Watching, new_watch}
 use Rattle.gw_board.proofs.Shelves.{All-push}
 use Rattle.gw_board.proofs.make.ends.Goals as goal
 
-abbrev IsNewWatch : Board → Known → Type 0
+abbrev IsNewWatch : Board → Watching → Type 0
 IsNewWatch board watch = watch ≡ new_watch board
 
 pub loop-preserved : goal.loop-preserved
@@ -13,5 +13,5 @@ loop-preserved c =
     let all : All (IsNewWatch board) (c.loop.watches.items ++ c.in_ok-watch.field-0 ∷ []) =
     All-push (IsNewWatch board) c.loop.watches.items c.in_ok-watch.field-0 c.loop.invariant.1 one in (
       omega (arith, c.in_ok-push.ensures.len, c.loop.invariant.0),
-      subst (λ (l : List Known). All (IsNewWatch board) l) (sym c.in_ok-push.ensures.items) all,
+      subst (λ (l : List Watching). All (IsNewWatch board) l) (sym c.in_ok-push.ensures.items) all,
     )

@@ -37,4 +37,5 @@ loop-self-preserved c =
       in_force_more c.absorb.new.self before.batches read.batches c.batch.result.now more
           (c.in-Ok.ensures.stands (reverse before.batches) inv.2),
       board ∙ one_board entry.board c.self.inside.known.board tag,
+      inv.4,
     )

@@ -7,6 +7,7 @@ abbrev pub invariant-loop-self : goal.invariant-loop-self
 invariant-loop-self l =
     (l.self-inside.shelf ≡ l.initial.self-inside.shelf) × (l.self-inside.known ≡ l.initial.self-inside.known)
     × InForceAfter l.self-inside.set l.self-inside.read.batches × (l.self-inside.read.board ≡ l.initial.self-inside.known.board)
+    × (l.self-inside.reader ≡ l.initial.self-inside.reader)
 
 abbrev pub decreases-loop-self : goal.decreases-loop-self
 decreases-loop-self l = 65536 - length l.self-inside.read.batches

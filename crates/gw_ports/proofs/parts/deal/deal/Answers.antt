@@ -1,7 +1,8 @@
-use Rattle.std.proofs.Common.{◌≡◌, ℕ, ◌∙◌, ◌<◌, ◌+◌, ◌∷◌, ◌++◌, [], List, length, take, drop, get_or, Option}
-use Rattle.std.proofs.Common.{option_map, All, sym, ap, subst, arith}
-use Rattle.std.proofs.lemmas.List.{with_items_is}
+use Rattle.std.proofs.Common.{◌≡◌, ℕ, ◌∙◌, ◌<◌, ◌+◌, ◌∷◌, ◌++◌, [], List, length, map, take, drop, get_or}
+use Rattle.std.proofs.Common.{Option, option_map, All, append-nil, sym, ap, subst, arith}
+use Rattle.std.proofs.lemmas.List.{length-map, nil_from_length, with_items_is}
 use Rattle.std.specs.Vec.Iter.{into_iter_items}
+use Rattle.gw_board.specs.Ends.{known_of}
 use Rattle.gw_lanes.specs.Ends.{Inlet, new_outlet}
 use Rattle.gw_ports.specs.Ends.{Ingress, Egress, HasLanes, lane_at}
 use Rattle.gw_ports.specs.Making.{IsNewIngress, IsNewLane, known_at, egress_with}
@@ -58,20 +59,34 @@ loop-watch-preserved c =
     subst (λ (o : List Egress). (k : ℕ) (d : Egress) → k < length o
     → get_or outs' k d ≡ egress_with (get_or o k d) (option_map new_outlet (lane_at row k))) value
     c.in_ok-lanes.ensures.dealt in
-    let go = one_more_port _ _ _ _ _ _ _ _ _ _ c.in-Some.watch (into_iter_items c.next.new.self) a outs'
+    let rest = map known_of (into_iter_items c.next.new.self) in
+    let go = one_more_port _ _ _ _ _ _ _ _ _ _ (known_of c.in-Some.watch) rest a outs'
     (into_iter_items c.deal_from.new.froms) (into_iter_items c.deal_from.new.tos)
-    inv c.in-Some.ensures.steps.0 (ap (λ t. known_at t) made) new size c.in_ok-lanes.ensures.paired taken.1 left_over
+    inv (ap (λ l. map known_of l) c.in-Some.ensures.steps.0) (ap (λ t. known_at t) made) new size
+    c.in_ok-lanes.ensures.paired taken.1 left_over
     (λ k d below. dealt k d below
     ∙ ap (λ (r : List (Option Inlet)). egress_with (get_or outs k d) (option_map new_outlet (lane_at r k))) (sym lanes)) in
-    subst (λ (t : List Ingress). DealtAll l.ports l.frames l.lane (port + 1) c.args.watches.items
-    (into_iter_items c.next.new.self) t (take c.loop-watch.port_outs.len (outs' ++ drop (length outs') outs))
+    subst (λ (t : List Ingress). DealtAll l.ports l.frames l.lane (port + 1) (map known_of c.args.watches.items)
+    rest t (take c.loop-watch.port_outs.len (outs' ++ drop (length outs') outs))
     (into_iter_items c.deal_from.new.froms) (into_iter_items c.deal_from.new.tos)) (sym c.in_ok-push.ensures.items)
-    (subst (λ (o : List Egress). DealtAll l.ports l.frames l.lane (port + 1) c.args.watches.items
-    (into_iter_items c.next.new.self) (c.loop-watch.port_ins.items ++ a ∷ []) o (into_iter_items c.deal_from.new.froms)
+    (subst (λ (o : List Egress). DealtAll l.ports l.frames l.lane (port + 1) (map known_of c.args.watches.items)
+    rest (c.loop-watch.port_ins.items ++ a ∷ []) o (into_iter_items c.deal_from.new.froms)
     (into_iter_items c.deal_from.new.tos)) (sym items) go)
+
+pub returns-clause-known : goal.returns-clause-known
+returns-clause-known c =
+    let known = map known_at c.loop-watch.port_ins.items in
+    let rest = into_iter_items c.loop-watch.watch-iterator in
+    let e = c.in-None.ensures.steps.0 in
+    let k = c.loop-watch.watch-iterator.rest.ok.0 in
+    let none : rest ≡ [] = nil_from_length rest (omega arith) in
+    sym (append-nil known) ∙ ap (λ l. known ++ map known_of l) (sym none) ∙ c.loop-watch.invariant.known
 
 pub returns-clause-ends : goal.returns-clause-ends
 returns-clause-ends c =
-    let none : length (into_iter_items c.loop-watch.watch-iterator) ≡ 0 = let e = c.in-None.ensures.steps.0 in let k =
-    c.loop-watch.watch-iterator.rest.ok.0 in omega arith in
+    let rest = into_iter_items c.loop-watch.watch-iterator in
+    let e = c.in-None.ensures.steps.0 in
+    let k = c.loop-watch.watch-iterator.rest.ok.0 in
+    let m = length-map rest known_of in
+    let none : length (map known_of rest) ≡ 0 = omega arith in
     all_dealt _ _ _ _ _ _ _ _ _ _ c.loop-watch.invariant none
