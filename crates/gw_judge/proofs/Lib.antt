@@ -1,3 +1,4 @@
+pub mod Gathering
 pub mod Lines
 pub mod PartLengths
 pub mod Counting

@@ -1,26 +1,23 @@
 -- The lines of a log, one after another, and what is written of them.
-use Rattle.std.proofs.Common.{◌≡◌, ℕ, ◌+◌, ◌-◌, ◌<◌, ◌≤◌, ◌==◌, Bool, true, false, List, [], ◌∷◌, ◌++◌, length, take, get_or}
-use Rattle.std.proofs.Common.{refl, sym, ap, ◌∙◌, subst, append_assoc, append-nil, arith, inl, inr, cond}
-use Rattle.std.specs.Prelude.{if◌then◌else◌, All}
-use Rattle.std.specs.List.{filter, concat, slice_split, flat_map}
+use Rattle.std.proofs.Common.{◌≡◌, ℕ, ◌+◌, ◌-◌, ◌<◌, true, false, List, [], ◌∷◌, ◌++◌, length, take, get_or}
+use Rattle.std.proofs.Common.{refl, sym, ap, ◌∙◌, subst, append_assoc, arith, inl, inr, Option}
+use Rattle.std.specs.List.{slice_split}
 use Rattle.std.proofs.lemmas.Bool.{eqb-true, cases_lt, lt-ltb}
-use Rattle.std.proofs.lemmas.List.{take_all, take_more, length-take, get_or-take}
-use Rattle.std.proofs.lemmas.List.Concat.{concat_is, flat_map-append}
-use Rattle.std.proofs.lemmas.List.Elements.{filter-append, All-push}
+use Rattle.std.proofs.lemmas.List.{take_all, take_more, length-take}
+use Rattle.std.proofs.lemmas.List.Concat.{flat_map-append}
+use Rattle.std.proofs.lemmas.List.Elements.{All-push}
 use Rattle.std.proofs.lemmas.List.Splits.{slice_split_at, slice_split_none, length-slice_split}
 use Rattle.gw_input.specs.Lines.{is_line_feed}
 use Rattle.gw_log.specs.declared.refusal.LogRefusal.TheVariants.{LongLine}
 use Rattle.gw_log.specs.LogLines.{line_of}
-use Rattle.gw_policy.specs.Filter.{Filter}
 use Rattle.gw_judge.specs.declared.fate.Fate.{Fate}
 use Rattle.gw_judge.specs.declared.fate.Fate.TheVariants.{Refused}
-use Rattle.gw_judge.specs.declared.fate.Wanted.{Wanted}
-use Rattle.gw_judge.specs.declared.fate.Wanted.TheVariants as wanted
-use Rattle.gw_judge.specs.Judged.{with_ends, last_line, log_lines, fate_of, is_wanted, written_of}
+use Rattle.gw_judge.specs.Fates.{fate_of}
+use Rattle.gw_judge.specs.Judged.{with_ends, last_line, log_lines, line_text, written_of}
 use Rattle.gw_judge.specs.LineParts.{IsEndless, IsLinePart, ends_line}
-use Rattle.gw_judge.specs.UnderWay.{kept_text}
 
-ended_more : (line : List ℕ) (parts : List (List ℕ)) → 0 < length parts → with_ends (line ∷ parts) ≡ (line ++ 10 ∷ []) ∷ with_ends parts
+ended_more : (line : List ℕ) (parts : List (List ℕ)) → 0 < length parts
+    → with_ends (line ∷ parts) ≡ (line ++ 10 ∷ []) ∷ with_ends parts
 ended_more line [] some = absurd (omega arith)
 ended_more line (next ∷ more) some = refl
 
@@ -40,53 +37,43 @@ unfolding log_lines
 rest_alone rest endless = ap with_ends (slice_split_none is_line_feed rest endless)
 
 -- what is written of lines, and of more lines behind them
-concat-append : (a b : List (List ℕ)) → concat (a ++ b) ≡ concat a ++ concat b
-concat-append [] b = refl
-concat-append (x ∷ a) b = ap (λ (rest : List ℕ). x ++ rest) (concat-append a b) ∙ sym (append_assoc x (concat a) (concat b))
-
-pub written_more : (fate : List ℕ → Fate) (kept : Wanted) (lines more : List (List ℕ))
-    → written_of fate kept (lines ++ more) ≡ written_of fate kept lines ++ written_of fate kept more
+pub written_more : (fate : List ℕ → Fate) (front : Fate → Option (List ℕ)) (lines more : List (List ℕ))
+    → written_of fate front (lines ++ more) ≡ written_of fate front lines ++ written_of fate front more
 unfolding written_of
-written_more fate kept lines more =
-    let test : List ℕ → Bool = λ line. is_wanted kept (fate line) in
-    ap concat (filter-append test lines more) ∙ concat-append (filter test lines) (filter test more)
+written_more fate front lines more = flat_map-append (λ line. line_text front (fate line) line) lines more
 
--- what is written of one line
-pub written_one : (fate : List ℕ → Fate) (kept : Wanted) (line : List ℕ) → written_of fate kept (line ∷ []) ≡ kept_text fate kept line
+-- what is written of a line and of those behind it
+pub written_first : (fate : List ℕ → Fate) (front : Fate → Option (List ℕ)) (line : List ℕ) (more : List (List ℕ))
+    → written_of fate front (line ∷ more) ≡ line_text front (fate line) line ++ written_of fate front more
 unfolding written_of
-written_one fate kept line = go (is_wanted kept (fate line))
-  where
-    go : (b : Bool) → concat (if b then line ∷ [] else []) ≡ (if b then line else [])
-    go true = append-nil line
-    go false = refl
+written_first fate front line more = refl
+
+pub written_none : (fate : List ℕ → Fate) (front : Fate → Option (List ℕ)) → written_of fate front [] ≡ []
+unfolding written_of
+written_none fate front = refl
 
 -- of a line that is too long as much is kept as says so
-fate_long : (filter : Filter) (port : ℕ) (line : List ℕ) → 65536 < length line → fate_of filter port line ≡ Refused LongLine
+fate_long : (by : List ℕ → Fate) (line : List ℕ) → 65536 < length line → fate_of by line ≡ Refused LongLine
 unfolding fate_of line_of
-fate_long filter port line long = rw (lt-ltb 65536 (length line) long) refl
+fate_long by line long = rw (lt-ltb 65536 (length line) long) refl
 
-unwanted : (kept : Wanted) (line : List ℕ) → (if is_wanted kept (Refused LongLine) then line else []) ≡ []
-unwanted wanted.Passed line = refl
-unwanted wanted.Blocked line = refl
-
-pub fate_kept : (filter : Filter) (port : ℕ) (line : List ℕ) → fate_of filter port (take 65537 line) ≡ fate_of filter port line
-fate_kept filter port line =
+pub fate_kept : (by : List ℕ → Fate) (line : List ℕ) → fate_of by (take 65537 line) ≡ fate_of by line
+fate_kept by line =
     elim (cases_lt 65536 (length line)) [
       | inl long ↦
           let there : 65536 < length (take 65537 line) = omega (arith, length-take 65537 line) in
-          fate_long filter port (take 65537 line) there ∙ sym (fate_long filter port line long)
-      | inr short ↦ ap (fate_of filter port) (take_all 65537 line (omega arith))
+          fate_long by (take 65537 line) there ∙ sym (fate_long by line long)
+      | inr short ↦ ap (fate_of by) (take_all 65537 line (omega arith))
     ]
 
-pub text_kept : (filter : Filter) (port : ℕ) (kept : Wanted) (line : List ℕ)
-    → kept_text (fate_of filter port) kept (take 65537 line) ≡ kept_text (fate_of filter port) kept line
-text_kept filter port kept line =
+pub text_kept : (by : List ℕ → Fate) (front : Fate → Option (List ℕ)) (line : List ℕ)
+    → line_text front (fate_of by (take 65537 line)) (take 65537 line) ≡ line_text front (fate_of by line) line
+text_kept by front line =
     elim (cases_lt 65536 (length line)) [
       | inl long ↦
           let there : 65536 < length (take 65537 line) = omega (arith, length-take 65537 line) in
-          rw (fate_long filter port (take 65537 line) there, fate_long filter port line long)
-          (unwanted kept (take 65537 line) ∙ sym (unwanted kept line))
-      | inr short ↦ ap (kept_text (fate_of filter port) kept) (take_all 65537 line (omega arith))
+          rw (fate_long by (take 65537 line) there, fate_long by line long) refl
+      | inr short ↦ ap (λ (l : List ℕ). line_text front (fate_of by l) l) (take_all 65537 line (omega arith))
     ]
 
 -- a part is its front and its last octet

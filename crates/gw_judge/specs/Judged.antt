@@ -1,19 +1,21 @@
 -- What judging a log writes and counts: `before` and `after` are what its reader has left, `old` and `new` what its writer took.
-use Rattle.std.specs.Prelude.{◌≡◌, ◌⊎◌, ◌≤◌, ℕ, ◌+◌, min, Bool, true, false, if◌then◌else◌, List, [], ◌∷◌, ◌++◌, length}
-use Rattle.std.specs.Prelude.{Option, Some, None, Ok, Err}
-use Rattle.std.specs.List.{filter, concat, slice_split}
+use Rattle.std.specs.Prelude.{◌≡◌, ◌⊎◌, ◌≤◌, ℕ, ◌+◌, Bool, true, false, if◌then◌else◌, List, [], ◌∷◌, ◌++◌, length, map, All}
+use Rattle.std.specs.Prelude.{Option, Some, None}
+use Rattle.std.specs.List.{flat_map, slice_split}
 use Rattle.std.specs.Io.KnownBytes.{Appends, Consumes, IsAtEnd}
 use Rattle.gw_io.specs.Written.{WritesPart}
 use Rattle.gw_input.specs.Lines.{is_line_feed}
-use Rattle.gw_log.specs.LogLines.{Reading, line_of}
-use Rattle.gw_policy.specs.Filter.{Filter, filter_passes}
+use Rattle.gw_log.specs.LogFrames.{refusal_number}
 use Rattle.gw_judge.specs.declared.fate.Fate.{Fate}
 use Rattle.gw_judge.specs.declared.fate.Fate.TheVariants.{Passed, Blocked, Silent, Refused}
-use Rattle.gw_judge.specs.declared.fate.Wanted.{Wanted}
-use Rattle.gw_judge.specs.declared.fate.Wanted.TheVariants as wanted
-use Rattle.gw_judge.specs.declared.counts.Counts.{Counts}
-use Rattle.gw_judge.specs.declared.whole.JudgeFault.{JudgeFault}
-use Rattle.gw_judge.specs.declared.whole.JudgeFault.TheVariants.{ReadFault, WriteFault}
+use Rattle.gw_judge.specs.declared.report.Wanted.{Wanted}
+use Rattle.gw_judge.specs.declared.report.Wanted.TheVariants as wanted
+use Rattle.gw_judge.specs.declared.tally.Tally.{Tally}
+use Rattle.gw_judge.specs.declared.fault.RefusedLine.{RefusedLine}
+use Rattle.gw_judge.specs.declared.fault.JudgeFault.{JudgeFault}
+use Rattle.gw_judge.specs.declared.fault.JudgeFault.TheVariants as ends
+use Rattle.gw_judge.specs.Fates.{is_passed, is_blocked, is_refused}
+use Rattle.gw_judge.specs.Tallies.{up_to_most, IsTally}
 
 -- lines with their line feeds, but the last, which has none; an empty last line is none
 abbrev pub last_line : List ℕ → List (List ℕ)
@@ -29,85 +31,76 @@ with_ends (line ∷ next ∷ more) = (line ++ 10 ∷ []) ∷ with_ends (next ∷
 unfoldable pub log_lines : List ℕ → List (List ℕ)
 log_lines log = with_ends (slice_split is_line_feed log)
 
--- what becomes of a line under a policy, where its frame is taken at a port
-abbrev pub said_fate : Filter → ℕ → Reading → Fate
-said_fate filter port (Err why) = Refused why
-said_fate filter port (Ok None) = Silent
-said_fate filter port (Ok (Some e)) = if filter_passes filter e.octets port then Passed else Blocked
-
-unfoldable pub fate_of : Filter → ℕ → List ℕ → Fate
-fate_of filter port line = said_fate filter port (line_of line)
-
-abbrev pub is_passed : Fate → Bool
-is_passed Passed = true
-is_passed Blocked = false
-is_passed Silent = false
-is_passed (Refused why) = false
-
-abbrev pub is_blocked : Fate → Bool
-is_blocked Passed = false
-is_blocked Blocked = true
-is_blocked Silent = false
-is_blocked (Refused why) = false
-
-abbrev pub is_refused : Fate → Bool
-is_refused Passed = false
-is_refused Blocked = false
-is_refused Silent = false
-is_refused (Refused why) = true
-
+-- nothing stands in front of the lines that are wanted, and no other line is written
 abbrev pub is_wanted : Wanted → Fate → Bool
 is_wanted wanted.Passed fate = is_passed fate
 is_wanted wanted.Blocked fate = is_blocked fate
+is_wanted wanted.Nothing fate = false
 
--- what is written of lines: those that are wanted, unchanged and in order
-unfoldable pub written_of : (List ℕ → Fate) → Wanted → List (List ℕ) → List ℕ
-written_of fate wanted lines = concat (filter (λ line. is_wanted wanted (fate line)) lines)
+abbrev pub wanted_front : Wanted → Fate → Option (List ℕ)
+wanted_front wanted fate = if is_wanted wanted fate then Some [] else None
 
--- how many lines had which fate, each up to 2^64 - 1
-abbrev pub up_to_most : ℕ → ℕ
-up_to_most n = min n 18446744073709551615
+-- what is written of a line: it stands unchanged behind its front; a line that is refused, or has no front, is not written
+abbrev pub behind_front : Option (List ℕ) → List ℕ → List ℕ
+behind_front None line = []
+behind_front (Some front) line = front ++ line
 
-unfoldable pub counts_of : (List ℕ → Fate) → List (List ℕ) → Counts
-counts_of fate lines = record {
-  passed = up_to_most (length (filter (λ line. is_passed (fate line)) lines));
-  blocked = up_to_most (length (filter (λ line. is_blocked (fate line)) lines));
-  refused = up_to_most (length (filter (λ line. is_refused (fate line)) lines));
-}
+abbrev pub line_text : (Fate → Option (List ℕ)) → Fate → List ℕ → List ℕ
+line_text front (Passed part) line = behind_front (front (Passed part)) line
+line_text front (Blocked part) line = behind_front (front (Blocked part)) line
+line_text front Silent line = behind_front (front Silent) line
+line_text front (Refused why) line = []
 
--- the counts of no line, and with one more
-abbrev pub no_counts : Counts
-no_counts = record { passed = 0; blocked = 0; refused = 0 }
+-- what is written of lines, in order
+unfoldable pub written_of : (List ℕ → Fate) → (Fate → Option (List ℕ)) → List (List ℕ) → List ℕ
+written_of fate front lines = flat_map (λ line. line_text front (fate line) line) lines
 
-abbrev pub counts_with : Fate → Counts → Counts
-counts_with Passed counts = record counts { passed = up_to_most (counts.passed + 1) }
-counts_with Blocked counts = record counts { blocked = up_to_most (counts.blocked + 1) }
-counts_with Silent counts = counts
-counts_with (Refused why) counts = record counts { refused = up_to_most (counts.refused + 1) }
+-- none of the lines is refused
+abbrev pub AreFine : (List ℕ → Fate) → List (List ℕ) → Type 0
+AreFine fate lines = All (λ line. is_refused (fate line) ≡ false) lines
 
--- the reader gave a whole log, and the lines of it that are wanted were written
-pub record IsJudged (fate : List ℕ → Fate) (kept : Wanted) (before after old new : Option (List ℕ)) (counted : Counts) : Type 0
-  where
-    pub log : List ℕ
-    pub consumed : Consumes before after log
-    pub end : IsAtEnd after
-    pub written : Appends old new (written_of fate kept (log_lines log))
-    pub counts : counted ≡ counts_of fate (log_lines log)
-
--- a read failed, or a log of 2^64 - 1 octets has no end; or a write failed
-abbrev pub IsJudgeFault : Bool → Bool → List ℕ → JudgeFault → Type 0
-IsJudgeFault read_failed write_failed log ReadFault = (read_failed ≡ true) ⊎ (18446744073709551615 ≤ length log)
-IsJudgeFault read_failed write_failed log WriteFault = write_failed ≡ true
-
--- the reader gave a part of a log, and a beginning of what is wanted of it was written
-pub record IsPartlyJudged (fate : List ℕ → Fate) (kept : Wanted) (before after old new : Option (List ℕ))
-    (read_failed write_failed : Bool) (why : JudgeFault) : Type 0 where
+-- the reader gave a whole log, what its lines ask for was written, and they were counted; strictly none of them is refused
+pub record IsJudged (fate : List ℕ → Fate) (front : Fate → Option (List ℕ)) (strict : Bool)
+    (before after old new : Option (List ℕ)) (tally : Tally) : Type 0 where
   pub log : List ℕ
   pub consumed : Consumes before after log
-  pub written : WritesPart old new (written_of fate kept (log_lines log))
-  pub fault : IsJudgeFault read_failed write_failed log why
+  pub end : IsAtEnd after
+  pub written : Appends old new (written_of fate front (log_lines log))
+  pub tallied : IsTally (map fate (log_lines log)) tally
+  pub fine : strict ≡ true → AreFine fate (log_lines log)
+
+-- the first line of a log that is refused, and what is written of the lines before it
+pub record IsFirstRefused (fate : List ℕ → Fate) (front : Fate → Option (List ℕ)) (log text : List ℕ) (refused : RefusedLine)
+    : Type 0 where
+  pub lines : List (List ℕ)
+  pub line : List ℕ
+  pub more : List (List ℕ)
+  pub split : log_lines log ≡ lines ++ line ∷ more
+  pub fine : AreFine fate lines
+  pub why : fate line ≡ Refused refused.why
+  pub number : refused.line ≡ up_to_most (length lines + 1)
+  pub written : text ≡ written_of fate front lines
+
+-- a read failed, or a log of 2^64 - 1 octets has no end; or a write failed; or, strictly, a line is refused and all that the
+-- lines before it ask for was written
+abbrev pub IsJudgeFault : (List ℕ → Fate) → (Fate → Option (List ℕ)) → Bool → Bool → Bool → List ℕ → Option (List ℕ)
+    → Option (List ℕ) → JudgeFault → Type 0
+IsJudgeFault fate front strict read_failed write_failed log old new ends.ReadFault =
+    (read_failed ≡ true) ⊎ (18446744073709551615 ≤ length log)
+IsJudgeFault fate front strict read_failed write_failed log old new ends.WriteFault = write_failed ≡ true
+IsJudgeFault fate front strict read_failed write_failed log old new (ends.Refused refused) =
+    (strict ≡ true) × ((text : List ℕ) × Appends old new text × IsFirstRefused fate front log text refused)
+
+-- the reader gave a part of a log, and a beginning of what its lines ask for was written
+pub record IsPartlyJudged (fate : List ℕ → Fate) (front : Fate → Option (List ℕ)) (strict : Bool)
+    (before after old new : Option (List ℕ)) (read_failed write_failed : Bool) (why : JudgeFault) : Type 0 where
+  pub log : List ℕ
+  pub consumed : Consumes before after log
+  pub written : WritesPart old new (written_of fate front (log_lines log))
+  pub fault : IsJudgeFault fate front strict read_failed write_failed log old new why
 
 -- the number by which a fault is told
 abbrev pub fault_number : JudgeFault → ℕ
-fault_number ReadFault = 96
-fault_number WriteFault = 99
+fault_number ends.ReadFault = 96
+fault_number ends.WriteFault = 99
+fault_number (ends.Refused refused) = refusal_number refused.why

@@ -1,5 +1,8 @@
--- public meaning: what judging a log writes and counts
+-- public meaning: what becomes of a line, how lines are counted, and what judging a log writes
+pub mod Fates
+pub mod Tallies
 pub mod Judged
--- the inside: parts of lines, and how far a log was judged
+-- the inside: a tally with a line more, parts of lines, and how far a log was judged
+pub mod Counting
 pub mod LineParts
 pub mod UnderWay

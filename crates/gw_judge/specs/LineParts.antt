@@ -1,5 +1,6 @@
 -- Parts of lines, as a reader gives them: `before` and `after` are what it has left.
-use Rattle.std.specs.Prelude.{◌≡◌, ◌<◌, ℕ, ◌-◌, ◌==◌, slice_index, Bool, true, false, List, [], ◌++◌, length, take, All, Option, Result, Ok, Err}
+use Rattle.std.specs.Prelude.{◌≡◌, ◌<◌, ℕ, ◌-◌, ◌==◌, slice_index, Bool, true, false, List, [], ◌++◌, length}
+use Rattle.std.specs.Prelude.{take, All, Option, Result, Ok, Err}
 use Rattle.std.specs.Io.KnownBytes.{Consumes, IsAtEnd, Keeps}
 use Rattle.gw_io.specs.declared.pieces.ReadFault.{ReadFault}
 use Rattle.gw_input.specs.Lines.{is_line_feed}

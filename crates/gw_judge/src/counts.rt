@@ -16,7 +16,7 @@ pub struct Counts {
 }
 
 impl Counts {
-    ghost use Rattle.gw_judge.specs.Judged.{no_counts, counts_with};
+    ghost use Rattle.gw_judge.specs.Counting.{no_counts, counts_with};
 
     /// No line yet.
     pub fn new() -> Counts
@@ -34,8 +34,8 @@ impl Counts {
         ensures { result ≡ counts_with fate self }
     {
         match fate {
-            Fate::Passed => self.passed = self.passed.saturating_add(1),
-            Fate::Blocked => self.blocked = self.blocked.saturating_add(1),
+            Fate::Passed(_) => self.passed = self.passed.saturating_add(1),
+            Fate::Blocked(_) => self.blocked = self.blocked.saturating_add(1),
             Fate::Refused(_) => self.refused = self.refused.saturating_add(1),
             Fate::Silent => {}
         }

@@ -1,57 +1,33 @@
 //! What becomes of a line.
 
 ghost use Rattle.std.specs.Prelude.{◌≡◌};
-ghost use Rattle.gw_judge.specs.Judged.{fate_of, is_wanted};
+ghost use Rattle.gw_judge.specs.Fates.{fate_of};
 
+use crate::decider::Decider;
 use gw_log::{LogRefusal, read_line};
-use gw_policy::Policy;
+use gw_table::Part;
 
 /// What becomes of a line of a log.
 #[derive(Clone, Copy, PartialEq, Eq, Debug)]
 pub enum Fate {
-    /// It says a frame that passes.
-    Passed,
-    /// It says a frame that is blocked.
-    Blocked,
+    /// It says a frame that passes, by this part of a table where a table judges.
+    Passed(Option<Part>),
+    /// It says a frame that is blocked, likewise.
+    Blocked(Option<Part>),
     /// It says nothing.
     Silent,
     /// It says no classic frame.
     Refused(LogRefusal),
 }
 
-/// Which lines are written.
-#[derive(Clone, Copy, PartialEq, Eq, Debug)]
-pub enum Wanted {
-    /// Those that say a frame that passes.
-    Passed,
-    /// Those that say a frame that is blocked.
-    Blocked,
-}
-
-/// What becomes of a line under a policy, where its frame is taken at the port `from`.
-#[tactic(auto, unfolding(crate::specs::Judged::fate_of))]
-pub fn line_fate(policy: &Policy, from: u8, line: &[u8]) -> Fate
-    ensures { result ≡ fate_of policy.now from line.now }
+/// What becomes of a line by a policy or a table, where its frame is taken at the port `from`.
+#[tactic(auto, unfolding(crate::specs::Fates::fate_of))]
+pub fn line_fate<D: Decider>(decider: &D, from: u8, line: &[u8]) -> Fate
+    ensures { result ≡ fate_of (D.fate_by decider.now from) line.now }
 {
     match read_line(line) {
-        Ok(Some(said)) => {
-            if policy.verdict(said.frame(), from) {
-                Fate::Passed
-            } else {
-                Fate::Blocked
-            }
-        }
+        Ok(Some(said)) => decider.fate(said.frame(), from),
         Ok(None) => Fate::Silent,
         Err(why) => Fate::Refused(why),
-    }
-}
-
-/// Whether a line of this fate is written.
-pub fn is_wanted(wanted: Wanted, fate: Fate) -> bool
-    ensures { result ≡ is_wanted wanted fate }
-{
-    match wanted {
-        Wanted::Passed => matches!(fate, Fate::Passed),
-        Wanted::Blocked => matches!(fate, Fate::Blocked),
     }
 }

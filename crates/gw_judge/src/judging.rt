@@ -1,28 +1,37 @@
 //! A log that comes in parts of lines, and what is written of it.
 
-ghost use Rattle.std.specs.Prelude.{◌≡◌, ◌++◌, [], ℕ, List, true, false, length, take, OnOk, OnErr};
-ghost use Rattle.std.specs.Io.KnownBytes.{Appends};
+ghost use Rattle.std.specs.Prelude.{◌≡◌, ◌++◌, ◌-◌, [], ℕ, List, false, length, take, OnOk};
 ghost use Rattle.gw_io.specs.Tries.{inner_of, has_failed};
-ghost use Rattle.gw_io.specs.Written.{WritesPart};
-ghost use Rattle.gw_judge.specs.Judged.{fate_of, no_counts, counts_with};
+ghost use Rattle.gw_judge.specs.Fates.{fate_of};
+ghost use Rattle.gw_judge.specs.Judged.{line_text};
+ghost use Rattle.gw_judge.specs.Counting.{no_tally, tally_with};
 ghost use Rattle.gw_judge.specs.LineParts.{ends_line};
+ghost use Rattle.gw_judge.specs.UnderWay.{Refuses};
 
-use crate::counts::Counts;
-use crate::fate::{Wanted, is_wanted, line_fate};
+use crate::decider::Decider;
+use crate::fate::{Fate, line_fate};
+use crate::fault::{JudgeFault, RefusedLine};
+use crate::gathered::Gathered;
+use crate::report::Report;
+use crate::tally::Tally;
 use arrayvec::ArrayVec;
-use gw_io::{Tried, WriteFault, write_all};
-use gw_policy::Policy;
+use gw_io::Tried;
 use std::io::Write;
 
 /// How many octets of an unfinished line are kept: more than a line has.
 const MAX_KEPT: usize = 65_537;
 
-/// Which lines are written: under which policy, where frames are taken, and of which fate.
+/// What is asked of a log.
 #[derive(Drop)]
-pub struct Asked<'a> {
-    pub policy: &'a Policy,
+pub struct Asked<'a, D, P> {
+    /// What decides its frames.
+    pub decider: &'a D,
+    /// The port at which they are taken.
     pub from: u8,
-    pub wanted: Wanted,
+    /// Which lines are written, and what stands in front of each.
+    pub report: &'a P,
+    /// Whether the first refused line ends the judging.
+    pub strict: bool,
 }
 
 /// Judges each line as soon as its last part comes.
@@ -30,40 +39,43 @@ pub struct Asked<'a> {
 pub struct Judging {
     // the line that is unfinished, or its beginning where it is too long
     pub kept: ArrayVec<u8, MAX_KEPT>,
-    pub counts: Counts,
+    pub gathered: Gathered,
+    pub tally: Tally,
 }
 
 impl Judging {
-    ghost use Rattle.std.specs.Prelude.{◌-◌};
     ghost use Rattle.gw_judge.specs.LineParts.{IsLinePart};
-    ghost use Rattle.gw_judge.specs.UnderWay.{HasJudged, TakesPart, Ends, kept_text};
+    ghost use Rattle.gw_judge.specs.UnderWay.{HasJudged, Judges, Reaches, Closes, Ends};
 
     /// Starts before the first octet.
     pub fn new() -> Judging
         ensures kept { result.kept.items ≡ [] }
-        ensures counts { result.counts ≡ no_counts }
+        ensures gathered { result.gathered.held.items ≡ [] }
+        ensures tally { result.tally ≡ no_tally }
     {
         Judging {
             kept: ArrayVec::new(),
-            counts: Counts::new(),
+            gathered: Gathered::new(),
+            tally: Tally::new(),
         }
     }
 
-    /// Takes a part of a line. Where a line feed ends it, the line is judged, and written if it is wanted.
-    pub fn take<W: Write>(
+    /// Takes a part of a line. Where a line feed ends it, the line is judged, and written if it is asked for.
+    pub fn take<D: Decider, P: Report, W: Write>(
         &mut self,
-        asked: &Asked,
+        asked: &Asked<D, P>,
         part: &[u8],
         writer: &mut Tried<W>,
-    ) -> Result<(), WriteFault>
+    ) -> Result<(), JudgeFault>
         requires writer { has_failed writer.old ≡ false }
         requires part { IsLinePart part.now }
         ensures taken { (octets text : List ℕ)
-            → HasJudged (fate_of asked.now.policy.now asked.now.from) asked.now.wanted octets self.old text
-            → TakesPart (fate_of asked.now.policy.now asked.now.from) asked.now.wanted octets part.now text
-            (W.contents (inner_of writer.old)) (W.contents (inner_of writer.new)) result self.new }
+            → HasJudged (fate_of (D.fate_by asked.now.decider.now asked.now.from)) (P.front_of asked.now.report.now)
+            asked.now.strict octets self.old text
+            → Reaches (fate_of (D.fate_by asked.now.decider.now asked.now.from)) (P.front_of asked.now.report.now)
+            asked.now.strict (octets ++ part.now) text (W.contents (inner_of writer.old)) (W.contents (inner_of writer.new))
+            (has_failed writer.new) result self.new }
         ensures whole { OnOk result (has_failed writer.new ≡ false) }
-        ensures failed { OnErr result (has_failed writer.new ≡ true) }
     {
         self.keep(part);
         if !ends_line(part) {
@@ -74,62 +86,132 @@ impl Judging {
         judged
     }
 
-    /// Judges the last line, which no line feed ended, and returns the counts.
-    pub fn end<W: Write>(
-        mut self,
-        asked: &Asked,
+    /// Writes what is held where all that was read is judged.
+    pub fn write_out<D: Decider, P: Report, W: Write>(
+        &mut self,
+        asked: &Asked<D, P>,
+        used_up: bool,
         writer: &mut Tried<W>,
-    ) -> Result<Counts, WriteFault>
+    ) -> Result<(), JudgeFault>
+        requires writer { has_failed writer.old ≡ false }
+        ensures reached { (octets text : List ℕ)
+            → HasJudged (fate_of (D.fate_by asked.now.decider.now asked.now.from)) (P.front_of asked.now.report.now)
+            asked.now.strict octets self.old text
+            → Reaches (fate_of (D.fate_by asked.now.decider.now asked.now.from)) (P.front_of asked.now.report.now)
+            asked.now.strict octets text (W.contents (inner_of writer.old)) (W.contents (inner_of writer.new))
+            (has_failed writer.new) result self.new }
+        ensures whole { OnOk result (has_failed writer.new ≡ false) }
+    {
+        if used_up {
+            self.gathered.flush(writer)
+        } else {
+            Ok(())
+        }
+    }
+
+    /// Judges the last line, which no line feed ended, and returns the tally.
+    pub fn end<D: Decider, P: Report, W: Write>(
+        mut self,
+        asked: &Asked<D, P>,
+        writer: &mut Tried<W>,
+    ) -> Result<Tally, JudgeFault>
         requires { has_failed writer.old ≡ false }
-        ensures ended { (octets text : List ℕ)
-            → HasJudged (fate_of asked.now.policy.now asked.now.from) asked.now.wanted octets self text
-            → Ends (fate_of asked.now.policy.now asked.now.from) asked.now.wanted octets text
-            (W.contents (inner_of writer.old)) (W.contents (inner_of writer.new)) result }
-        ensures failed { OnErr result (has_failed writer.new ≡ true) }
+        ensures { (octets text : List ℕ)
+            → HasJudged (fate_of (D.fate_by asked.now.decider.now asked.now.from)) (P.front_of asked.now.report.now)
+            asked.now.strict octets self text
+            → Ends (fate_of (D.fate_by asked.now.decider.now asked.now.from)) (P.front_of asked.now.report.now)
+            asked.now.strict octets text (W.contents (inner_of writer.old)) (W.contents (inner_of writer.new))
+            (has_failed writer.new) result }
+    {
+        self.judge_last(asked, writer)?;
+        self.gathered.flush(writer)?;
+        Ok(self.tally)
+    }
+
+    /// Judges the last line, if no line feed ended it.
+    fn judge_last<D: Decider, P: Report, W: Write>(
+        &mut self,
+        asked: &Asked<D, P>,
+        writer: &mut Tried<W>,
+    ) -> Result<(), JudgeFault>
+        requires { has_failed writer.old ≡ false }
+        ensures closed { (octets text : List ℕ)
+            → HasJudged (fate_of (D.fate_by asked.now.decider.now asked.now.from)) (P.front_of asked.now.report.now)
+            asked.now.strict octets self.old text
+            → Closes (fate_of (D.fate_by asked.now.decider.now asked.now.from)) (P.front_of asked.now.report.now)
+            asked.now.strict octets text (W.contents (inner_of writer.old)) (W.contents (inner_of writer.new))
+            (has_failed writer.new) result self.new }
+        ensures whole { OnOk result (has_failed writer.new ≡ false) }
     {
         if self.kept.is_empty() {
-            return Ok(self.counts);
-        }
-        match self.judge_kept(asked, writer) {
-            Ok(()) => Ok(self.counts),
-            Err(WriteFault) => Err(WriteFault),
+            Ok(())
+        } else {
+            self.judge_kept(asked, writer)
         }
     }
 
     /// Keeps more of the unfinished line.
     fn keep(&mut self, part: &[u8])
         ensures kept { self.new.kept.items ≡ self.old.kept.items ++ take (65537 - length self.old.kept.items) part.now }
-        ensures counts { self.new.counts ≡ self.old.counts }
+        ensures gathered { self.new.gathered ≡ self.old.gathered }
+        ensures tally { self.new.tally ≡ self.old.tally }
     {
         let room = self.kept.remaining_capacity().min(part.len());
         let _fits = self.kept.try_extend_from_slice(&part[..room]);
     }
 
     /// Judges the line that is kept.
-    fn judge_kept<W: Write>(
+    fn judge_kept<D: Decider, P: Report, W: Write>(
         &mut self,
-        asked: &Asked,
+        asked: &Asked<D, P>,
         writer: &mut Tried<W>,
-    ) -> Result<(), WriteFault>
+    ) -> Result<(), JudgeFault>
         requires { has_failed writer.old ≡ false }
-        ensures counts { self.new.counts
-            ≡ counts_with (fate_of asked.now.policy.now asked.now.from self.old.kept.items) self.old.counts }
-        ensures written { OnOk result (Appends (W.contents (inner_of writer.old)) (W.contents (inner_of writer.new))
-            (kept_text (fate_of asked.now.policy.now asked.now.from) asked.now.wanted self.old.kept.items)) }
-        ensures part { OnErr result (WritesPart (W.contents (inner_of writer.old)) (W.contents (inner_of writer.new))
-            (kept_text (fate_of asked.now.policy.now asked.now.from) asked.now.wanted self.old.kept.items)) }
-        ensures whole { OnOk result (has_failed writer.new ≡ false) }
-        ensures failed { OnErr result (has_failed writer.new ≡ true) }
+        ensures tally { self.new.tally
+            ≡ tally_with (fate_of (D.fate_by asked.now.decider.now asked.now.from) self.old.kept.items) self.old.tally }
+        ensures judged { Judges (fate_of (D.fate_by asked.now.decider.now asked.now.from) self.old.kept.items)
+            (line_text (P.front_of asked.now.report.now)
+            (fate_of (D.fate_by asked.now.decider.now asked.now.from) self.old.kept.items) self.old.kept.items)
+            asked.now.strict self.new.tally.lines
+            (W.contents (inner_of writer.old)) (W.contents (inner_of writer.new)) (has_failed writer.new)
+            self.old.gathered.held.items result self.new.gathered.held.items }
     {
-        let line = self.kept.as_slice();
-        let fate = line_fate(asked.policy, asked.from, line);
-        self.counts = self.counts.with(fate);
-        if is_wanted(asked.wanted, fate) {
-            write_all(writer, self.kept.as_slice())
-        } else {
-            Ok(())
+        let fate = line_fate(asked.decider, asked.from, self.kept.as_slice());
+        self.tally.count(fate);
+        match fate {
+            Fate::Refused(why) => {
+                let line = self.tally.lines;
+                refuse(
+                    asked.strict,
+                    RefusedLine { line, why },
+                    &mut self.gathered,
+                    writer,
+                )
+            }
+            Fate::Passed(_) | Fate::Blocked(_) | Fate::Silent => {
+                let front = asked.report.front(fate);
+                self.gathered.put_line(front, self.kept.as_slice(), writer)
+            }
         }
     }
+}
+
+/// Ends the judging where it is strict, once what is held is written.
+fn refuse<W: Write>(
+    strict: bool,
+    refused: RefusedLine,
+    gathered: &mut Gathered,
+    writer: &mut Tried<W>,
+) -> Result<(), JudgeFault>
+    requires { has_failed writer.old ≡ false }
+    ensures { Refuses strict refused (W.contents (inner_of writer.old)) (W.contents (inner_of writer.new))
+        (has_failed writer.new) gathered.old.held.items result gathered.new.held.items }
+{
+    if !strict {
+        return Ok(());
+    }
+    gathered.flush(writer)?;
+    Err(JudgeFault::Refused(refused))
 }
 
 /// Whether a line feed ends a part.

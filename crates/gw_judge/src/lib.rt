@@ -1,12 +1,22 @@
-//! Logs, judged: which of their lines say a frame that a policy passes.
+//! Logs, judged: which of their lines say a frame that a policy passes, and which rule of a table decides each.
 #![tactic(auto)]
 
 mod counts;
+mod decider;
 mod fate;
+mod fault;
+mod gathered;
 mod judging;
 mod parts;
+mod report;
+mod tally;
 mod whole;
 
 pub use counts::Counts;
-pub use fate::{Fate, Wanted, line_fate};
-pub use whole::{JudgeFault, judge};
+pub use decider::Decider;
+pub use fate::{Fate, line_fate};
+pub use fault::{JudgeFault, RefusedLine};
+pub use judging::Asked;
+pub use report::{Report, Wanted};
+pub use tally::{Cause, MAX_RULES, Tally};
+pub use whole::judge;

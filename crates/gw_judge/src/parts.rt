@@ -1,6 +1,6 @@
 //! Parts of lines, as a reader gives them.
 
-ghost use Rattle.std.specs.Prelude.{◌≡◌, ◌<◌, ◌≤◌, [], true, length, take, OnOk, OnErr};
+ghost use Rattle.std.specs.Prelude.{◌≡◌, ◌<◌, ◌≤◌, ◌==◌, [], true, length, take, OnOk, OnErr};
 ghost use Rattle.gw_io.specs.Tries.{inner_of, has_failed};
 ghost use Rattle.gw_judge.specs.LineParts.{IsLinePart};
 
@@ -88,6 +88,13 @@ impl Parts {
             }
             Err(_) => Err(ReadFault),
         }
+    }
+
+    /// Whether nothing that was read is left behind the part, so that the next part is read.
+    pub fn is_used_up(&self) -> bool
+        ensures { result ≡ (length self.now.rest == 0) }
+    {
+        self.end == self.len
     }
 
     /// The part.

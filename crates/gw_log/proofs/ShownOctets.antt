@@ -1,5 +1,5 @@
 -- The words of the display that are no octets.
-use Rattle.std.proofs.Common.{◌≡◌, ℕ, zero, suc, ◌<◌, ◌≤◌, Bool, true, false, not, List, [], ◌∷◌, length, take, get_or}
+use Rattle.std.proofs.Common.{◌≡◌, ℕ, zero, suc, ◌<◌, Bool, true, false, not, List, [], ◌∷◌, length, take, get_or}
 use Rattle.std.proofs.Common.{refl, inl, inr, arith}
 use Rattle.std.specs.Prelude.{nat_lt, ◌&&◌, ◌||◌}
 use Rattle.std.specs.List.{list_all}

@@ -4,7 +4,8 @@ use Rattle.gw_judge.proofs.PartLengths.{ended_part, endless_part}
 use Rattle.gw_judge.proofs.parts.part_len.Goals as goal
 
 pub returns-then-end-text-clause-line : goal.returns-then-end-text-clause-line
-returns-then-end-text-clause-line c = ended_part c.args.text.now c.position_of-end.result c.position_of-end.ensures.place (omega arith)
+returns-then-end-text-clause-line c =
+    ended_part c.args.text.now c.position_of-end.result c.position_of-end.ensures.place (omega arith)
 
 pub returns-else-end-text-clause-line : goal.returns-else-end-text-clause-line
 returns-else-end-text-clause-line c =

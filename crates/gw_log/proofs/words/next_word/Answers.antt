@@ -1,4 +1,4 @@
-use Rattle.std.proofs.Common.{◌≡◌, ℕ, ◌<◌, List, length, rules, arith, subst}
+use Rattle.std.proofs.Common.{◌≡◌, ℕ, ◌<◌, List, length, rules, subst}
 use Rattle.std.proofs.lemmas.List.{take_rest}
 use Rattle.gw_log.proofs.WordByWord.{no_word, word_in_front}
 use Rattle.gw_log.proofs.words.next_word.Goals as goal

@@ -1,34 +1,31 @@
-use Rattle.std.proofs.Common.{◌≡◌, [], length, append-nil, sym, ◌∙◌, rules}
-use Rattle.gw_io.specs.Tries.{inner_of}
-use Rattle.gw_judge.specs.Judged.{fate_of}
-use Rattle.gw_judge.specs.UnderWay.{kept_text}
-use Rattle.gw_judge.proofs.PartByPart.{appended_nothing}
-use Rattle.gw_judge.proofs.Streams.{some_octets, ended_without, ended_with}
+use Rattle.std.proofs.lemmas.Result.{err_from_is_err_and}
+use Rattle.gw_io.specs.Tries.{inner_of, has_failed}
+use Rattle.gw_judge.specs.Fates.{fate_of}
+use Rattle.gw_judge.proofs.Streams.{ends_written, ends_unwritten}
 use Rattle.gw_judge.proofs.judging.Judging.end.Goals as goal
 
-pub returns-then-is_empty-clause-ended : goal.returns-then-is_empty-clause-ended
-returns-then-is_empty-clause-ended g c octets text h =
-    let asked = c.args.asked.now in
-    let empty : length c.args.self.kept.items ≡ 0 = search rules in
-    let whole = ended_without (fate_of asked.policy.now asked.from) asked.wanted octets c.args.self text h empty in
-    ([], appended_nothing (g.W.Write.contents (inner_of c.args.writer.now)), append-nil text ∙ whole.0, whole.1)
+pub returns-in_err-judge_last : goal.returns-in_err-judge_last
+returns-in_err-judge_last g c octets text h =
+    let fault = err_from_is_err_and c.from_residual.result c.from_residual.ensures.1 in
+    rw (fault.1, fault.2) (c.in_err-judge_last.ensures.closed octets text h)
 
-pub returns-in-Ok-clause-ended : goal.returns-in-Ok-clause-ended
-returns-in-Ok-clause-ended g c octets text h =
+pub returns-in_err-flush : goal.returns-in_err-flush
+returns-in_err-flush g c octets text h =
     let asked = c.args.asked.now in
-    let some = some_octets c.args.self.kept.items (sym c.is_empty.ensures ∙ c.if-is_empty.false) in
-    let whole = ended_with asked.policy.now asked.from asked.wanted octets c.args.self text c.judge_kept.new.self.counts h some
-    c.judge_kept.ensures.counts in (
-      kept_text (fate_of asked.policy.now asked.from) asked.wanted c.args.self.kept.items,
-      c.in-Ok.ensures.written,
-      whole.0,
-      whole.1,
-    )
+    let fault = err_from_is_err_and c.from_residual-in_err-flush.result c.from_residual-in_err-flush.ensures.1 in
+    rw (fault.1, fault.2) (ends_unwritten c.in_ok-judge_last.field-0 c.flush.result c.in_err-flush.field-0.0
+    (fate_of (g.D.Decider.fate_by asked.decider.now asked.from)) (g.P.Report.front_of asked.report.now) asked.strict octets text
+    (g.W.Write.contents (inner_of c.args.writer.now)) (g.W.Write.contents (inner_of c.judge_last.new.writer))
+    (g.W.Write.contents (inner_of c.flush.new.writer)) (has_failed c.judge_last.new.writer) (has_failed c.flush.new.writer)
+    c.judge_last.new.self c.flush.new.self.held.items c.in_err-flush.was (c.in_ok-judge_last.ensures.closed octets text h)
+    c.flush.ensures.written)
 
-pub returns-in-Err-clause-ended : goal.returns-in-Err-clause-ended
-returns-in-Err-clause-ended g c octets text h =
+pub returns : goal.returns
+returns g c octets text h =
     let asked = c.args.asked.now in
-    let some = some_octets c.args.self.kept.items (sym c.is_empty.ensures ∙ c.if-is_empty.false) in
-    let whole = ended_with asked.policy.now asked.from asked.wanted octets c.args.self text c.judge_kept.new.self.counts h some
-    c.judge_kept.ensures.counts in
-    (kept_text (fate_of asked.policy.now asked.from) asked.wanted c.args.self.kept.items, c.in-Err.ensures.part, whole.0)
+    ends_written c.in_ok-judge_last.field-0 c.in_ok-flush.field-0
+    (fate_of (g.D.Decider.fate_by asked.decider.now asked.from)) (g.P.Report.front_of asked.report.now) asked.strict octets text
+    (g.W.Write.contents (inner_of c.args.writer.now)) (g.W.Write.contents (inner_of c.judge_last.new.writer))
+    (g.W.Write.contents (inner_of c.flush.new.writer)) (has_failed c.judge_last.new.writer) (has_failed c.flush.new.writer)
+    c.judge_last.new.self c.flush.new.self.held.items (c.in_ok-judge_last.ensures.closed octets text h)
+    c.in_ok-flush.ensures.written c.in_ok-flush.ensures.empty

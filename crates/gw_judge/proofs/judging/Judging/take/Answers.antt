@@ -1,27 +1,34 @@
-use Rattle.std.proofs.Common.{sym, ◌∙◌}
-use Rattle.gw_io.specs.Tries.{inner_of}
-use Rattle.gw_judge.specs.Judged.{fate_of}
-use Rattle.gw_judge.specs.UnderWay.{kept_text}
-use Rattle.gw_judge.proofs.PartByPart.{line_judged, takes_open, takes_line}
+use Rattle.std.proofs.Common.{ℕ, List, sym, ap, ◌∙◌, subst}
+use Rattle.gw_io.specs.Tries.{inner_of, has_failed}
+use Rattle.gw_judge.specs.Fates.{fate_of}
+use Rattle.gw_judge.specs.Counting.{tally_with}
+use Rattle.gw_judge.specs.Judged.{line_text}
+use Rattle.gw_judge.specs.UnderWay.{Judges}
+use Rattle.gw_judge.proofs.PartByPart.{takes_open, takes_line}
 use Rattle.gw_judge.proofs.judging.Judging.take.Goals as goal
 
 pub returns-then-not-ends_line-clause-taken : goal.returns-then-not-ends_line-clause-taken
 returns-then-not-ends_line-clause-taken g c octets text h =
     let asked = c.args.asked.now in
-    takes_open (fate_of asked.policy.now asked.from) asked.wanted octets c.args.part.now text
-    (g.W.Write.contents (inner_of c.args.writer.now)) c.args.self.now c.keep.new.self h c.requires.part
-    (sym c.ends_line.ensures ∙ c.if-not-ends_line.true) c.keep.ensures.kept c.keep.ensures.counts
+    takes_open (fate_of (g.D.Decider.fate_by asked.decider.now asked.from)) (g.P.Report.front_of asked.report.now) asked.strict
+    octets c.args.part.now text (g.W.Write.contents (inner_of c.args.writer.now)) c.args.self.now c.keep.new.self h
+    c.requires.part (sym c.ends_line.ensures ∙ c.if-not-ends_line.true) c.keep.ensures.kept c.keep.ensures.gathered
+    c.keep.ensures.tally
 
 pub returns-clause-taken : goal.returns-clause-taken
 returns-clause-taken g c octets text h =
     let asked = c.args.asked.now in
-    let mid = c.keep.new.self in
-    let judged = line_judged asked.policy.now asked.from asked.wanted octets c.args.part.now text c.args.self.now mid
-    (record { kept = c.clear.new.self; counts = c.judge_kept-judged.new.self.counts }) h c.requires.part
-    (sym c.ends_line.ensures ∙ c.if-not-ends_line.false) c.keep.ensures.kept c.keep.ensures.counts c.clear.ensures
-    c.judge_kept-judged.ensures.counts in
-    takes_line c.judge_kept-judged.result (fate_of asked.policy.now asked.from) asked.wanted octets c.args.part.now text
-    (kept_text (fate_of asked.policy.now asked.from) asked.wanted mid.kept.items)
-    (g.W.Write.contents (inner_of c.args.writer.now)) (g.W.Write.contents (inner_of c.judge_kept-judged.new.writer))
-    (record { kept = c.clear.new.self; counts = c.judge_kept-judged.new.self.counts }) judged
-    c.judge_kept-judged.ensures.written c.judge_kept-judged.ensures.part
+    let by : List ℕ → _ = g.D.Decider.fate_by asked.decider.now asked.from in
+    let front = g.P.Report.front_of asked.report.now in
+    let old = g.W.Write.contents (inner_of c.args.writer.now) in
+    let new = g.W.Write.contents (inner_of c.judge_kept-judged.new.writer) in
+    let kept : List ℕ = c.keep.new.self.kept.items in
+    let after = c.judge_kept-judged.new.self in
+    takes_line c.judge_kept-judged.result by front asked.strict octets c.args.part.now text kept old new
+    (has_failed c.judge_kept-judged.new.writer) c.args.self.now
+    (record { kept = c.clear.new.self; gathered = after.gathered; tally = after.tally }) h c.requires.part
+    (sym c.ends_line.ensures ∙ c.if-not-ends_line.false) c.keep.ensures.kept c.clear.ensures
+    (c.judge_kept-judged.ensures.tally ∙ ap (tally_with (fate_of by kept)) c.keep.ensures.tally)
+    (subst (λ before. Judges (fate_of by kept) (line_text front (fate_of by kept) kept) asked.strict after.tally.lines old new
+    (has_failed c.judge_kept-judged.new.writer) before.held.items c.judge_kept-judged.result after.gathered.held.items)
+    c.keep.ensures.gathered c.judge_kept-judged.ensures.judged)
