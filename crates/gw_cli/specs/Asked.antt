@@ -5,11 +5,11 @@ use Rattle.clap.specs.declared.error.kind.ErrorKind.{ErrorKind}
 use Rattle.clap.specs.declared.error.kind.ErrorKind.TheVariants.{DisplayHelp, DisplayVersion}
 use Rattle.gw_ledger.specs.Bounds.{Bounds}
 use Rattle.gw_commands.specs.Commands.{Does, Writes, WritesText}
-use Rattle.gw_commands.specs.Forwarding.{ForwardsNamed}
+use Rattle.gw_run.specs.Forwarding.{ForwardsNamed}
 use Rattle.gw_commands.specs.Replays.{Replays}
 use Rattle.gw_commands.specs.Queries.{AnswersQuery, RefusesQuery}
 use Rattle.gw_commands.specs.declared.query.Query.{Query}
-use Rattle.gw_commands.specs.declared.run_command.PolicySource.{PolicySource}
+use Rattle.gw_commands.specs.declared.policies.PolicySource.{PolicySource}
 use Rattle.gw_commands.specs.declared.refusal.Refusal.TheVariants.{OutOfMemory}
 
 -- what `clap` answers is help or the version

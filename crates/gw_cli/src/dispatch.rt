@@ -7,9 +7,9 @@ ghost use Rattle.gw_commands.specs.Commands.{Does, WritesText};
 ghost use Rattle.gw_commands.specs.Verdicts.{AnswersVerdict, RefusesVerdict};
 ghost use Rattle.gw_cli.specs.Asked.{AnswersWords, DoesWords};
 
-use crate::arguments::{Request, read_arguments};
 use clap::Error;
 use clap::error::ErrorKind;
+use gw_arguments::{Request, read_arguments};
 use gw_commands::{Query, Refusal, answer_query, replay, respond};
 use gw_io::{Tried, WriteFault, write_all};
 use std::alloc::Global;

@@ -1,9 +1,7 @@
 #![tactic(auto)]
-//! The command line of the program `gw`: its arguments, which name a command of gw_commands.
+//! The command line of the program `gw`: what its arguments ask for is done by gw_commands and gw_run.
 
-mod arguments;
 mod dispatch;
-mod run_arguments;
 mod running;
 
 pub use dispatch::command;

@@ -2,13 +2,13 @@
 
 ghost use Rattle.std.specs.Prelude.{◌≡◌, false, vec_len};
 ghost use Rattle.gw_io.specs.Tries.{inner_of, has_failed, reads_of};
-ghost use Rattle.gw_commands.specs.Forwarding.{ForwardsNamed};
+ghost use Rattle.gw_run.specs.Forwarding.{ForwardsNamed};
 ghost use Rattle.gw_cli.specs.Asked.{RunsWords};
 
 use crate::dispatch::answer_words;
-use crate::run_arguments::{RunRequest, read_run};
-use gw_commands::{NoObserver, ProgressOnStderr, forward_named};
+use gw_arguments::{RunRequest, read_run};
 use gw_io::Tried;
+use gw_run::{NoObserver, ProgressOnStderr, forward_named};
 use std::alloc::Global;
 use std::convert::AsStr;
 use std::io::{IsTerminal, Read, Write};

@@ -1,7 +1,7 @@
 -- Lines that name records, one after another.
-use Rattle.std.proofs.Common.{◌≡◌, ℕ, zero, suc, ◌+◌, ◌<◌, ◌-◌, ◌^◌, ◌||◌, Bool, true, false, not, ◌&&◌, List, [], ◌∷◌, ◌++◌}
+use Rattle.std.proofs.Common.{◌≡◌, ℕ, ◌+◌, ◌<◌, ◌-◌, ◌^◌, ◌||◌, Bool, true, false, not, ◌&&◌, List, [], ◌∷◌, ◌++◌}
 use Rattle.std.proofs.Common.{Result, Ok, Err, length, replicate, take, get_or, reverse, flat_map, Option, Some, None, refl, ap}
-use Rattle.std.proofs.Common.{sym, ◌∙◌, add-zero, add-one, zero-add, append_assoc, subst, arith}
+use Rattle.std.proofs.Common.{sym, ◌∙◌, append_assoc, subst, arith}
 use Rattle.std.specs.Prelude.{is_none, is_err, option_map}
 use Rattle.std.specs.List.{list_any, position, range_with_len}
 use Rattle.std.specs.Option.{option_and_then, option_map_or}
@@ -10,7 +10,6 @@ use Rattle.std.specs.Fmt.{AppendsText, char_count, decimal, digits, format_spec,
 use Rattle.std.proofs.lemmas.Bool.{false≢true, le-ltb, lt-ltb}
 use Rattle.std.proofs.lemmas.List.{append-nil, get_or-take, length-take, reverse-append, take_more}
 use Rattle.std.proofs.lemmas.List.Elements.{filter_map-append}
-use Rattle.std.proofs.lemmas.Grind.{flat_map-append}
 use Rattle.std.proofs.lemmas.List.Folds.{list_any_at, list_any_more}
 use Rattle.std.proofs.lemmas.List.Sums.{position_or_len_is}
 use Rattle.gw_frame.specs.Record.{IsRecord, refusal_of}
@@ -134,21 +133,6 @@ holder_printed before after address name printed is text =
     λ o. AppendsText before after (Some (decimal address) ++? (Some (32 ∷ []) ++? (o ++? Some (10 ∷ [])))) in
     let known : after ≡ before ++ (decimal address ++ (32 ∷ (name_digits name ++ 10 ∷ []))) = subst P is text in
     known ∙ ap (λ line. before ++ line) (sym (append_assoc (decimal address) (32 ∷ name_digits name) (10 ∷ [])))
-
-pub range_more : (a n : ℕ) → range_with_len a (suc n) ≡ range_with_len a n ++ (a + n) ∷ []
-range_more a zero = ap (λ m. m ∷ []) (sym (add-zero a))
-range_more a (suc n) =
-    let next : (a + 1) + n ≡ a + suc n = omega arith in
-    ap (λ all. a ∷ all) (range_more (a + 1) n ∙ ap (λ m. range_with_len (a + 1) n ++ m ∷ []) next)
-
--- one address more
-pub lines_more : (table : List (Option ℕ)) (n : ℕ) → flat_map (line_at table) (range_with_len 0 (n + 1))
-    ≡ flat_map (line_at table) (range_with_len 0 n) ++ line_at table n
-lines_more table n =
-    ap (flat_map (line_at table)) (ap (range_with_len 0) (add-one n) ∙ range_more 0 n
-    ∙ ap (λ m. range_with_len 0 n ++ m ∷ []) (zero-add n))
-    ∙ flat_map-append (line_at table) (range_with_len 0 n) (n ∷ [])
-    ∙ ap (λ last. flat_map (line_at table) (range_with_len 0 n) ++ last) (append-nil (line_at table n))
 
 pub lines_done : (table : List (Option ℕ)) (n : ℕ) (text : List ℕ) → n ≡ 254
     → text ≡ flat_map (line_at table) (range_with_len 0 n) → text ≡ holder_lines table

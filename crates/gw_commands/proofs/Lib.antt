@@ -1,8 +1,6 @@
 mod LinesExamples
+pub mod Callers
 pub mod ClaimLines
 pub mod EndedEarly
-pub mod FirstBatch
-pub mod Forwarded
-pub mod Forwards
 pub mod PathsTold
 pub mod RefusalTexts

@@ -4,7 +4,7 @@ pub mod Assemblies
 pub mod Checks
 pub mod ClaimLines
 pub mod Commands
-pub mod Forwarding
+pub mod Policies
 pub mod Queries
 pub mod Refusals
 pub mod Replays

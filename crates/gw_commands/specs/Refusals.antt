@@ -1,20 +1,13 @@
 -- The lines of refusals.
 use Rattle.std.specs.Prelude.{ℕ, Option, Some, None, List, [], ◌∷◌}
-use Rattle.gw_frame.specs.Record.{refusal_number}
 use Rattle.gw_insn.specs.Listing as listing
 use Rattle.gw_verify.specs.Cause.{cause_number}
 use Rattle.gw_text.specs.Assembly as asm
-use Rattle.gw_ports.specs.Refusals.{offer_refusal_number}
-use Rattle.gw_ports.specs.Runs.{run_refusal_number}
 use Rattle.gw_table.specs.TableText as table
-use Rattle.gw_trace.specs.Refusals as trace
-use Rattle.gw_trace.specs.declared.refusal.TraceRefusal.{TraceRefusal}
-use Rattle.gw_trace.specs.declared.refusal.TraceRefusal.TheVariants.{BadRecord}
 use Rattle.gw_commands.specs.declared.refusal.Refusal.{Refusal}
 use Rattle.gw_commands.specs.declared.refusal.Refusal.TheVariants as refusal
 use Rattle.gw_commands.specs.declared.refusal.Refusal.TheVariants.{Record, RecordOnLine, Listing, Program, Explained, Assembler}
-use Rattle.gw_commands.specs.declared.refusal.Refusal.TheVariants.{Table, Trace, Run, Stopped}
-use Rattle.gw_commands.specs.declared.refusal.Refusal.TheVariants.{ReadFault, TooMuchInput, NotUtf8}
+use Rattle.gw_commands.specs.declared.refusal.Refusal.TheVariants.{Table, ReadFault, TooMuchInput, NotUtf8}
 use Rattle.gw_input.specs.Records.{record_number}
 use Rattle.gw_input.specs.Refused.{listing_details, cause_details, table_details}
 use Rattle.gw_input.specs.Refused.{refused_line}
@@ -28,9 +21,6 @@ number_of (Explained refused path lines) = cause_number refused.why
 number_of (Assembler why text) = asm.refusal_number why
 number_of ReadFault = 96
 number_of (Table why) = table.refusal_number why
-number_of (Trace why) = trace.refusal_number why
-number_of (Run why) = run_refusal_number why
-number_of (Stopped port why) = offer_refusal_number why
 number_of TooMuchInput = 98
 number_of NotUtf8 = 98
 number_of refusal.OutOfMemory = 100
@@ -40,13 +30,7 @@ abbrev pub line_details : Option ℕ → List ℕ
 line_details (Some line) = line ∷ []
 line_details None = []
 
--- the record of a trace, and the number of what is wrong with it
-abbrev pub trace_details : TraceRefusal → List ℕ
-trace_details (BadRecord index why) = index ∷ refusal_number why ∷ []
-trace_details _ = []
-
--- what a refusal names: the line, the instruction that is not there, the place, the place and the scratch word, the rule, the
--- record and the number of what is wrong with it
+-- what a refusal names: the line, the instruction that is not there, the place, the place and the scratch word, the rule
 abbrev pub details_of : Refusal → List ℕ
 details_of (RecordOnLine line fault) = line ∷ []
 details_of (Listing why) = listing_details why
@@ -54,7 +38,6 @@ details_of (Program refused path) = cause_details refused.why refused.place
 details_of (Explained refused path lines) = cause_details refused.why refused.place
 details_of (Assembler why text) = line_details (asm.refusal_line why)
 details_of (Table why) = table_details why
-details_of (Trace why) = trace_details why
 details_of _ = []
 
 abbrev pub refusal_line : Refusal → List ℕ

@@ -31,9 +31,6 @@ impl Display for Refusal {
             },
             Refusal::ReadFault => f.write_str("the input could not be read"),
             Refusal::Table(why) => write!(f, "{why}"),
-            Refusal::Trace(why) => write!(f, "{why}"),
-            Refusal::Run(why) => write!(f, "{why}"),
-            Refusal::Stopped { port, why } => write!(f, "port {port} stopped: {why}"),
             Refusal::NotUtf8 => f.write_str("the input is no text: it is not UTF-8"),
             Refusal::TooMuchInput => f.write_str(
                 "the input has more than 1048576 octets, the most that are read",

@@ -6,23 +6,23 @@ mod asm_command;
 mod check_command;
 mod claims_command;
 mod explanation;
+mod files;
 mod list_command;
 mod notes;
+mod policies;
 mod query;
 mod refusal;
 mod replay_command;
 mod responding;
-mod run_command;
 mod streams;
 mod table_command;
 mod texts;
 mod verdict_command;
 
 pub use answer::Answer;
+pub use files::read_file;
+pub use policies::{PolicySource, policy};
 pub use query::{Query, answer_query};
 pub use refusal::Refusal;
 pub use replay_command::replay;
-pub use responding::respond;
-pub use run_command::{
-    NoObserver, Observer, PolicySource, ProgressOnStderr, forward, forward_named,
-};
+pub use responding::{respond, write_refusal};

@@ -8,10 +8,8 @@ ghost use Rattle.gw_commands.specs.Refusals.{line_details};
 use gw_input::{Line, RecordFault, refused, refused_code};
 use gw_insn::ListRefusal;
 use gw_io::ReadFault;
-use gw_ports::{OfferRefusal, RunRefusal};
 use gw_table::TableRefusal;
 use gw_text::AsmRefusal;
-use gw_trace::TraceRefusal;
 use gw_verify::{Path, Refused};
 use std::alloc::{AllocError, AllocFailed};
 
@@ -48,15 +46,6 @@ pub enum Refusal {
     },
     /// 50 to 55: a text that is no table.
     Table(TableRefusal),
-    /// 90 to 93, 95 and 96: octets that are no trace.
-    Trace(TraceRefusal),
-    /// 71, 77, 80 to 83, 85 and 86: no run of a gateway, or no report of one.
-    Run(RunRefusal),
-    /// 76 and 77: a port of a run stopped before its frames were at an end.
-    Stopped {
-        port: usize,
-        why: OfferRefusal,
-    },
     /// 98: an input of more than 1048576 octets.
     TooMuchInput,
     /// 98: a text that is not UTF-8.
@@ -82,9 +71,6 @@ impl Refusal {
             Refusal::Assembler { why, .. } => why.number(),
             Refusal::ReadFault => 96,
             Refusal::Table(why) => why.number(),
-            Refusal::Trace(why) => why.number(),
-            Refusal::Run(why) => why.number(),
-            Refusal::Stopped { why, .. } => why.number(),
             Refusal::TooMuchInput => 98,
             Refusal::NotUtf8 => 98,
             Refusal::OutOfMemory => 100,
@@ -92,7 +78,7 @@ impl Refusal {
     }
 
     /// The line that tells the refusal.
-    pub(crate) fn line(&self) -> Line
+    pub fn line(&self) -> Line
         ensures { result ≡ refusal_line self.now }
     {
         let number = self.number();
@@ -101,9 +87,6 @@ impl Refusal {
             Refusal::Listing(ListRefusal::BadField { index }) => refused(number, &[*index as u64]),
             Refusal::Assembler { why, .. } => refused_on_line(number, why.line()),
             Refusal::Table(TableRefusal::BadRange { rule, .. }) => refused(number, &[*rule as u64]),
-            Refusal::Trace(TraceRefusal::BadRecord { index, why }) => {
-                refused(number, &[*index as u64, u64::from(why.number())])
-            }
             Refusal::Program { refused, .. } | Refusal::Explained { refused, .. } => {
                 refused_code(refused.why, refused.place)
             }

@@ -8,6 +8,7 @@ ghost use Rattle.gw_commands.specs.Refusals.{refusal_text};
 use crate::answer::Answer;
 use crate::refusal::Refusal;
 use gw_io::{Tried, WriteFault, write_all};
+use std::fmt::Display;
 use std::io::Write;
 
 /// Writes what a command found, and gives its status: 0 for an answer, 1 for a refusal or where a write failed. What is
@@ -49,9 +50,9 @@ fn refuse<W: Write, F: Write>(refusal: &Refusal, output: &mut Tried<W>, faults: 
 }
 
 /// Writes the text of a refusal, tells a person of it, and gives the status 1.
-fn write_refusal<W: Write, F: Write>(
+pub fn write_refusal<D: Display, W: Write, F: Write>(
     text: &[u8],
-    refusal: &Refusal,
+    refusal: &D,
     output: &mut Tried<W>,
     faults: &mut Tried<F>,
 ) -> u8

@@ -2,7 +2,8 @@ use Rattle.std.proofs.Common.{◌++◌, flat_map, sym, ◌∙◌, ap, string_byt
 use Rattle.std.proofs.lemmas.List.{append-nil}
 use Rattle.std.specs.List.{range_with_len}
 use Rattle.gw_commands.specs.ClaimLines.{holder_line, line_at}
-use Rattle.gw_commands.proofs.ClaimLines.{lines_more, lines_done, line_held, line_free}
+use Rattle.gw_commands.proofs.Callers.{lines_more}
+use Rattle.gw_commands.proofs.ClaimLines.{lines_done, line_held, line_free}
 use Rattle.gw_commands.proofs.claims_command.holders.Goals as goal
 use Rattle.gw_commands.proofs.claims_command.holders.Goals.{in-Some+in_ok-push_holder, in_default}
 
@@ -11,7 +12,7 @@ loop-address-preserved c =
     let table = c.args.claims.now in
     let n = c.loop-address.address in
     let before = flat_map (line_at table) (range_with_len 0 n) in
-    let more = sym (lines_more table n) in
+    let more = sym (lines_more (line_at table) n) in
     elim c.match-holder.branch [
       | in-Some+in_ok-push_holder w ↦
           ap string_bytes w.text-is ∙ w.in_ok-push_holder.ensures

@@ -1,0 +1,200 @@
+//! The arguments of the command line.
+
+use crate::run_arguments::{run_arguments, wrong};
+use clap::{Arg, ArgAction, ArgMatches, Command, Error, value_parser};
+use gw_commands::Query;
+use gw_ledger::MAX_PORTS;
+use std::alloc::{AllocError, Global};
+use std::convert::AsStr;
+
+/// What the arguments ask for.
+#[derive(Clone, Copy)]
+pub enum Request<'a> {
+    /// An answer to the whole input.
+    Query(Query<'a>),
+    /// `replay`.
+    Replay,
+}
+
+/// The version that `--version` tells.
+const VERSION: &str = "0.1.0";
+
+/// A command with what its help shows: what it is about, how it is written, and an example.
+pub fn described<'a>(
+    alloc: Global,
+    name: &'a str,
+    about: &'a str,
+    usage: &'a str,
+    example: &'a str,
+) -> Command<'a> {
+    Command::new(alloc, name)
+        .about(about)
+        .override_usage(usage)
+        .after_help(example)
+}
+
+/// An option with a value, which help calls by this name.
+pub fn valued<'a>(alloc: Global, name: &'a str, value: &'a str, help: &'a str) -> Arg<'a> {
+    Arg::new(alloc, name)
+        .long(name)
+        .value_name(value)
+        .help(help)
+}
+
+/// An option that is set or is not.
+pub fn flag<'a>(alloc: Global, name: &'a str, help: &'a str) -> Arg<'a> {
+    Arg::new(alloc, name)
+        .long(name)
+        .action(ArgAction::SetTrue)
+        .help(help)
+}
+
+/// The option that names the ingress port of a frame.
+fn ingress_port<'a>(alloc: Global) -> Arg<'a> {
+    valued(
+        alloc,
+        "port",
+        "P",
+        "The port at which the frame was taken, 0 to 15, `from` in a table [default: 0]",
+    )
+    .value_parser(value_parser!(u8).range(0..=MAX_PORTS as i64 - 1))
+}
+
+fn verdict_command<'a>(alloc: Global) -> Result<Command<'a>, AllocError> {
+    let record = Arg::new(alloc, "record").value_name("HEX").help(
+        "The record in hexadecimal digits; without it, the first line of the input is the record",
+    );
+    described(
+        alloc,
+        "verdict",
+        "Runs a program's listing on a record: `pass <answer>` or `block`",
+        "gw verdict [--port P] [HEX] < LISTING",
+        "Example: gw verdict 98FEF10008000000FFFFFFFFFFFFFFFF <<< '4,48 0 0 1,21 0 1 254,6 0 0 1,6 0 0 0,'",
+    )
+    .arg(ingress_port(alloc))?
+    .arg(record)
+}
+
+fn table_command<'a>(alloc: Global) -> Result<Command<'a>, AllocError> {
+    let frame = valued(
+        alloc,
+        "frame",
+        "HEX",
+        "A record in hexadecimal digits: tells whether the table passes it",
+    );
+    let why = flag(
+        alloc,
+        "why",
+        "Tells on stderr which rule decides the frame, counted from 0",
+    );
+    described(
+        alloc,
+        "table",
+        "Compiles a policy table to a program's listing, or tells `pass` or `block` for a frame",
+        "gw table [--frame HEX [--why]] [--port P] < TABLE",
+        "Example: gw table --port 1 --frame 98EA00F903000000EBFE000000000000 < examples/diagnostics-port.toml",
+    )
+    .arg(ingress_port(alloc))?
+    .arg(frame)?
+    .arg(why.requires_arg("frame")?)
+}
+
+// A function has few commands in hand: each `?` behind them pays for letting them go.
+
+/// The program without its commands.
+fn bare_program<'a>(alloc: Global) -> Command<'a> {
+    described(
+        alloc,
+        "gw",
+        "A gateway for SAE J1939 vehicle networks: forwarding filters that cannot go wrong",
+        "gw [COMMAND] < FILE",
+        "Each command reads the standard input. Without a command the first line of the input is a record and a listing \
+        follows.\nA record is written 98FEF100 08 000000 and the payload, without spaces.",
+    )
+    .version(VERSION)
+    .no_binary_name(true)
+    .subcommand_required(true)
+}
+
+/// The program with the commands that take no arguments behind those that it has.
+fn with_plain<'a>(alloc: Global, program: Command<'a>) -> Result<Command<'a>, AllocError> {
+    program
+        .subcommand(described(
+            alloc,
+            "check",
+            "Checks a program's listing: `accepted <count>`, or why it is refused",
+            "gw check < LISTING",
+            "Example: gw check <<< '2,48 0 0 1,22 0 0 0,'",
+        ))?
+        .subcommand(described(
+            alloc,
+            "asm",
+            "Assembles a program's text to its listing",
+            "gw asm < TEXT",
+            "Example: gw asm < examples/speed-limit.asm",
+        ))?
+        .subcommand(described(
+            alloc,
+            "list",
+            "Writes the text of a listing's program, which `asm` reads back",
+            "gw list < LISTING",
+            "Example: gw list <<< '2,48 0 0 1,22 0 0 0,'",
+        ))?
+        .subcommand(described(
+            alloc,
+            "claims",
+            "Tells who holds which address after the records heard, one in hexadecimal digits a line",
+            "gw claims < RECORDS",
+            "Example: gw claims <<< 98EEFF80080000000500000000000000",
+        ))?
+        .subcommand(described(
+            alloc,
+            "replay",
+            "Runs a script of a gateway's events, and writes the answer of each line",
+            "gw replay < SCRIPT",
+            "Example: gw replay < examples/replay/full-lane.script",
+        ))
+}
+
+/// The commands, as `clap` reads them and shows their help.
+fn commands<'a>(alloc: Global) -> Result<Command<'a>, AllocError> {
+    let program = bare_program(alloc).subcommand(verdict_command(alloc)?)?;
+    with_plain(alloc, program)?
+        .subcommand(table_command(alloc)?)?
+        .subcommand(run_arguments(alloc)?)
+}
+
+/// What `clap` finds in the arguments, or its answer to them: help, or what is wrong.
+pub fn matched<'a, S: AsStr>(alloc: Global, words: &'a [S]) -> Result<ArgMatches<'a>, Error> {
+    commands(alloc)?.try_get_matches_from(words)
+}
+
+/// What the arguments ask for, or `clap`'s answer to them. Arguments that name `run`, but not first, are wrong.
+pub fn read_arguments<'a, S: AsStr>(alloc: Global, words: &'a [S]) -> Result<Request<'a>, Error> {
+    let matches = matched(alloc, words)?;
+    match matches.subcommand() {
+        Some(("replay", _)) => Ok(Request::Replay),
+        Some(("run", _)) => Err(wrong(alloc, "`run` must be the first word")),
+        Some((name, found)) => Ok(Request::Query(named_query(name, found))),
+        None => Ok(Request::Query(Query::Check)),
+    }
+}
+
+/// The query of this name, with what is found in its arguments.
+fn named_query<'a>(name: &str, found: &ArgMatches<'a>) -> Query<'a> {
+    match name {
+        "verdict" => Query::Verdict {
+            port: found.get_one::<u8>("port").unwrap_or(0),
+            record: found.get_str("record"),
+        },
+        "asm" => Query::Asm,
+        "list" => Query::List,
+        "claims" => Query::Claims,
+        "table" => Query::Table {
+            port: found.get_one::<u8>("port").unwrap_or(0),
+            frame: found.get_str("frame"),
+            why: found.get_flag("why"),
+        },
+        _ => Query::Check,
+    }
+}

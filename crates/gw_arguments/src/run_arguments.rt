@@ -1,0 +1,244 @@
+//! The arguments of `gw run`.
+
+ghost use Rattle.std.specs.Prelude.{◌≡◌, length, vec_len, IfOk};
+
+use crate::arguments::{described, flag, matched, valued};
+use clap::error::ErrorKind;
+use clap::{Arg, ArgAction, ArgMatches, Command, Error, value_parser};
+use gw_commands::PolicySource;
+use gw_ledger::{Limits, MAX_PORTS};
+use std::alloc::{AllocError, Global};
+use std::convert::AsStr;
+
+/// The most frames of a port.
+const FRAMES: u32 = u32::MAX;
+
+/// How many copies may wait in a lane where the arguments do not say.
+const LANE: u32 = 64;
+
+/// What `gw run` is asked for.
+#[derive(Drop)]
+pub struct RunRequest<'a> {
+    pub limits: Limits,
+    /// Where each port's policy comes from.
+    pub sources: Vec<PolicySource<'a>>,
+    pub lanes: bool,
+    pub progress: bool,
+}
+
+/// The command `run`, as `clap` reads it and shows its help.
+pub fn run_arguments<'a>(alloc: Global) -> Result<Command<'a>, AllocError> {
+    described(
+        alloc,
+        "run",
+        "Forwards the frames of a trace in threads, and tells what each port took and let leave",
+        "gw run --ports N [--lane N] [--program LISTING] [--table P=FILE].. [--listing P=FILE].. \
+        [--lanes] [--progress] < TRACE",
+        "Example: gw run --ports 2 --program '1,6 0 0 1,' < TRACE",
+    )
+    .arg(ports_option(alloc))?
+    .arg(lane_option(alloc))?
+    .arg(valued(
+        alloc,
+        "program",
+        "LISTING",
+        "The listing of a program that decides what leaves at each port that no other option names",
+    ))?
+    .arg(file_option(
+        alloc,
+        "table",
+        "A table that decides what leaves at port P; once for each port",
+    ))?
+    .arg(file_option(
+        alloc,
+        "listing",
+        "A file with a program's listing that decides what leaves at port P; once for each port",
+    ))?
+    .arg(flag(
+        alloc,
+        "lanes",
+        "Tells behind the ports what was placed and lost on the way from each port to each other",
+    ))?
+    .arg(flag(
+        alloc,
+        "progress",
+        "Tells on stderr, once a second, how many frames are done",
+    ))
+}
+
+fn ports_option<'a>(alloc: Global) -> Arg<'a> {
+    valued(
+        alloc,
+        "ports",
+        "N",
+        "The number of ports, 2 to 16; frame i of the trace is taken at port i mod N",
+    )
+    .required(true)
+    .value_parser(value_parser!(u32).range(2..=MAX_PORTS as i64))
+}
+
+fn lane_option<'a>(alloc: Global) -> Arg<'a> {
+    valued(
+        alloc,
+        "lane",
+        "N",
+        "How many copies may wait on the way from one port to another, 1 to 1024 [default: 64]",
+    )
+    .value_parser(value_parser!(u32).range(1..=1024))
+}
+
+/// An option that names a file for a port, once for each.
+fn file_option<'a>(alloc: Global, name: &'a str, help: &'a str) -> Arg<'a> {
+    valued(alloc, name, "P=FILE", help).action(ArgAction::Append)
+}
+
+/// What the arguments ask for where they name the command `run`, or `clap`'s answer to them: help, or what is wrong.
+pub fn read_run<'a, S: AsStr>(alloc: Global, words: &'a [S]) -> Result<RunRequest<'a>, Error>
+    ensures { IfOk result (λ run. vec_len run.sources ≡ run.limits.ports) }
+{
+    let matches = matched(alloc, words)?;
+    match matches.subcommand() {
+        Some(("run", run)) => asked(alloc, run),
+        _ => Err(wrong(alloc, "this is not the command `run`")),
+    }
+}
+
+/// What the arguments behind `run` ask for.
+fn asked<'a>(alloc: Global, run: &ArgMatches<'a>) -> Result<RunRequest<'a>, Error>
+    ensures { IfOk result (λ run. vec_len run.sources ≡ run.limits.ports) }
+{
+    let limits = asked_limits(alloc, run)?;
+    let sources = asked_sources(alloc, run, limits.ports() as usize)?;
+    Ok(RunRequest {
+        limits,
+        sources,
+        lanes: run.get_flag("lanes"),
+        progress: run.get_flag("progress"),
+    })
+}
+
+/// The limits of the gateway.
+fn asked_limits(alloc: Global, run: &ArgMatches) -> Result<Limits, Error> {
+    let ports = run.get_one::<u32>("ports").unwrap_or(2);
+    let lane = run.get_one::<u32>("lane").unwrap_or(LANE);
+    match Limits::new(ports, lane, 1, FRAMES) {
+        Ok(limits) => Ok(limits),
+        Err(_) => Err(wrong(
+            alloc,
+            "a gateway has 2 to 16 ports, and lanes of 1 to 1024 copies",
+        )),
+    }
+}
+
+/// Where the policy of each of so many ports comes from.
+fn asked_sources<'a>(
+    alloc: Global,
+    run: &ArgMatches<'a>,
+    ports: usize,
+) -> Result<Vec<PolicySource<'a>>, Error>
+    ensures { IfOk result (λ sources. vec_len sources ≡ ports) }
+{
+    let program = run.get_str("program");
+    let tables = run.get_strs("table").unwrap_or(&[]);
+    let listings = run.get_strs("listing").unwrap_or(&[]);
+    if program.is_none() && tables.is_empty() && listings.is_empty() {
+        return Err(wrong(
+            alloc,
+            "no policy is given: name one by --program LISTING, --table P=FILE or --listing P=FILE",
+        ));
+    }
+    let others = program.map_or(PolicySource::Opening, PolicySource::Program);
+    let mut sources = vec![in alloc; others; ports]?;
+    name_files(alloc, tables, FileKind::Table, &mut sources)?;
+    name_files(alloc, listings, FileKind::Listing, &mut sources)?;
+    Ok(sources)
+}
+
+/// What a file of a source has.
+#[derive(Clone, Copy)]
+enum FileKind {
+    Table,
+    Listing,
+}
+
+/// Names files of a kind for their ports.
+fn name_files<'a>(
+    alloc: Global,
+    words: &[&'a str],
+    kind: FileKind,
+    sources: &mut [PolicySource<'a>],
+) -> Result<(), Error>
+    ensures { length sources.new ≡ length sources.old }
+{
+    for word in words {
+        let (port, file) = match named_port(word, sources) {
+            Ok(named) => named,
+            Err(fault) => return Err(wrong(alloc, &told(alloc, word, sources.len(), fault)?)),
+        };
+        if let Some(place) = sources.get_mut(port) {
+            *place = match kind {
+                FileKind::Table => PolicySource::Table(file),
+                FileKind::Listing => PolicySource::Listing(file),
+            };
+        }
+    }
+    Ok(())
+}
+
+/// Why a word names no port and its file.
+#[derive(Clone, Copy)]
+enum WordFault<'a> {
+    /// It is no `P=FILE`.
+    NoFile,
+    /// The port is not there.
+    NoPort,
+    /// A file is named for this port before.
+    Twice(&'a str),
+}
+
+/// The port and the file of `P=FILE`, where the port is there and no file is named for it before.
+fn named_port<'a>(
+    word: &'a str,
+    sources: &[PolicySource],
+) -> Result<(usize, &'a str), WordFault<'a>> {
+    let Some((number, file)) = word.split_once('=') else {
+        return Err(WordFault::NoFile);
+    };
+    let Ok(port) = number.parse::<usize>() else {
+        return Err(WordFault::NoPort);
+    };
+    match sources.get(port) {
+        Some(PolicySource::Table(_) | PolicySource::Listing(_)) => Err(WordFault::Twice(number)),
+        Some(_) => Ok((port, file)),
+        None => Err(WordFault::NoPort),
+    }
+}
+
+/// What is told of a word that names no one of so many ports.
+fn told(alloc: Global, word: &str, ports: usize, fault: WordFault) -> Result<String, AllocError> {
+    match fault {
+        WordFault::NoFile => format!(in alloc;
+            "`{word}` is no `P=FILE`: write the number of a port, `=` and the name of a file"
+        ),
+        WordFault::NoPort => {
+            let most = ports.saturating_sub(1);
+            format!(in alloc;
+                "`{word}` names no port of {ports}: write a number from 0 to {most} before the `=`"
+            )
+        }
+        WordFault::Twice(port) => format!(in alloc;
+            "port {port} is named twice: give it one table or one listing"
+        ),
+    }
+}
+
+/// `clap`'s error with this text, and the usage.
+pub fn wrong(alloc: Global, text: &str) -> Error {
+    match run_arguments(alloc) {
+        Ok(mut command) => match command.error(ErrorKind::ValueValidation, text) {
+            Ok(error) => error,
+            Err(AllocError) => Error::from(AllocError),
+        },
+        Err(AllocError) => Error::from(AllocError),
+    }
+}

@@ -1,0 +1,3 @@
+pub mod FirstBatch
+pub mod Forwarded
+pub mod Forwards

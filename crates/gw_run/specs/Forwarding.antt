@@ -1,0 +1,230 @@
+-- What the command `run` reads, forwards and writes: `before` and `after` are what its reader has left, `old` and `new` what its
+-- writer took.
+use Rattle.std.specs.Prelude.{◌≡◌, ℕ, ◌<◌, ◌⊎◌, ◌==◌, Bool, true, false, not, ◌&&◌, if◌then◌else◌, List, [], ◌∷◌, ◌++◌, length}
+use Rattle.std.specs.Prelude.{codes, decimal, slice_get, slice_index_or, map, Option, Some, None, Result, Ok, Err, MatchResult}
+use Rattle.std.specs.Prelude.{All, Any}
+use Rattle.std.specs.Option.{option_map_or}
+use Rattle.std.specs.List.{flat_map, count_by, range_with_len}
+use Rattle.std.specs.Io.KnownBytes.{IsAtEnd, Consumes}
+use Rattle.std.specs.Iterator.{YieldsFirst}
+use Rattle.gw_policy.specs.Filter.{Filter}
+use Rattle.gw_policy.specs.Batches.{Pair, policy_after}
+use Rattle.gw_ledger.specs.Bounds.{Bounds}
+use Rattle.gw_ledger.specs.Ports.{has_port}
+use Rattle.gw_ledger.specs.declared.ledger.InLedger.{InLedger}
+use Rattle.gw_ledger.specs.declared.outcome.Outcome.{Outcome}
+use Rattle.gw_ports.specs.Runs.{IsRun, RefusesRun}
+use Rattle.gw_ports.specs.declared.refusals.OfferRefusal.{OfferRefusal}
+use Rattle.gw_ports.specs.declared.running.RunRefusal.TheVariants.{NoSuchPort}
+use Rattle.gw_ports.specs.declared.running.RunReport.{RunReport}
+use Rattle.gw_io.specs.Pieces.{most_reads}
+use Rattle.gw_trace.specs.Shares.{share_of}
+use Rattle.gw_trace.specs.Traces.{whole_trace}
+use Rattle.gw_trace.specs.declared.refusal.TraceRefusal.{TraceRefusal}
+use Rattle.gw_trace.specs.declared.refusal.TraceRefusal.TheVariants.{ReadFault}
+use Rattle.gw_commands.specs.declared.policies.PolicySource.{PolicySource}
+use Rattle.gw_commands.specs.declared.policies.PolicySource.TheVariants.{Opening}
+use Rattle.gw_commands.specs.declared.refusal.Refusal.{Refusal}
+use Rattle.gw_commands.specs.declared.refusal.Refusal.TheVariants.{OutOfMemory}
+use Rattle.gw_commands.specs.Commands.{Writes, WritesText}
+use Rattle.gw_commands.specs.Policies.{MeansPolicy, NamesFile, RefusesFile, RefusesSource}
+use Rattle.gw_run.specs.declared.refusal.ForwardRefusal.{ForwardRefusal}
+use Rattle.gw_run.specs.declared.refusal.ForwardRefusal.TheVariants.{Command, Trace, Run, Stopped}
+use Rattle.gw_run.specs.Refusals.{forward_refusal_line}
+
+-- ---- the first batch
+
+-- the policy that a port's source means
+abbrev pub MeansAt : List PolicySource → List (List ℕ) → ℕ → Option Filter → Type 0
+MeansAt sources texts port policy =
+    MeansPolicy (slice_index_or sources port Opening) (slice_index_or texts port []) policy
+
+-- in the batch each port has the policy that its source means, and no other port has one
+pub record IsFirst (sources : List PolicySource) (texts : List (List ℕ)) (batch : List Pair) : Type 0 where
+  pub means : (k : ℕ) → k < length sources → MeansAt sources texts k (policy_after k batch None)
+  pub others : All (λ pair. pair.port < length sources) batch
+
+-- a batch that a port's policy joined, if there is one
+abbrev pub joined : ℕ → Option Filter → List Pair → List Pair
+joined port (Some policy) batch = batch ++ record { port = port; policy = policy } ∷ []
+joined port None batch = batch
+
+-- the least port's source that is refused: those before it mean policies
+pub record RefusesSources (sources : List PolicySource) (texts : List (List ℕ)) (refusal : Refusal) : Type 0 where
+  pub port : ℕ
+  pub within : port < length sources
+  pub before : (k : ℕ) → k < port → (policy : Option Filter) × MeansAt sources texts k policy
+  pub refused : RefusesSource (slice_index_or sources port Opening) (slice_index_or texts port []) refusal
+
+-- ---- the trace
+
+-- the reader gave these octets, has no more, and never failed
+pub record IsTraceInput (before after : Option (List ℕ)) (failed : Bool) (octets : List ℕ) : Type 0 where
+  pub consumed : Consumes before after octets
+  pub end : IsAtEnd after
+  pub whole : failed ≡ false
+
+-- the reader failed, or was read too often; or memory was wanting for what it gave
+abbrev pub IsTraceFault : Bool → ℕ → ForwardRefusal → Type 0
+IsTraceFault failed reads (Trace ReadFault) = (failed ≡ true) ⊎ (reads ≡ most_reads)
+IsTraceFault failed reads (Command OutOfMemory) = failed ≡ false
+IsTraceFault failed reads _ = ⊥
+
+-- ---- the run
+
+-- the ports' shares of the frames, in the order of the ports
+pub record AreShares (ports : ℕ) (frames : List (List ℕ)) (inputs : List (List (List ℕ))) : Type 0 where
+  pub enough : length inputs ≡ ports
+  pub each : (k : ℕ) (d : List (List ℕ)) → k < ports → slice_index_or inputs k d ≡ share_of k ports frames
+
+-- a gateway that begins with this batch was run on the shares of the frames, and this is its report
+pub record IsRunOn (limits : Bounds) (first : List Pair) (frames : List (List ℕ)) (report : RunReport) : Type 0 where
+  pub inputs : List (List (List ℕ))
+  pub shared : AreShares limits.ports frames inputs
+  pub ran : IsRun (YieldsFirst (λ s. s)) limits first inputs [] report
+
+-- no port stopped before its frames were at an end; or this one is the least that did
+abbrev pub NoneStopped : List (Option OfferRefusal) → Type 0
+NoneStopped stops = All (λ stop. stop ≡ None) stops
+
+pub record IsFirstStop (stops : List (Option OfferRefusal)) (port : ℕ) (why : OfferRefusal) : Type 0 where
+  pub stopped : slice_get stops port ≡ Some (Some why)
+  pub before : (k : ℕ) (d : Option OfferRefusal) → k < port → slice_index_or stops k d ≡ None
+
+-- ---- the lines
+
+-- what a port counted
+abbrev pub port_line : ℕ → InLedger → List ℕ
+port_line port ledger =
+    codes "port " ++ decimal port ++ codes " taken " ++ decimal ledger.taken ++ codes " local " ++ decimal ledger.local
+    ++ codes " allowed " ++ decimal ledger.allowed ++ 10 ∷ []
+
+-- a line for each port, in ascending order
+abbrev pub line_of : List InLedger → ℕ → List ℕ
+line_of ledgers port = option_map_or (port_line port) (slice_get ledgers port) []
+
+unfoldable pub port_lines : List InLedger → List ℕ
+port_lines ledgers = flat_map (line_of ledgers) (range_with_len 0 (length ledgers))
+
+-- a frame was copied to a port; and it was allowed there and not copied
+abbrev pub is_placed : ℕ → Outcome → Bool
+is_placed to outcome = has_port to outcome.placed
+
+abbrev pub is_lost : ℕ → Outcome → Bool
+is_lost to outcome = has_port to outcome.allowed && not (has_port to outcome.placed)
+
+-- how many of a port's frames were copied to another, and how many were lost on that way
+abbrev pub lane_line : ℕ → ℕ → List Outcome → List ℕ
+lane_line from to outcomes =
+    codes "lane " ++ decimal from ++ 32 ∷ decimal to ++ codes " placed " ++ decimal (count_by (is_placed to) outcomes)
+    ++ codes " lost " ++ decimal (count_by (is_lost to) outcomes) ++ 10 ∷ []
+
+-- a line for each lane from a port, by destination
+abbrev pub line_to : ℕ → List Outcome → ℕ → List ℕ
+line_to from outcomes to = if to == from then [] else lane_line from to outcomes
+
+unfoldable pub lane_lines_from : ℕ → ℕ → List Outcome → List ℕ
+lane_lines_from from ports outcomes = flat_map (line_to from outcomes) (range_with_len 0 ports)
+
+-- a line for each lane of so many ports, by source and then destination
+abbrev pub lines_from : ℕ → List (List Outcome) → ℕ → List ℕ
+lines_from ports outcomes from = option_map_or (lane_lines_from from ports) (slice_get outcomes from) []
+
+unfoldable pub lane_lines : ℕ → List (List Outcome) → List ℕ
+lane_lines ports outcomes = flat_map (lines_from ports outcomes) (range_with_len 0 ports)
+
+abbrev pub report_lines : ℕ → Bool → RunReport → List ℕ
+report_lines ports lanes report =
+    port_lines report.report.ins.items
+    ++ (if lanes then lane_lines ports (map (λ outcomes. outcomes.items) report.outcomes.items) else [])
+
+-- ---- the command
+
+-- the text of a run on the frames of a trace's octets, which begins with this batch
+pub record IsOctetsRun (limits : Bounds) (first : List Pair) (lanes : Bool) (octets text : List ℕ) : Type 0 where
+  pub frames : List (List ℕ)
+  pub whole : whole_trace octets ≡ Ok frames
+  pub report : RunReport
+  pub ran : IsRunOn limits first frames report
+  pub unstopped : NoneStopped report.stops.items
+  pub lines : text ≡ report_lines limits.ports lanes report
+
+-- what refuses a run on these frames: what refuses the gateway's run, but for a port that is not there, which no source names;
+-- or the least port's that stopped; memory may be wanting for the shares and for the lines
+abbrev pub RefusesShares : Bounds → List Pair → List (List ℕ) → ForwardRefusal → Type 0
+RefusesShares limits first frames (Run NoSuchPort) = ⊥
+RefusesShares limits first frames (Run why) = RefusesRun limits first why
+RefusesShares limits first frames (Stopped port why) =
+    (report : RunReport) × IsRunOn limits first frames report × IsFirstStop report.stops.items port why
+RefusesShares limits first frames (Command OutOfMemory) = Unit {0}
+RefusesShares limits first frames _ = ⊥
+
+-- what refuses the octets of a trace: what is wrong with them, or what refuses a run on their frames
+abbrev pub RefusesOctets : Bounds → List Pair → List ℕ → ForwardRefusal → Type 0
+RefusesOctets limits first octets refusal =
+    ((why : TraceRefusal) × (refusal ≡ Trace why) × (whole_trace octets ≡ Err why))
+    ⊎ ((frames : List (List ℕ)) × (whole_trace octets ≡ Ok frames) × RefusesShares limits first frames refusal)
+
+-- the text of a run on the trace that the reader gave
+pub record IsTraceRun (limits : Bounds) (first : List Pair) (lanes : Bool) (before after : Option (List ℕ)) (failed : Bool)
+    (text : List ℕ) : Type 0 where
+  pub octets : List ℕ
+  pub read : IsTraceInput before after failed octets
+  pub run : IsOctetsRun limits first lanes octets text
+
+-- what refuses a trace: its reading before its octets
+abbrev pub RefusesTrace : Bounds → List Pair → Option (List ℕ) → Option (List ℕ) → Bool → ℕ → ForwardRefusal → Type 0
+RefusesTrace limits first before after failed reads refusal =
+    IsTraceFault failed reads refusal
+    ⊎ ((octets : List ℕ) × IsTraceInput before after failed octets × RefusesOctets limits first octets refusal)
+
+-- the text for what the reader gave: the lines of a run of its trace's frames, under the policies of the ports' sources
+pub record IsForwarded (limits : Bounds) (sources : List PolicySource) (texts : List (List ℕ)) (lanes : Bool)
+    (before after : Option (List ℕ)) (failed : Bool) (text : List ℕ) : Type 0 where
+  pub first : List Pair
+  pub policies : IsFirst sources texts first
+  pub run : IsTraceRun limits first lanes before after failed text
+
+-- the sources mean policies, and the trace is refused
+pub record RefusesForwarding (limits : Bounds) (sources : List PolicySource) (texts : List (List ℕ))
+    (before after : Option (List ℕ)) (failed : Bool) (reads : ℕ) (refusal : ForwardRefusal) : Type 0 where
+  pub first : List Pair
+  pub policies : IsFirst sources texts first
+  pub why : RefusesTrace limits first before after failed reads refusal
+
+-- the first refusal: that of a source comes before that of the trace
+abbrev pub IsForwardRefusal : Bounds → List PolicySource → List (List ℕ) → Option (List ℕ) → Option (List ℕ) → Bool → ℕ
+    → ForwardRefusal → Type 0
+IsForwardRefusal limits sources texts before after failed reads refusal =
+    ((why : Refusal) × (refusal ≡ Command why) × RefusesSources sources texts why)
+    ⊎ RefusesForwarding limits sources texts before after failed reads refusal
+
+-- the text for what was found was written, with its status: the lines of a run, or the line of a refusal
+abbrev pub WritesForward : Result (List ℕ) ForwardRefusal → ℕ → Option (List ℕ) → Option (List ℕ) → Bool → Type 0
+WritesForward (Ok text) status old new failed = WritesText text 0 status old new failed
+WritesForward (Err refusal) status old new failed = WritesText (forward_refusal_line refusal) 1 status old new failed
+
+-- what was found is written, and tells the status
+pub record Forwards (limits : Bounds) (sources : List PolicySource) (texts : List (List ℕ)) (lanes : Bool)
+    (before after : Option (List ℕ)) (failed : Bool) (reads : ℕ) (old new : Option (List ℕ)) (write_failed : Bool) (status : ℕ)
+    : Type 0 where
+  pub found : Result (List ℕ) ForwardRefusal
+  pub is_found : MatchResult found (IsForwarded limits sources texts lanes before after failed)
+      (IsForwardRefusal limits sources texts before after failed reads)
+  pub written : WritesForward found status old new write_failed
+
+-- ---- the files
+
+-- what refuses the files of the sources: that of a file, where a source names one; memory may be wanting in any case
+abbrev pub RefusesNamed : List PolicySource → Refusal → Type 0
+RefusesNamed sources OutOfMemory = Unit {0}
+RefusesNamed sources refusal = Any NamesFile sources × RefusesFile refusal
+
+-- the trace was forwarded under the policies of the sources, whatever their files hold; or a file was refused, and nothing was
+-- read
+abbrev pub ForwardsNamed : Bounds → List PolicySource → Bool → Option (List ℕ) → Option (List ℕ) → Bool → ℕ → Option (List ℕ)
+    → Option (List ℕ) → Bool → ℕ → Type 0
+ForwardsNamed limits sources lanes before after failed reads old new write_failed status =
+    ((texts : List (List ℕ)) × Forwards limits sources texts lanes before after failed reads old new write_failed status)
+    ⊎ ((refusal : Refusal) × RefusesNamed sources refusal × (after ≡ before)
+    × Writes (Err refusal) status old new write_failed)

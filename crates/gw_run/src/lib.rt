@@ -1,0 +1,16 @@
+#![tactic(auto)]
+//! The command `run` of the program `gw`: the frames of a trace, forwarded by a gateway that runs in threads.
+
+mod files;
+mod first;
+mod forwarding;
+mod lines;
+mod observing;
+mod octets;
+mod refusal;
+mod running;
+
+pub use files::forward_named;
+pub use forwarding::forward;
+pub use observing::{NoObserver, Observer, ProgressOnStderr};
+pub use refusal::ForwardRefusal;

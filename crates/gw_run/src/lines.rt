@@ -1,0 +1,115 @@
+//! What a run is told by: a line for each port, and a line for each lane.
+
+ghost use Rattle.std.specs.Prelude.{◌≡◌, ◌++◌, map, string_bytes, IfOk, OnOk};
+ghost use Rattle.std.specs.List.{count_by};
+ghost use Rattle.gw_run.specs.Forwarding.{
+  port_line,
+  port_lines,
+  is_placed,
+  is_lost,
+  lane_line,
+  lane_lines,
+  lane_lines_from,
+  report_lines,
+};
+
+use gw_ledger::{InLedger, Outcome};
+use gw_ports::RunReport;
+use std::alloc::{AllocError, Global};
+
+/// The lines of so many ports, and with `lanes` those of the lanes behind them.
+pub(crate) fn report_text(
+    alloc: Global,
+    ports: u8,
+    report: &RunReport,
+    lanes: bool,
+) -> Result<String, AllocError>
+    ensures { IfOk result (λ text. string_bytes text ≡ report_lines ports lanes report.now) }
+{
+    let mut text = String::new(alloc);
+    push_ports(&mut text, &report.report.ins)?;
+    if lanes {
+        push_lanes(&mut text, ports, &report.outcomes)?;
+    }
+    Ok(text)
+}
+
+/// A line for each port, in ascending order.
+fn push_ports(text: &mut String, ledgers: &[InLedger]) -> Result<(), AllocError>
+    ensures { OnOk result (string_bytes text.new ≡ string_bytes text.old ++ port_lines ledgers.now) }
+{
+    for port in 0..ledgers.len() {
+        push_port(text, port, &ledgers[port])?;
+    }
+    Ok(())
+}
+
+/// The line of what a port counted.
+fn push_port(text: &mut String, port: usize, ledger: &InLedger) -> Result<(), AllocError>
+    ensures { OnOk result (string_bytes text.new ≡ string_bytes text.old ++ port_line port ledger.now) }
+{
+    let (taken, local, allowed) = (ledger.taken, ledger.local, ledger.allowed);
+    write!(
+        text,
+        "port {port} taken {taken} local {local} allowed {allowed}\n"
+    )
+}
+
+/// A line for each lane, by source and then destination.
+fn push_lanes(text: &mut String, ports: u8, outcomes: &[Vec<Outcome>]) -> Result<(), AllocError>
+    ensures { OnOk result (string_bytes text.new
+        ≡ string_bytes text.old ++ lane_lines ports (map (λ list. list.items) outcomes.now)) }
+{
+    for from in 0..ports {
+        if let Some(outcomes) = outcomes.get(usize::from(from)) {
+            push_lanes_from(text, from, ports, outcomes)?;
+        }
+    }
+    Ok(())
+}
+
+/// The lines of the lanes from a port.
+fn push_lanes_from(
+    text: &mut String,
+    from: u8,
+    ports: u8,
+    outcomes: &[Outcome],
+) -> Result<(), AllocError>
+    ensures { OnOk result (string_bytes text.new ≡ string_bytes text.old ++ lane_lines_from from ports outcomes.now) }
+{
+    for to in 0..ports {
+        if to != from {
+            push_lane(text, from, to, outcomes)?;
+        }
+    }
+    Ok(())
+}
+
+/// The line of what was placed on a lane, and what was lost there.
+fn push_lane(text: &mut String, from: u8, to: u8, outcomes: &[Outcome]) -> Result<(), AllocError>
+    ensures { OnOk result (string_bytes text.new ≡ string_bytes text.old ++ lane_line from to outcomes.now) }
+{
+    let placed = placed_to(to, outcomes);
+    let lost = lost_to(to, outcomes);
+    write!(text, "lane {from} {to} placed {placed} lost {lost}\n")
+}
+
+/// How many frames were copied to a port.
+fn placed_to(to: u8, outcomes: &[Outcome]) -> usize
+    ensures { result ≡ count_by (is_placed to) outcomes.now }
+{
+    outcomes
+        .iter()
+        .filter(|outcome| outcome.placed.has(to))
+        .count()
+}
+
+/// How many frames a port's policy passes that were not copied to it.
+fn lost_to(to: u8, outcomes: &[Outcome]) -> usize
+    ensures { result ≡ count_by (is_lost to) outcomes.now }
+{
+    outcomes
+        .iter()
+        .filter(|outcome| outcome.allowed.has(to) && !outcome.placed.has(to))
+        .count()
+}

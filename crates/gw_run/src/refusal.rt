@@ -1,0 +1,87 @@
+//! Why a trace is not forwarded.
+
+ghost use Rattle.std.specs.Prelude.{◌≡◌};
+ghost use Rattle.gw_commands.specs.declared.refusal.Refusal.TheVariants.{OutOfMemory};
+ghost use Rattle.gw_run.specs.Refusals.{trace_line};
+ghost use Rattle.gw_run.specs.declared.refusal.ForwardRefusal.TheVariants.{Command};
+
+use gw_commands::Refusal;
+use gw_input::{Line, refused};
+use gw_ports::{OfferRefusal, RunRefusal};
+use gw_trace::TraceRefusal;
+use std::alloc::{AllocError, AllocFailed};
+use std::error::Error;
+use std::fmt;
+use std::fmt::{Display, Formatter};
+
+/// Why a trace is not forwarded.
+#[derive(Drop, Debug)]
+pub enum ForwardRefusal {
+    /// What a command refuses: 10 to 13, 20 to 30, 50 to 55 and 98 of a policy's text, 96 and 98 of its file, and 100, a growth
+    /// of the program's own was refused.
+    Command(Refusal),
+    /// 90 to 93, 95 and 96: octets that are no trace.
+    Trace(TraceRefusal),
+    /// 71, 77, 80 to 83, 85 and 86: no run of a gateway, or no report of one.
+    Run(RunRefusal),
+    /// 76 and 77: a port of a run stopped before its frames were at an end.
+    Stopped { port: usize, why: OfferRefusal },
+}
+
+impl ForwardRefusal {
+    ghost use Rattle.gw_run.specs.Refusals.{forward_refusal_line};
+
+    /// The line that tells the refusal.
+    pub(crate) fn line(&self) -> Line
+        ensures { result ≡ forward_refusal_line self.now }
+    {
+        match self {
+            ForwardRefusal::Command(refusal) => refusal.line(),
+            ForwardRefusal::Trace(why) => trace_line(*why),
+            ForwardRefusal::Run(why) => refused(why.number(), &[]),
+            ForwardRefusal::Stopped { why, .. } => refused(why.number(), &[]),
+        }
+    }
+}
+
+/// The line that tells why octets are no trace.
+fn trace_line(why: TraceRefusal) -> Line
+    ensures { result ≡ trace_line why }
+{
+    let number = why.number();
+    match why {
+        TraceRefusal::BadRecord { index, why } => {
+            refused(number, &[index as u64, u64::from(why.number())])
+        }
+        _ => refused(number, &[]),
+    }
+}
+
+impl Display for ForwardRefusal {
+    fn fmt<W: fmt::Write>(&self, f: &mut Formatter<W>) -> fmt::Result {
+        match self {
+            ForwardRefusal::Command(refusal) => write!(f, "{refusal}"),
+            ForwardRefusal::Trace(why) => write!(f, "{why}"),
+            ForwardRefusal::Run(why) => write!(f, "{why}"),
+            ForwardRefusal::Stopped { port, why } => write!(f, "port {port} stopped: {why}"),
+        }
+    }
+}
+
+impl Error for ForwardRefusal {}
+
+impl From<AllocError> for ForwardRefusal {
+    ghost from_gives = { λ _ e. e ≡ Command OutOfMemory };
+
+    fn from(_: AllocError) -> ForwardRefusal {
+        ForwardRefusal::Command(Refusal::OutOfMemory)
+    }
+}
+
+impl<T: Drop> From<AllocFailed<T>> for ForwardRefusal {
+    ghost from_gives = { λ _ e. e ≡ Command OutOfMemory };
+
+    fn from(_: AllocFailed<T>) -> ForwardRefusal {
+        ForwardRefusal::Command(Refusal::OutOfMemory)
+    }
+}
