@@ -1,4 +1,4 @@
-//! The worked example, and that a reading enters the board, which no contract says.
+//! The worked example, and readings that succeed, which no contract says.
 
 ghost use Rattle.std.specs.Prelude.{◌≡◌};
 

@@ -186,6 +186,16 @@ fn a_replacement_while_a_frame_is_unfinished(rt: HostRuntime) -> Result<(), Fail
     Ok(())
 }
 
+/// A step of a port without a frame, a thousand times.
+const IDLE: [Row; 1000] = [(Does::Step(0), Says::Refused(EventRefusal::Idle)); 1000];
+
+#[test]
+fn a_long_list_and_an_empty_one(rt: HostRuntime) -> Result<(), Fail> {
+    ran(&rt, rt.alloc(), Limits::new(16, 1024, 65535, 1)?, &IDLE)?;
+    ran(&rt, rt.alloc(), Limits::new(2, 513, 1, 1)?, &[])?;
+    Ok(())
+}
+
 #[test]
 fn want_of_memory(rt: HostRuntime) -> Result<(), AllocError> {
     let text = format!(in rt.alloc(); "{}", OutOfMemory)?;

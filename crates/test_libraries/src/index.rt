@@ -88,6 +88,17 @@ fn the_table_of_256_rules(rt: HostRuntime) -> Result<(), Fail> {
     Ok(())
 }
 
+/// From 16 rules on there is an index.
+#[test]
+fn tables_of_several_lengths(rt: HostRuntime) -> Result<(), Fail> {
+    for blocking in [0, 14, 15, 99, 254] {
+        let table = indexed(rt.alloc(), long_text(rt.alloc(), blocking)?.as_str())?;
+        assert!(rt; table.verdict(&frame(0x98EF1234)?, 0), "{blocking}");
+        assert!(rt; !table.verdict(&frame(0x98F01334)?, 0), "{blocking}");
+    }
+    Ok(())
+}
+
 /// 256 rules whose ranges overlap: each has some range in common with most others, and no two have the same four.
 fn overlapping(alloc: Global) -> Result<String, AllocError> {
     let mut text = String::from_str(alloc, "default = \"pass\"\n")?;

@@ -106,3 +106,12 @@ fn a_full_lane_has_room_again(rt: HostRuntime) -> Result<(), Fail> {
     }
     Ok(())
 }
+
+#[test]
+fn lanes_of_several_lengths(rt: HostRuntime) -> Result<(), Fail> {
+    for lane in [1, 513, 1024] {
+        let ends = lanes(rt.alloc(), Limits::new(16, lane, 1, 1)?)?;
+        assert!(rt; ends.ins.len() == 240 && ends.outs.len() == 240, "{lane}");
+    }
+    Ok(())
+}

@@ -52,6 +52,17 @@ fn a_batch_of_sixteen_ports(rt: HostRuntime) {
     }
 }
 
+#[test]
+fn sixteen_policies_and_none_in_force(rt: HostRuntime) {
+    let mut set = PolicySet::new();
+    assert!(rt; set.absorb(&sixteen_ports(&rt, rt.alloc())).is_ok());
+    assert!(rt; set.absorb(&Batch::new()).is_ok());
+    assert!(rt; set.front() == 2);
+    for port in 0..16 {
+        assert!(rt; set.get(port).is_some(), "port {port}");
+    }
+}
+
 /// Port 3 alone must have a policy, which passes the frame.
 fn assert_only_3_passes(rt: &impl Abort, set: &PolicySet, frame: &Frame) {
     for port in 0..=255 {

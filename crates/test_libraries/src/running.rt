@@ -328,6 +328,17 @@ fn a_port_and_the_operator_that_stop(rt: HostRuntime) -> Result<(), Fail> {
 }
 
 #[test]
+fn a_first_batch_for_no_port_from_iterators(rt: HostRuntime) -> Result<(), Fail> {
+    let alloc = rt.alloc();
+    let limits = Limits::new(3, 4, 2, 2)?;
+    let first = batch(&rt, alloc, &[3], &returning(1));
+    let gate = Noting::new();
+    let ran = run_iterators(&rt, alloc, limits, first, Vec::new(alloc), &gate);
+    assert!(rt; ran.is_err_and(|why| why.number() == 81));
+    Ok(())
+}
+
+#[test]
 fn a_first_batch_for_no_port(rt: HostRuntime) -> Result<(), Fail> {
     let alloc = rt.alloc();
     let limits = Limits::new(2, 4, 1, 1)?;

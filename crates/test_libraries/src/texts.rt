@@ -6,6 +6,7 @@ use gw_ledger::Limits;
 use gw_log::LogRefusal;
 use gw_policy::Batch;
 use gw_ports::{CloseRefusal, MakeRefusal, OfferRefusal, RunRefusal, gateway};
+use gw_replay::ReplayFault;
 use gw_text::AsmRefusal;
 use gw_trace::TraceRefusal;
 use std::alloc::{AllocError, Global};
@@ -178,6 +179,20 @@ const NO_TRACE: [(TraceRefusal, &str); 1] = [(
 fn of_runs(rt: HostRuntime) -> Result<(), AllocError> {
     assert_told(&rt, rt.alloc(), &NOT_RUN)?;
     assert_told(&rt, rt.alloc(), &NO_TRACE)
+}
+
+const NOT_REPLAYED: [(ReplayFault, &str); 3] = [
+    (
+        ReplayFault::ReadFault,
+        "the script could not be read to its end",
+    ),
+    (ReplayFault::WriteFault, "the answers could not be written"),
+    (ReplayFault::OutOfMemory, "memory was refused"),
+];
+
+#[test]
+fn of_replays(rt: HostRuntime) -> Result<(), AllocError> {
+    assert_told(&rt, rt.alloc(), &NOT_REPLAYED)
 }
 
 const NO_PROGRAM: [(AsmRefusal, &str); 10] = [

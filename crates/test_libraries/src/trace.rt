@@ -29,11 +29,73 @@ const HEADERS: [(&[u8], &[u8]); 4] = [
     ),
 ];
 
-/// The first of the headers above, with link type 1.
-const OTHER_LINK: &[u8] = b"\xD4\xC3\xB2\xA1\x02\0\x04\0\0\0\0\0\0\0\0\0\0\0\x04\0\x01\0\0\0";
+/// What is refused, and the octet that shows it.
+type Refused = (&'static [u8], TraceRefusal, usize);
 
-/// The header of a record, in that byte order, with captured length 17.
-const TOO_LONG: &[u8] = b"\0\0\0\0\0\0\0\0\x11\0\0\0\x10\0\0\0";
+/// Headers: without a magic number, of versions 2.3 and 3.4, of version 2.5 in the other order, and with link type 1.
+const BAD_HEADERS: [Refused; 5] = [
+    (
+        b"\x0A\x0D\x0D\x0A\x02\0\x04\0\0\0\0\0\0\0\0\0\0\0\x04\0\xE3\0\0\0",
+        TraceRefusal::BadMagic,
+        23,
+    ),
+    (
+        b"\xD4\xC3\xB2\xA1\x02\0\x03\0\0\0\0\0\0\0\0\0\0\0\x04\0\xE3\0\0\0",
+        TraceRefusal::BadVersion,
+        23,
+    ),
+    (
+        b"\x4D\x3C\xB2\xA1\x03\0\x04\0\0\0\0\0\0\0\0\0\0\0\x04\0\xE3\0\0\0",
+        TraceRefusal::BadVersion,
+        23,
+    ),
+    (
+        b"\xA1\xB2\xC3\xD4\0\x02\0\x05\0\0\0\0\0\0\0\0\0\x04\0\0\0\0\0\xE3",
+        TraceRefusal::BadVersion,
+        23,
+    ),
+    (
+        b"\xD4\xC3\xB2\xA1\x02\0\x04\0\0\0\0\0\0\0\0\0\0\0\x04\0\x01\0\0\0",
+        TraceRefusal::BadLink,
+        23,
+    ),
+];
+
+/// Record 0 with captured length 17.
+const BAD_RECORD: TraceRefusal = TraceRefusal::BadRecord {
+    index: 0,
+    why: FrameRefusal::TooLong { len: 17 },
+};
+
+/// The front of a record, behind the first of the headers above: with captured length 7, 17, 16 and 15, of which the third has
+/// payload length 9, and the fourth 8.
+const BAD_RECORDS: [Refused; 4] = [
+    (
+        b"\0\0\0\0\0\0\0\0\x07\0\0\0\x10\0\0\0",
+        TraceRefusal::BadRecord {
+            index: 0,
+            why: FrameRefusal::TooShort { len: 7 },
+        },
+        39,
+    ),
+    (b"\0\0\0\0\0\0\0\0\x11\0\0\0\x10\0\0\0", BAD_RECORD, 39),
+    (
+        b"\0\0\0\0\0\0\0\0\x10\0\0\0\x10\0\0\0\x8C\xF0\x04\0\x09\0\0\0\0\0\0\0\0\0\0\0",
+        TraceRefusal::BadRecord {
+            index: 0,
+            why: FrameRefusal::BadLength { said: 9 },
+        },
+        55,
+    ),
+    (
+        b"\0\0\0\0\0\0\0\0\x0F\0\0\0\x10\0\0\0\x8C\xF0\x04\0\x08\0\0\0\0\0\0\0\0\0\0",
+        TraceRefusal::BadRecord {
+            index: 0,
+            why: FrameRefusal::PayloadCut { said: 8, there: 7 },
+        },
+        54,
+    ),
+];
 
 // A trace of R so many times.
 fn trace_of(
@@ -133,20 +195,10 @@ fn refused_traces(rt: HostRuntime) -> Result<(), Fail> {
             "the first {len}"
         );
     }
-    let other_link = trace_of(rt.alloc(), OTHER_LINK, record, 1)?;
-    assert!(rt; is_read(rt.alloc(), &other_link, Err(TraceRefusal::BadLink)));
-    assert!(rt; TraceRefusal::BadLink.number() == 92);
-    assert!(rt; TraceRefusal::Cut.number() == 95);
     Ok(())
 }
 
-/// Record 0 with captured length 17.
-const BAD_RECORD: TraceRefusal = TraceRefusal::BadRecord {
-    index: 0,
-    why: FrameRefusal::TooLong { len: 17 },
-};
-
-/// Octets that are fed one by one are refused so from an octet on.
+/// Octets are refused so as a whole, and from an octet on where they are fed one by one.
 fn assert_refused_from(
     rt: &impl Abort,
     alloc: Global,
@@ -154,6 +206,8 @@ fn assert_refused_from(
     from: usize,
     refusal: TraceRefusal,
 ) {
+    assert!(rt; is_read(alloc, octets, Err(refusal)));
+    assert!(rt; Trace::new().feed(alloc, octets).err() == Some(refusal));
     let mut trace = Trace::new();
     for (i, octet) in octets.iter().enumerate() {
         let given = trace.feed(alloc, &[*octet]);
@@ -166,16 +220,33 @@ fn assert_refused_from(
 }
 
 #[test]
-fn a_captured_length_of_17(rt: HostRuntime) -> Result<(), Fail> {
+fn bad_headers(rt: HostRuntime) -> Result<(), Fail> {
+    let (_, record) = HEADERS[0];
+    for (header, refusal, from) in BAD_HEADERS {
+        let octets = trace_of(rt.alloc(), header, record, 1)?;
+        assert_refused_from(&rt, rt.alloc(), &octets, from, refusal);
+    }
+    Ok(())
+}
+
+#[test]
+fn bad_records(rt: HostRuntime) -> Result<(), Fail> {
+    let (header, _) = HEADERS[0];
+    for (record, refusal, from) in BAD_RECORDS {
+        let mut octets = Vec::from_slice(rt.alloc(), header)?;
+        octets.extend_from_slice(record)?;
+        assert_refused_from(&rt, rt.alloc(), &octets, from, refusal);
+    }
+    Ok(())
+}
+
+#[test]
+fn what_is_told_of_a_bad_record(rt: HostRuntime) -> Result<(), Fail> {
     assert!(rt; BAD_RECORD.number() == 93);
     assert!(rt; FrameRefusal::TooLong { len: 17 }.number() == 2);
     let text = format!(in rt.alloc(); "{BAD_RECORD}")?;
     let wanted = "record 0 of the trace, counted from 0, is no frame: ";
     assert!(rt; text.starts_with(wanted));
-    let (header, _) = HEADERS[0];
-    let octets = trace_of(rt.alloc(), header, TOO_LONG, 1)?;
-    assert!(rt; is_read(rt.alloc(), &octets, Err(BAD_RECORD)));
-    assert_refused_from(&rt, rt.alloc(), &octets, 39, BAD_RECORD);
     Ok(())
 }
 

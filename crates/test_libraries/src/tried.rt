@@ -1,6 +1,7 @@
-//! That each call is handed on, which no clause can say in full.
+//! Each call is handed on, and few are made, which no clause can say in full.
 
-use gw_io::Tried;
+use crate::streams::{Source, WHOLE};
+use gw_io::{Pieces, Tried, write_all};
 use std::io;
 use std::io::{ErrorKind, Read, Write};
 use std::test::Fail;
@@ -88,4 +89,22 @@ fn a_write_that_takes_nothing_is_a_failure(rt: HostRuntime) -> Result<(), Fail> 
     assert!(rt; writer.write(b"b")? == 0);
     assert!(rt; writer.failed());
     Ok(())
+}
+
+#[test]
+fn a_whole_text_is_one_write(rt: HostRuntime) {
+    let mut stream = Counting::new(1);
+    assert!(rt; write_all(&mut Tried::new(&mut stream), &[0; 100_000]).is_ok());
+    assert!(rt; stream.calls == 1);
+}
+
+#[test]
+fn two_hundred_thousand_octets_are_four_pieces(rt: HostRuntime) {
+    let octets = [0; 200_000];
+    let mut reader = Tried::new(Source::new(&octets, WHOLE));
+    let mut pieces = Pieces::new();
+    for piece in 0..4 {
+        assert!(rt; pieces.read(&mut reader) == Ok(true), "piece {piece}");
+    }
+    assert!(rt; pieces.read(&mut reader) == Ok(false));
 }
