@@ -9,8 +9,8 @@ try:
 # of two ports.
 .PHONY: run
 run:
-	@./libraries gw
-	@cd crates/gw && rt run < stdin
+	@./prove gw
+	@crates/gw/out/gw < crates/gw/stdin
 	@crates/gw/out/gw run --ports 2 --table 0=examples/diagnostics-port.toml --table 1=examples/display.toml \
 		< examples/traces/diagnostics.pcap
 
