@@ -1,7 +1,7 @@
 //! The gateway's program.
 #![tactic(auto)]
 
-use gw_cli::{command, run_command};
+use gw_cli::{command, judge_command, run_command};
 use gw_io::Tried;
 use std::alloc::AllocError;
 use std::env;
@@ -21,6 +21,14 @@ fn main(rt: HostRuntime) -> ExitCode {
     let alloc = rt.alloc();
     let status = match words.first() {
         Some(first) if first.as_str() == "run" => run_command(
+            &rt,
+            alloc,
+            &words,
+            &mut input,
+            &mut output,
+            &mut faults,
+        ),
+        Some(first) if first.as_str() == "judge" => judge_command(
             &rt,
             alloc,
             &words,

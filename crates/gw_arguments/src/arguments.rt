@@ -1,5 +1,6 @@
 //! The arguments of the command line.
 
+use crate::judge_arguments::judge_arguments;
 use crate::run_arguments::{run_arguments, wrong};
 use clap::{Arg, ArgAction, ArgMatches, Command, Error, value_parser};
 use gw_commands::Query;
@@ -50,7 +51,7 @@ pub fn flag<'a>(alloc: Global, name: &'a str, help: &'a str) -> Arg<'a> {
 }
 
 /// The option that names the ingress port of a frame.
-fn ingress_port<'a>(alloc: Global) -> Arg<'a> {
+pub fn ingress_port<'a>(alloc: Global) -> Arg<'a> {
     valued(
         alloc,
         "port",
@@ -161,6 +162,7 @@ fn commands<'a>(alloc: Global) -> Result<Command<'a>, AllocError> {
     let program = bare_program(alloc).subcommand(verdict_command(alloc)?)?;
     with_plain(alloc, program)?
         .subcommand(table_command(alloc)?)?
+        .subcommand(judge_arguments(alloc)?)?
         .subcommand(run_arguments(alloc)?)
 }
 
@@ -169,12 +171,13 @@ pub fn matched<'a, S: AsStr>(alloc: Global, words: &'a [S]) -> Result<ArgMatches
     commands(alloc)?.try_get_matches_from(words)
 }
 
-/// What the arguments ask for, or `clap`'s answer to them. Arguments that name `run`, but not first, are wrong.
+/// What the arguments ask for, or `clap`'s answer to them. Arguments that name `run` or `judge`, but not first, are wrong.
 pub fn read_arguments<'a, S: AsStr>(alloc: Global, words: &'a [S]) -> Result<Request<'a>, Error> {
     let matches = matched(alloc, words)?;
     match matches.subcommand() {
         Some(("replay", _)) => Ok(Request::Replay),
         Some(("run", _)) => Err(wrong(alloc, "`run` must be the first word")),
+        Some(("judge", _)) => Err(wrong(alloc, "`judge` must be the first word")),
         Some((name, found)) => Ok(Request::Query(named_query(name, found))),
         None => Ok(Request::Query(Query::Check)),
     }

@@ -2,7 +2,9 @@
 //! The arguments of the command line of the program `gw`: what `clap` reads of them, and shows as help.
 
 mod arguments;
+mod judge_arguments;
 mod run_arguments;
 
 pub use arguments::{Request, read_arguments};
+pub use judge_arguments::{JudgeRequest, read_judge};
 pub use run_arguments::{RunRequest, read_run};

@@ -6,8 +6,10 @@ use Rattle.clap.specs.declared.error.kind.ErrorKind.TheVariants.{DisplayHelp, Di
 use Rattle.gw_ledger.specs.Bounds.{Bounds}
 use Rattle.gw_commands.specs.Commands.{Does, Writes, WritesText}
 use Rattle.gw_run.specs.Forwarding.{ForwardsNamed}
+use Rattle.gw_commands.specs.Judgings.{JudgesNamed}
 use Rattle.gw_commands.specs.Replays.{Replays}
 use Rattle.gw_commands.specs.Queries.{AnswersQuery, RefusesQuery}
+use Rattle.gw_commands.specs.declared.judge_command.LogQuery.{LogQuery}
 use Rattle.gw_commands.specs.declared.query.Query.{Query}
 use Rattle.gw_commands.specs.declared.policies.PolicySource.{PolicySource}
 use Rattle.gw_commands.specs.declared.refusal.Refusal.TheVariants.{OutOfMemory}
@@ -49,4 +51,12 @@ abbrev pub RunsWords : Option (List ℕ) → Option (List ℕ) → Bool → ℕ 
 RunsWords before after failed reads old new write_failed told_old told_new tell_failed status =
     ((limits : Bounds) × (sources : List PolicySource) × (lanes : Bool) × (length sources ≡ limits.ports)
     × ForwardsNamed limits sources lanes before after failed reads old new write_failed status)
+    ⊎ OnlyAnswersWords before after old new write_failed told_old told_new tell_failed status
+
+-- a log was judged by the policy of a file, or the file or the policy was refused; or the arguments were answered and nothing
+-- was read
+abbrev pub JudgesWords : Option (List ℕ) → Option (List ℕ) → Bool → Option (List ℕ) → Option (List ℕ) → Bool
+    → Option (List ℕ) → Option (List ℕ) → Bool → ℕ → Type 0
+JudgesWords before after failed old new write_failed told_old told_new tell_failed status =
+    ((query : LogQuery) × JudgesNamed query before after failed old new write_failed status)
     ⊎ OnlyAnswersWords before after old new write_failed told_old told_new tell_failed status

@@ -1,6 +1,6 @@
 -- For whoever writes a line for each number: the lines so far, with one more.
 use Rattle.std.proofs.Common.{◌≡◌, ℕ, zero, suc, ◌+◌, List, [], ◌∷◌, ◌++◌, flat_map}
-use Rattle.std.proofs.Common.{ap, sym, ◌∙◌, add-zero, add-one, zero-add, arith}
+use Rattle.std.proofs.Common.{ap, sym, ◌∙◌, add-zero, add-one, zero-add, append_assoc, arith}
 use Rattle.std.specs.List.{range_with_len}
 use Rattle.std.proofs.lemmas.List.{append-nil}
 use Rattle.std.proofs.lemmas.Grind.{flat_map-append}
@@ -17,3 +17,10 @@ lines_more f n =
     ap (flat_map f) (ap (range_with_len 0) (add-one n) ∙ range_more 0 n ∙ ap (λ m. range_with_len 0 n ++ m ∷ []) (zero-add n))
     ∙ flat_map-append f (range_with_len 0 n) (n ∷ [])
     ∙ ap (λ last. flat_map f (range_with_len 0 n) ++ last) (append-nil (f n))
+
+-- a text behind another, with the line of one number more
+pub line_more : (f : ℕ → List ℕ) (n : ℕ) (before now line text : List ℕ) → now ≡ before ++ flat_map f (range_with_len 0 n)
+    → line ≡ f n → text ≡ now ++ line → text ≡ before ++ flat_map f (range_with_len 0 (n + 1))
+line_more f n before now line text so_far is more =
+    more ∙ ap (λ t. t ++ line) so_far ∙ append_assoc before (flat_map f (range_with_len 0 n)) line
+    ∙ ap (λ last. before ++ (flat_map f (range_with_len 0 n) ++ last)) is ∙ ap (λ t. before ++ t) (sym (lines_more f n))

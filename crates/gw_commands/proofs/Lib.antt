@@ -2,5 +2,7 @@ mod LinesExamples
 pub mod Callers
 pub mod ClaimLines
 pub mod EndedEarly
+pub mod LogEnds
+pub mod LogTexts
 pub mod PathsTold
 pub mod RefusalTexts

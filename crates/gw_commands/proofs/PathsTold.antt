@@ -1,5 +1,5 @@
 -- Paths that leave a scratch word unset.
-use Rattle.std.proofs.Common.{ℕ, List, Some}
+use Rattle.std.proofs.Common.{ℕ, Some}
 use Rattle.gw_verify.specs.Flow.{Forms}
 use Rattle.gw_verify.specs.declared.cause.Cause.{Cause}
 use Rattle.gw_verify.specs.declared.cause.Cause.TheVariants.{UnsetWord}

@@ -1,5 +1,5 @@
 -- The output for a refusal.
-use Rattle.std.proofs.Common.{◌≡◌, List, ℕ, Vec, Global, refl}
+use Rattle.std.proofs.Common.{◌≡◌, ℕ, Vec, Global, refl}
 use Rattle.gw_verify.specs.declared.path.Path.{Path}
 use Rattle.gw_verify.specs.declared.refused.Refused.{Refused}
 use Rattle.gw_commands.specs.declared.refusal.Refusal.{Refusal}

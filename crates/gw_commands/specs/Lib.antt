@@ -4,6 +4,8 @@ pub mod Assemblies
 pub mod Checks
 pub mod ClaimLines
 pub mod Commands
+pub mod Judgings
+pub mod LogCounts
 pub mod Policies
 pub mod Queries
 pub mod Refusals

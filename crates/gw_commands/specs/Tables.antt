@@ -4,7 +4,7 @@ use Rattle.std.specs.Str.{IsUtf8}
 use Rattle.gw_insn.specs.Table.{raw_of}
 use Rattle.gw_insn.specs.Spelling.{plain_listing}
 use Rattle.gw_table.specs.Table.{Meaning, table_passes}
-use Rattle.gw_table.specs.TableText.{IsTableText, IsTableRefusal}
+use Rattle.gw_table.specs.TableText.{IsTableRefusal}
 use Rattle.gw_table.specs.Emission.{emission}
 use Rattle.gw_input.specs.Tables.{IsTable}
 use Rattle.gw_commands.specs.declared.answer.Answer.{Answer}

@@ -7,7 +7,9 @@ mod check_command;
 mod claims_command;
 mod explanation;
 mod files;
+mod judge_command;
 mod list_command;
+mod log_counts;
 mod notes;
 mod policies;
 mod query;
@@ -21,6 +23,8 @@ mod verdict_command;
 
 pub use answer::Answer;
 pub use files::read_file;
+pub use judge_command::{LogQuery, PolicyKind, Shown, judge_log, judge_named};
+pub use log_counts::TellsParts;
 pub use policies::{PolicySource, policy};
 pub use query::{Query, answer_query};
 pub use refusal::Refusal;

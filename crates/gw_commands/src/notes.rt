@@ -3,6 +3,8 @@
 use gw_frame::Frame;
 use gw_ident::{EXTENDED_FLAG, GREATEST_EXTENDED, GREATEST_STANDARD};
 use gw_io::Tried;
+use gw_judge::Tally;
+use gw_log::LogRefusal;
 use gw_table::Table;
 use std::io::Write;
 
@@ -50,6 +52,29 @@ pub fn note_dead_rules<F: Write>(table: &Table, faults: &mut Tried<F>) {
     for rule in 0..table.rules().len() {
         if let Some(why) = table.why_dead(rule) {
             let _ = writeln!(faults, "gw: rule {rule} never decides: {why}");
+        }
+    }
+}
+
+/// Tells which file is refused, before its refusal.
+pub fn note_file<F: Write>(file: &str, faults: &mut Tried<F>) {
+    let _ = writeln!(faults, "gw: the file {file} is refused:");
+}
+
+/// Tells for each cause how many lines of a log say no classic frame, and which is the first; and of a log without lines.
+pub fn note_refused_lines<F: Write>(tally: &Tally, faults: &mut Tried<F>) {
+    let lines = tally.lines;
+    if lines == 0 {
+        let _ = writeln!(faults, "gw: the log is empty");
+    }
+    for why in LogRefusal::ALL {
+        let cause = tally.cause(why);
+        let (count, first, number) = (cause.count, cause.first, why.number());
+        if count > 0 {
+            let _ = writeln!(
+                faults,
+                "gw: {number}: {count} of {lines} lines, the first is line {first}: {why}"
+            );
         }
     }
 }

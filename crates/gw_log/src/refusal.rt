@@ -44,6 +44,23 @@ pub enum LogRefusal {
 impl LogRefusal {
     ghost use Rattle.gw_log.specs.LogFrames.{refusal_number};
 
+    /// All of them, by their numbers.
+    pub const ALL: [LogRefusal; 13] = [
+        LogRefusal::CanFd,
+        LogRefusal::OpenTime,
+        LogRefusal::NoFrame,
+        LogRefusal::WordsBefore,
+        LogRefusal::DigitsBehind,
+        LogRefusal::NoDigit,
+        LogRefusal::BadDigits,
+        LogRefusal::WideId,
+        LogRefusal::OddDigits,
+        LogRefusal::BadLength,
+        LogRefusal::BadRemote,
+        LogRefusal::BadCode,
+        LogRefusal::LongLine,
+    ];
+
     /// The number of the refusal, 101 to 113.
     pub fn number(self) -> u32
         ensures { result ≡ refusal_number self }

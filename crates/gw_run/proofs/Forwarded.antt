@@ -16,16 +16,9 @@ use Rattle.gw_ledger.specs.declared.outcome.Outcome.{Outcome}
 use Rattle.gw_trace.specs.Shares.{shared_from, share_of}
 use Rattle.gw_run.specs.Forwarding.{line_of, line_to, lines_from, port_line}
 use Rattle.gw_run.specs.Forwarding.{port_lines, lane_line, lane_lines, lane_lines_from}
-use Rattle.gw_commands.proofs.Callers.{lines_more}
+use Rattle.gw_commands.proofs.Callers.{line_more}
 
--- a text behind another, with the line of one number more
-pub line_more : (f : ℕ → List ℕ) (n : ℕ) (before now line text : List ℕ) → now ≡ before ++ flat_map f (range_with_len 0 n)
-    → line ≡ f n → text ≡ now ++ line → text ≡ before ++ flat_map f (range_with_len 0 (n + 1))
-line_more f n before now line text so_far is more =
-    more ∙ ap (λ t. t ++ line) so_far ∙ append_assoc before (flat_map f (range_with_len 0 n)) line
-    ∙ ap (λ last. before ++ (flat_map f (range_with_len 0 n) ++ last)) is ∙ ap (λ t. before ++ t) (sym (lines_more f n))
-
--- the same where the number has no line
+-- a text behind another, where a number has no line
 pub line_none : (f : ℕ → List ℕ) (n : ℕ) (before now : List ℕ) → now ≡ before ++ flat_map f (range_with_len 0 n) → f n ≡ []
     → now ≡ before ++ flat_map f (range_with_len 0 (n + 1))
 line_none f n before now so_far none = line_more f n before now [] now so_far (sym none) (sym (append-nil now))

@@ -1,4 +1,4 @@
-use Rattle.std.proofs.Common.{◌∙◌, ap, sym}
+use Rattle.std.proofs.Common.{◌∙◌, ap}
 use Rattle.gw_verify.specs.Flow.{forms_of}
 use Rattle.gw_commands.specs.Checks.{explained_lines}
 use Rattle.gw_commands.proofs.PathsTold.{is_unset, leaves_unset}

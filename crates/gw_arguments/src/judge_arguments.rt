@@ -1,0 +1,110 @@
+//! The arguments of `gw judge`.
+
+use crate::arguments::{described, flag, ingress_port, matched, valued};
+use crate::run_arguments::wrong;
+use clap::{ArgGroup, ArgMatches, Command, Error};
+use gw_commands::{LogQuery, PolicyKind, Shown};
+use std::alloc::{AllocError, Global};
+use std::convert::AsStr;
+
+/// What `gw judge` is asked for.
+#[derive(Clone, Copy)]
+pub struct JudgeRequest<'a> {
+    pub query: LogQuery,
+    /// The name of the policy's file.
+    pub file: &'a str,
+}
+
+/// The command `judge`, as `clap` reads it and shows its help.
+pub fn judge_arguments<'a>(alloc: Global) -> Result<Command<'a>, AllocError> {
+    let command = described(
+        alloc,
+        "judge",
+        "Judges each line of a log of candump by a policy: counts what each rule decided, or writes the lines that pass",
+        "gw judge (--table FILE | --listing FILE) [--port P] [--passed | --blocked] [--strict] < LOG",
+        "Example: gw judge --table examples/display.toml < examples/traces/diagnostics.log",
+    );
+    with_shown(alloc, with_policy(alloc, command)?)
+}
+
+/// The command with the options that name the policy's file, of which one is given.
+fn with_policy<'a>(alloc: Global, command: Command<'a>) -> Result<Command<'a>, AllocError> {
+    let group = ArgGroup::new(alloc, "policy").required(true);
+    let group = group.arg("table")?.arg("listing")?;
+    command
+        .group(group)?
+        .arg(valued(
+            alloc,
+            "table",
+            "FILE",
+            "A file with the policy table that decides each frame",
+        ))?
+        .arg(valued(
+            alloc,
+            "listing",
+            "FILE",
+            "A file with a program's listing that decides each frame",
+        ))
+}
+
+/// The command with the options that say how frames were taken, and what is written.
+fn with_shown<'a>(alloc: Global, command: Command<'a>) -> Result<Command<'a>, AllocError> {
+    let blocked = flag(
+        alloc,
+        "blocked",
+        "Writes the lines whose frame is blocked, unchanged, in place of the counts",
+    );
+    let blocked = blocked.conflicts_with("passed")?;
+    command
+        .arg(ingress_port(alloc))?
+        .arg(flag(
+            alloc,
+            "passed",
+            "Writes the lines whose frame passes, unchanged, in place of the counts",
+        ))?
+        .arg(blocked)?
+        .arg(flag(
+            alloc,
+            "strict",
+            "Ends with the first line that says no classic frame; without it such lines are counted",
+        ))
+}
+
+/// What the arguments ask for where they name the command `judge`, or `clap`'s answer to them: help, or what is wrong.
+pub fn read_judge<'a, S: AsStr>(alloc: Global, words: &'a [S]) -> Result<JudgeRequest<'a>, Error> {
+    let matches = matched(alloc, words)?;
+    match matches.subcommand() {
+        Some(("judge", found)) => asked(alloc, found),
+        _ => Err(wrong(alloc, "this is not the command `judge`")),
+    }
+}
+
+/// What the arguments behind `judge` ask for.
+fn asked<'a>(alloc: Global, found: &ArgMatches<'a>) -> Result<JudgeRequest<'a>, Error> {
+    let (kind, file) = match (found.get_str("table"), found.get_str("listing")) {
+        (Some(file), _) => (PolicyKind::Table, file),
+        (None, Some(file)) => (PolicyKind::Listing, file),
+        (None, None) => return Err(wrong(
+            alloc,
+            "no policy is given: name a file by --table or --listing",
+        )),
+    };
+    let query = LogQuery {
+        kind,
+        port: found.get_one::<u8>("port").unwrap_or(0),
+        shown: shown(found),
+        strict: found.get_flag("strict"),
+    };
+    Ok(JudgeRequest { query, file })
+}
+
+/// What is written.
+fn shown(found: &ArgMatches) -> Shown {
+    if found.get_flag("passed") {
+        Shown::Passed
+    } else if found.get_flag("blocked") {
+        Shown::Blocked
+    } else {
+        Shown::Counts
+    }
+}

@@ -1,0 +1,37 @@
+//! The command `judge`, over a reader and two writers.
+
+ghost use Rattle.std.specs.Prelude.{◌≡◌, false};
+ghost use Rattle.gw_io.specs.Tries.{inner_of, has_failed};
+ghost use Rattle.gw_cli.specs.Asked.{JudgesWords};
+
+use crate::dispatch::answer_words;
+use gw_arguments::read_judge;
+use gw_commands::judge_named;
+use gw_io::Tried;
+use std::alloc::Global;
+use std::convert::AsStr;
+use std::io::{Read, Write};
+use std::rt::Files;
+
+/// Does what the arguments of a command line, without the program's name, ask for, where they name the command `judge`; other
+/// commands are wrong arguments. The exit status is as for `command`. Which arguments ask for what, no clause says.
+pub fn judge_command<R: Files, S: AsStr, I: Read, W: Write, F: Write>(
+    rt: &R,
+    alloc: Global,
+    words: &[S],
+    input: &mut Tried<I>,
+    output: &mut Tried<W>,
+    faults: &mut Tried<F>,
+) -> u8
+    requires input { has_failed input.old ≡ false }
+    requires output { has_failed output.old ≡ false }
+    requires faults { has_failed faults.old ≡ false }
+    ensures { JudgesWords (I.remaining (inner_of input.old)) (I.remaining (inner_of input.new)) (has_failed input.new)
+        (W.contents (inner_of output.old)) (W.contents (inner_of output.new)) (has_failed output.new)
+        (F.contents (inner_of faults.old)) (F.contents (inner_of faults.new)) (has_failed faults.new) result }
+{
+    match read_judge(alloc, words) {
+        Ok(asked) => judge_named(rt, alloc, asked.query, asked.file, input, output, faults),
+        Err(error) => answer_words(alloc, &error, output, faults),
+    }
+}

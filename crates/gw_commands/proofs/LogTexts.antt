@@ -1,0 +1,21 @@
+-- The lines of a table's rules, one after another.
+use Rattle.std.proofs.Common.{◌≡◌, ℕ, ◌<◌, List, [], ◌++◌, length, flat_map, ap, sym, ◌∙◌, get_or}
+use Rattle.std.specs.List.{range_with_len}
+use Rattle.std.specs.Prelude.{slice_index}
+use Rattle.std.specs.Option.{option_map_or}
+use Rattle.std.proofs.lemmas.Option.{slice_get-get_or}
+use Rattle.gw_table.specs.declared.table.Rule.{Rule}
+use Rattle.gw_judge.specs.declared.tally.Tally.{Tally}
+use Rattle.gw_commands.specs.LogCounts.{rule_count, rule_counts, rule_line}
+
+-- the line of a rule that is there
+pub rule_there : (tally : Tally) (rules : List Rule) (n : ℕ) (d : Rule) → n < length rules
+    → rule_count n (slice_index tally.by_rule n) (get_or rules n d) ≡ rule_line tally rules n
+rule_there tally rules n d below =
+    ap (λ o. option_map_or (rule_count n (slice_index tally.by_rule n)) o []) (sym (slice_get-get_or rules n d below))
+
+-- all lines behind a text
+pub rules_done : (tally : Tally) (rules : List Rule) (n : ℕ) (before text : List ℕ) → n ≡ length rules
+    → text ≡ before ++ flat_map (rule_line tally rules) (range_with_len 0 n) → text ≡ before ++ rule_counts tally rules
+unfolding rule_counts
+rules_done tally rules n before text all same = same ∙ ap (λ m. before ++ flat_map (rule_line tally rules) (range_with_len 0 m)) all

@@ -1,0 +1,115 @@
+-- What the command `judge` reads and writes: `before` and `after` are what its reader has left, `old` and `new` what its writer
+-- took.
+use Rattle.std.specs.Prelude.{◌≡◌, ◌⊎◌, ℕ, Bool, false, List, [], ◌∷◌, Option, None, Err}
+use Rattle.gw_insn.specs.declared.insn.Insn.{Insn}
+use Rattle.gw_table.specs.Table.{Meaning}
+use Rattle.gw_input.specs.Programs.{NamesProgram}
+use Rattle.gw_input.specs.Tables.{IsTable}
+use Rattle.gw_input.specs.Refused.{refused_line}
+use Rattle.gw_log.specs.LogFrames.{refusal_number}
+use Rattle.gw_judge.specs.declared.fate.Fate.{Fate}
+use Rattle.gw_judge.specs.declared.fault.JudgeFault.{JudgeFault}
+use Rattle.gw_judge.specs.declared.fault.JudgeFault.TheVariants as ends
+use Rattle.gw_judge.specs.declared.report.Wanted.{Wanted}
+use Rattle.gw_judge.specs.declared.report.Wanted.TheVariants as wanted
+use Rattle.gw_judge.specs.declared.tally.Tally.{Tally}
+use Rattle.gw_judge.specs.Fates.{fate_of, policy_fate, table_fate}
+use Rattle.gw_judge.specs.Judged.{IsJudged, IsPartlyJudged, fault_number, wanted_front}
+use Rattle.gw_commands.specs.declared.judge_command.LogQuery.{LogQuery}
+use Rattle.gw_commands.specs.declared.judge_command.PolicyKind.{PolicyKind}
+use Rattle.gw_commands.specs.declared.judge_command.PolicyKind.TheVariants as kind
+use Rattle.gw_commands.specs.declared.judge_command.Shown.{Shown}
+use Rattle.gw_commands.specs.declared.judge_command.Shown.TheVariants.{Counts, Passed, Blocked}
+use Rattle.gw_commands.specs.declared.refusal.Refusal.{Refusal}
+use Rattle.gw_commands.specs.declared.refusal.Refusal.TheVariants.{OutOfMemory}
+use Rattle.gw_commands.specs.Commands.{Writes, WritesText}
+use Rattle.gw_commands.specs.LogCounts.{policy_counts, table_counts}
+use Rattle.gw_commands.specs.Policies.{RefusesFile}
+use Rattle.gw_commands.specs.Tables.{RefusesText}
+use Rattle.gw_commands.specs.Verdicts.{IsProgramRefusal}
+
+-- which lines are written
+abbrev pub wanted_of : Shown → Wanted
+wanted_of Counts = wanted.Nothing
+wanted_of Passed = wanted.Passed
+wanted_of Blocked = wanted.Blocked
+
+-- the line of what ends a log early: its number, and that of the line that is refused
+abbrev pub fault_line : JudgeFault → List ℕ
+fault_line (ends.Refused refused) = refused_line (refusal_number refused.why) (refused.line ∷ [])
+fault_line fault = refused_line (fault_number fault) []
+
+-- what stands behind the lines of a log: the counts where they are asked for, and there the line of what ended it early
+abbrev pub counts_behind : (Tally → List ℕ) → Shown → Tally → List ℕ
+counts_behind counts Counts tally = counts tally
+counts_behind counts Passed tally = []
+counts_behind counts Blocked tally = []
+
+abbrev pub fault_behind : Shown → JudgeFault → List ℕ
+fault_behind Counts fault = fault_line fault
+fault_behind Passed fault = []
+fault_behind Blocked fault = []
+
+-- the counts were written, with status 0; or memory was wanting for them
+abbrev pub TellsCounts : (Tally → List ℕ) → Shown → Tally → Option (List ℕ) → Option (List ℕ) → Bool → ℕ → Type 0
+TellsCounts counts shown tally old new failed status =
+    WritesText (counts_behind counts shown tally) 0 status old new failed
+    ⊎ ((shown ≡ Counts) × Writes (Err OutOfMemory) status old new failed)
+
+-- what ended a log early was written, with status 1
+abbrev pub TellsEnd : Shown → JudgeFault → Option (List ℕ) → Option (List ℕ) → Bool → ℕ → Type 0
+TellsEnd shown fault old new failed status = WritesText (fault_behind shown fault) 1 status old new failed
+
+-- the log was judged to its end, and its counts told
+pub record IsEnded (fate : List ℕ → Fate) (counts : Tally → List ℕ) (shown : Shown) (strict : Bool)
+    (before after old new : Option (List ℕ)) (failed : Bool) (status : ℕ) : Type 0 where
+  pub tally : Tally
+  pub middle : Option (List ℕ)
+  pub judged : IsJudged fate (wanted_front (wanted_of shown)) strict before after old middle tally
+  pub told : TellsCounts counts shown tally middle new failed status
+
+-- the log ended early, and it is told why
+pub record EndsEarly (fate : List ℕ → Fate) (shown : Shown) (strict : Bool) (before after : Option (List ℕ)) (read_failed : Bool)
+    (old new : Option (List ℕ)) (failed : Bool) (status : ℕ) : Type 0 where
+  pub fault : JudgeFault
+  pub middle : Option (List ℕ)
+  pub judged : IsPartlyJudged fate (wanted_front (wanted_of shown)) strict before after old middle read_failed failed fault
+  pub told : TellsEnd shown fault middle new failed status
+
+abbrev pub EndsLog : (List ℕ → Fate) → (Tally → List ℕ) → Shown → Bool → Option (List ℕ) → Option (List ℕ) → Bool
+    → Option (List ℕ) → Option (List ℕ) → Bool → ℕ → Type 0
+EndsLog fate counts shown strict before after read_failed old new failed status =
+    (IsEnded fate counts shown strict before after old new failed status × (read_failed ≡ false))
+    ⊎ EndsEarly fate shown strict before after read_failed old new failed status
+
+-- a refusal was written, and nothing was read
+abbrev pub OnlyRefuses : Refusal → Option (List ℕ) → Option (List ℕ) → Option (List ℕ) → Option (List ℕ) → Bool → ℕ → Type 0
+OnlyRefuses refusal before after old new failed status = (after ≡ before) × Writes (Err refusal) status old new failed
+
+-- what becomes of each line, and how it is told: by the table of a text, or by the program of a listing
+abbrev pub Decides : PolicyKind → ℕ → List ℕ → (List ℕ → Fate) → (Tally → List ℕ) → Type 0
+Decides kind.Table port text fate counts =
+    (table : Meaning) × IsTable text table × (fate ≡ fate_of (table_fate table port)) × (counts ≡ table_counts table)
+Decides kind.Listing port text fate counts =
+    (program : List Insn) × NamesProgram text program
+    × (fate ≡ fate_of (policy_fate (record { code = program; table = None }) port))
+    × (counts ≡ policy_counts (record { code = program; table = None }))
+
+abbrev pub RefusesPolicy : PolicyKind → List ℕ → Refusal → Type 0
+RefusesPolicy kind.Table text refusal = RefusesText text refusal
+RefusesPolicy kind.Listing text refusal = IsProgramRefusal text refusal
+
+-- the log was judged by the policy of a text; or the policy was refused, and nothing was read
+abbrev pub JudgesLog : LogQuery → List ℕ → Option (List ℕ) → Option (List ℕ) → Bool → Option (List ℕ) → Option (List ℕ) → Bool
+    → ℕ → Type 0
+JudgesLog query text before after read_failed old new failed status =
+    ((fate : List ℕ → Fate) × (counts : Tally → List ℕ) × Decides query.kind query.port text fate counts
+    × EndsLog fate counts query.shown query.strict before after read_failed old new failed status)
+    ⊎ ((refusal : Refusal) × RefusesPolicy query.kind text refusal × OnlyRefuses refusal before after old new failed status)
+
+-- the same, whatever the policy's file holds; or the file was refused, and nothing was read
+abbrev pub JudgesNamed : LogQuery → Option (List ℕ) → Option (List ℕ) → Bool → Option (List ℕ) → Option (List ℕ) → Bool → ℕ
+    → Type 0
+JudgesNamed query before after read_failed old new failed status =
+    ((text : List ℕ) × JudgesLog query text before after read_failed old new failed status)
+    ⊎ ((refusal : Refusal) × RefusesFile refusal × OnlyRefuses refusal before after old new failed status)

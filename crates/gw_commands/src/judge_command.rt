@@ -1,0 +1,210 @@
+//! The command `judge`: the lines of a log, as a policy decides them.
+
+ghost use Rattle.std.specs.Prelude.{◌≡◌, true, false};
+ghost use Rattle.gw_io.specs.Tries.{inner_of, has_failed};
+ghost use Rattle.gw_judge.specs.Fates.{fate_of};
+ghost use Rattle.gw_commands.specs.Judgings.{
+  EndsLog,
+  JudgesLog,
+  JudgesNamed,
+  TellsCounts,
+  TellsEnd,
+  fault_line,
+  wanted_of,
+};
+
+use crate::answer::Answer;
+use crate::files::read_file;
+use crate::log_counts::TellsParts;
+use crate::notes::{note_file, note_refused_lines};
+use crate::refusal::Refusal;
+use crate::responding::{respond, write_refusal};
+use crate::texts::{program, read_table};
+use gw_input::{Line, refused};
+use gw_io::Tried;
+use gw_judge::{Asked, JudgeFault, Tally, Wanted, judge};
+use gw_policy::Policy;
+use std::alloc::{AllocError, Global};
+use std::io::{Read, Write};
+use std::rt::Files;
+
+/// What a policy's file holds.
+#[derive(Clone, Copy, PartialEq, Eq, Debug)]
+pub enum PolicyKind {
+    Table,
+    Listing,
+}
+
+/// What is written of a log.
+#[derive(Clone, Copy, PartialEq, Eq, Debug)]
+pub enum Shown {
+    /// How many frames passed and were blocked, and by which part of a table.
+    Counts,
+    /// The lines whose frame passes.
+    Passed,
+    /// The lines whose frame is blocked.
+    Blocked,
+}
+
+/// What is asked of a log.
+#[derive(Clone, Copy, PartialEq, Eq, Debug)]
+pub struct LogQuery {
+    pub kind: PolicyKind,
+    /// The port at which the frames were taken.
+    pub port: u8,
+    pub shown: Shown,
+    /// Whether the first line that says no classic frame ends the command.
+    pub strict: bool,
+}
+
+/// Reads a policy's file, and judges a log by it: see `judge_log`. A file that cannot be read is 96, and one of more than 1048576
+/// octets 98; a person is told which.
+pub fn judge_named<R: Files, I: Read, W: Write, F: Write>(
+    rt: &R,
+    alloc: Global,
+    query: LogQuery,
+    file: &str,
+    input: &mut Tried<I>,
+    output: &mut Tried<W>,
+    faults: &mut Tried<F>,
+) -> u8
+    requires input { has_failed input.old ≡ false }
+    requires output { has_failed output.old ≡ false }
+    ensures { JudgesNamed query (I.remaining (inner_of input.old)) (I.remaining (inner_of input.new)) (has_failed input.new)
+        (W.contents (inner_of output.old)) (W.contents (inner_of output.new)) (has_failed output.new) result }
+{
+    match read_file(rt, alloc, file) {
+        Ok(text) => judge_log(alloc, query, text.as_slice(), input, output, faults),
+        Err(refusal) => {
+            note_file(file, faults);
+            respond(&Err(refusal), output, faults)
+        }
+    }
+}
+
+/// Judges each line of a log by the policy of this text, and writes the lines that are asked for, or the counts of all. Refused
+/// are the policy's text as by the commands `table` and `check`; 96, a read that failed; and strictly 101 to 113, the first line
+/// that says no classic frame. Where lines are asked for, only lines of the log are written, and a person is told of the rest.
+pub fn judge_log<I: Read, W: Write, F: Write>(
+    alloc: Global,
+    query: LogQuery,
+    text: &[u8],
+    input: &mut Tried<I>,
+    output: &mut Tried<W>,
+    faults: &mut Tried<F>,
+) -> u8
+    requires input { has_failed input.old ≡ false }
+    requires output { has_failed output.old ≡ false }
+    ensures { JudgesLog query text.now (I.remaining (inner_of input.old)) (I.remaining (inner_of input.new))
+        (has_failed input.new)
+        (W.contents (inner_of output.old)) (W.contents (inner_of output.new)) (has_failed output.new) result }
+{
+    match query.kind {
+        PolicyKind::Table => match read_table(alloc, text) {
+            Ok(table) => judge_by(alloc, query, &table, input, output, faults),
+            Err(refusal) => respond(&Err(refusal), output, faults),
+        },
+        PolicyKind::Listing => match program(alloc, text) {
+            Ok(program) => {
+                let policy = Policy::from_program(program);
+                judge_by(alloc, query, &policy, input, output, faults)
+            }
+            Err(refusal) => respond(&Err(refusal), output, faults),
+        },
+    }
+}
+
+/// Judges each line of a log by what decides.
+fn judge_by<D: TellsParts, I: Read, W: Write, F: Write>(
+    alloc: Global,
+    query: LogQuery,
+    decider: &D,
+    input: &mut Tried<I>,
+    output: &mut Tried<W>,
+    faults: &mut Tried<F>,
+) -> u8
+    requires input { has_failed input.old ≡ false }
+    requires output { has_failed output.old ≡ false }
+    ensures { EndsLog (fate_of (D.fate_by decider.now query.port)) (D.counts_by decider.now) query.shown query.strict
+        (I.remaining (inner_of input.old)) (I.remaining (inner_of input.new)) (has_failed input.new)
+        (W.contents (inner_of output.old)) (W.contents (inner_of output.new)) (has_failed output.new) result }
+{
+    let report = wanted(query.shown);
+    let asked = Asked {
+        decider,
+        from: query.port,
+        report: &report,
+        strict: query.strict,
+    };
+    match judge(&asked, input, output) {
+        Ok(tally) => {
+            note_refused_lines(&tally, faults);
+            tell_counts(alloc, query.shown, decider, &tally, output, faults)
+        }
+        Err(fault) => tell_end(query.shown, fault, output, faults),
+    }
+}
+
+/// Which lines of a log are written.
+fn wanted(shown: Shown) -> Wanted
+    ensures { result ≡ wanted_of shown }
+{
+    match shown {
+        Shown::Counts => Wanted::Nothing,
+        Shown::Passed => Wanted::Passed,
+        Shown::Blocked => Wanted::Blocked,
+    }
+}
+
+/// Writes the counts, where they are asked for.
+fn tell_counts<D: TellsParts, W: Write, F: Write>(
+    alloc: Global,
+    shown: Shown,
+    decider: &D,
+    tally: &Tally,
+    output: &mut Tried<W>,
+    faults: &mut Tried<F>,
+) -> u8
+    ensures { TellsCounts (D.counts_by decider.now) shown tally.now
+        (W.contents (inner_of output.old)) (W.contents (inner_of output.new)) (has_failed output.new) result }
+{
+    if output.failed() {
+        return 1;
+    }
+    if !matches!(shown, Shown::Counts) {
+        return 0;
+    }
+    match decider.counts_text(alloc, tally) {
+        Ok(text) => respond(&Ok(Answer::Text(text.into_bytes())), output, faults),
+        Err(AllocError) => respond(&Err(Refusal::OutOfMemory), output, faults),
+    }
+}
+
+/// Tells why a log ended early, on the output only where counts are asked for.
+fn tell_end<W: Write, F: Write>(
+    shown: Shown,
+    fault: JudgeFault,
+    output: &mut Tried<W>,
+    faults: &mut Tried<F>,
+) -> u8
+    ensures told { TellsEnd shown fault
+        (W.contents (inner_of output.old)) (W.contents (inner_of output.new)) (has_failed output.new) result }
+    ensures failed { has_failed output.old ≡ true → has_failed output.new ≡ true }
+{
+    if matches!(shown, Shown::Counts) && !output.failed() {
+        return write_refusal(fault_line(fault).as_bytes(), &fault, output, faults);
+    }
+    let _ = writeln!(faults, "gw: {fault}");
+    1
+}
+
+/// The line of what ends a log early: its number, and that of the line that is refused.
+fn fault_line(fault: JudgeFault) -> Line
+    ensures { result ≡ fault_line fault }
+{
+    let number = fault.number();
+    match fault {
+        JudgeFault::Refused(at) => refused(number, &[at.line]),
+        _ => refused(number, &[]),
+    }
+}

@@ -1,0 +1,127 @@
+//! How many frames of a log each part of a table decided, as text.
+
+ghost use Rattle.std.specs.Prelude.{◌≡◌, ◌≤◌, ℕ, List, ◌++◌, string_bytes, length, IfOk, OnOk};
+ghost use Rattle.gw_judge.specs.declared.tally.Tally.{Tally};
+ghost use Rattle.gw_commands.specs.LogCounts.{
+  action_word,
+  part_line,
+  policy_counts,
+  range_text,
+  rule_count,
+  rule_counts,
+  rule_text,
+  table_counts,
+  totals_line,
+};
+
+use gw_judge::{Decider, Tally};
+use gw_policy::Policy;
+use gw_table::{Action, Rule, Span, Table};
+use std::alloc::{AllocError, Global};
+
+/// What decides the frames of a log, and tells how many each of its parts decided.
+pub trait TellsParts: Decider {
+    /// The text of a tally.
+    ghost counts_by: { Self → Tally → List ℕ };
+
+    /// The lines that tell what was counted.
+    fn counts_text(&self, alloc: Global, tally: &Tally) -> Result<String, AllocError>
+        ensures { IfOk result (λ text. string_bytes text ≡ counts_by self.now tally.now) };
+}
+
+impl TellsParts for Policy {
+    ghost counts_by = { policy_counts };
+
+    fn counts_text(&self, alloc: Global, tally: &Tally) -> Result<String, AllocError> {
+        let mut text = String::new(alloc);
+        push_totals(&mut text, tally)?;
+        Ok(text)
+    }
+}
+
+impl TellsParts for Table {
+    ghost counts_by = { table_counts };
+
+    fn counts_text(&self, alloc: Global, tally: &Tally) -> Result<String, AllocError> {
+        let mut text = String::new(alloc);
+        push_rules(&mut text, self.rules(), tally)?;
+        push_part(&mut text, "default", self.default(), tally.by_default)?;
+        push_part(&mut text, "other", self.other(), tally.by_other)?;
+        push_totals(&mut text, tally)?;
+        Ok(text)
+    }
+}
+
+/// A line for each rule, in their order.
+fn push_rules(text: &mut String, rules: &[Rule], tally: &Tally) -> Result<(), AllocError>
+    requires { length rules.now ≤ 256 }
+    ensures { OnOk result (string_bytes text.new ≡ string_bytes text.old ++ rule_counts tally.now rules.now) }
+{
+    for number in 0..rules.len() {
+        push_rule(text, number, &rules[number], tally.by_rule[number])?;
+    }
+    Ok(())
+}
+
+/// The line of a rule: how many frames it decided, and what it says.
+fn push_rule(text: &mut String, number: usize, rule: &Rule, count: u64) -> Result<(), AllocError>
+    ensures { OnOk result (string_bytes text.new ≡ string_bytes text.old ++ rule_count number count rule.now) }
+{
+    write!(text, "rule {number} decided {count}: ")?;
+    push_what(text, rule)?;
+    text.push_str("\n")
+}
+
+/// What a rule says: its action, and each range that leaves something out.
+fn push_what(text: &mut String, rule: &Rule) -> Result<(), AllocError>
+    ensures { OnOk result (string_bytes text.new ≡ string_bytes text.old ++ rule_text rule.now) }
+{
+    text.push_str(action_word(rule.action))?;
+    push_range(text, "pgn", rule.pgn, 262143)?;
+    push_range(text, "source", rule.source, 255)?;
+    push_range(text, "destination", rule.destination, 255)?;
+    push_range(text, "from", rule.from, 255)
+}
+
+/// A range of a rule, unless all numbers up to the greatest are in it.
+fn push_range(text: &mut String, key: &str, range: Span, greatest: u32) -> Result<(), AllocError>
+    ensures { OnOk result (string_bytes text.new ≡ string_bytes text.old ++ range_text key.now greatest range) }
+{
+    let Span { low, high } = range;
+    if low == 0 && high == greatest {
+        Ok(())
+    } else if low == high {
+        write!(text, " {key} {low}")
+    } else {
+        write!(text, " {key} {low} to {high}")
+    }
+}
+
+/// The line of `default` or of `other`.
+fn push_part(text: &mut String, key: &str, action: Action, count: u64) -> Result<(), AllocError>
+    ensures { OnOk result (string_bytes text.new ≡ string_bytes text.old ++ part_line key.now count action) }
+{
+    let action = action_word(action);
+    write!(text, "{key} decided {count}: {action}\n")
+}
+
+fn action_word(action: Action) -> &'static str
+    ensures { result.now ≡ action_word action }
+{
+    match action {
+        Action::Pass => "pass",
+        Action::Block => "block",
+    }
+}
+
+/// The line of all lines.
+fn push_totals(text: &mut String, tally: &Tally) -> Result<(), AllocError>
+    ensures { OnOk result (string_bytes text.new ≡ string_bytes text.old ++ totals_line tally.now) }
+{
+    let (lines, passed) = (tally.lines, tally.counts.passed);
+    let (blocked, refused) = (tally.counts.blocked, tally.counts.refused);
+    write!(
+        text,
+        "lines {lines} passed {passed} blocked {blocked} refused {refused}\n"
+    )
+}
