@@ -1,2 +1,4 @@
 mod Judged
 mod Replaced
+mod Forwarding
+mod Forwarded

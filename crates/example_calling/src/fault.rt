@@ -28,6 +28,8 @@ pub enum Fault {
     NotTaken(OfferRefusal),
     /// 77 or 85: a gateway that was not closed.
     NotClosed(CloseRefusal),
+    /// 86: no thread could be started.
+    NoThread,
     /// A write failed.
     WriteFailed,
 }
@@ -68,6 +70,7 @@ impl Display for Fault {
                 let number = why.number();
                 write!(f, "refused {number}")
             }
+            Fault::NoThread => f.write_str("refused 86"),
             Fault::WriteFailed => f.write_str("a write failed"),
         }
     }

@@ -1,8 +1,8 @@
 //! How the crates are called: a listing and a table become policies, a batch puts both in force, and frames are judged.
 //!
 //! The program takes three frames at port 0 and tells which of them leave at port 1, whose policy is a program, and at port 2,
-//! whose policy is a table. Then it replaces the policy of port 1 between two offers of a frame. docs/CALLING.md goes through
-//! it.
+//! whose policy is a table. Then it replaces the policy of port 1 between two offers of a frame, and again while threads forward
+//! frames. docs/CALLING.md goes through it.
 #![tactic(auto)]
 
 mod every_order;
@@ -10,17 +10,21 @@ mod fault;
 mod gateway;
 mod policies;
 mod replacing;
+mod threads;
 
 use every_order::finished;
 use fault::Fault;
 use gateway::{batch_for, judge};
-use j1939_gateway::{Frame, Outcome};
+use j1939_gateway::{Frame, FrameCopy, Outcome};
 use policies::{program_policy, table_policy};
 use replacing::replace_between;
 use std::alloc::Global;
 use std::io::Write;
+use std::marker::Sync;
 use std::process::ExitCode;
 use std::sync::Wait;
+use std::thread::Threads;
+use threads::{Forwarded, forward_in_threads};
 
 /// Passes the frames of PDU2 groups, whose PDU format, octet 1 of the record, is 240 or more.
 const PROGRAM: &[u8] = b"4,48 0 0 1,53 0 1 240,6 0 0 1,6 0 0 0,";
@@ -35,15 +39,14 @@ const EEC1: [u8; 16] = [
     0x8C, 0xF0, 0x04, 0x00, 8, 0, 0, 0, 0xFF, 0xFF, 0xFF, 0xE0, 0x2E, 0xFF, 0xFF, 0xFF,
 ];
 
+const ENGINE_HOURS: [u8; 16] = [
+    0x98, 0xFE, 0xE5, 0x00, 8, 0, 0, 0, 0x40, 0xE2, 0x01, 0x00, 0xFF, 0xFF, 0xFF, 0xFF,
+];
+
 /// EEC1 (61444), engine hours (65253) and a request (59904), as the engine and an instrument cluster send them.
 const RECORDS: [(&str, [u8; 16]); 3] = [
     ("EEC1", EEC1),
-    (
-        "engine hours",
-        [
-            0x98, 0xFE, 0xE5, 0x00, 8, 0, 0, 0, 0x40, 0xE2, 0x01, 0x00, 0xFF, 0xFF, 0xFF, 0xFF,
-        ],
-    ),
+    ("engine hours", ENGINE_HOURS),
     (
         "request",
         [
@@ -62,11 +65,16 @@ fn main(rt: HostRuntime) -> ExitCode {
     }
 }
 
-/// Writes what becomes of the records, of a frame around a replacement, and of a frame in the model.
-fn tell_all<R: Wait, W: Write>(rt: &R, alloc: Global, output: &mut W) -> Result<(), Fault> {
+/// Writes what becomes of the records, of a frame around a replacement, of a frame in the model, and of frames in threads.
+fn tell_all<R: Threads + Wait + Sync, W: Write>(
+    rt: &R,
+    alloc: Global,
+    output: &mut W,
+) -> Result<(), Fault> {
     tell_verdicts(alloc, output)?;
     tell_outcomes(rt, alloc, output)?;
-    tell_model(alloc, output)
+    tell_model(alloc, output)?;
+    tell_threads(rt, alloc, output)
 }
 
 /// Writes a line for each record: its name, and where it leaves.
@@ -102,6 +110,48 @@ fn tell_model<W: Write>(alloc: Global, output: &mut W) -> Result<(), Fault> {
         Some(outcome) => tell_outcome(&outcome, output),
         None => Ok(()),
     }
+}
+
+/// Writes what threads did with frames that both policies of port 1 pass: the table, and the program that replaces it meanwhile.
+fn tell_threads<R: Threads + Wait + Sync, W: Write>(
+    rt: &R,
+    alloc: Global,
+    output: &mut W,
+) -> Result<(), Fault> {
+    let frame = Frame::read(&ENGINE_HOURS).map_err(|why| Fault::Record(why))?;
+    let frames = Vec::from_slice(alloc, &[frame; 4]).map_err(|_| Fault::OutOfMemory)?;
+    let table = batch_for(alloc, PORT, table_policy(alloc, TABLE)?)?;
+    let program = batch_for(alloc, PORT, program_policy(alloc, PROGRAM)?)?;
+    let forwarded = forward_in_threads(rt, alloc, frames, table, program)?;
+    let front = forwarded.report.front;
+    let Some(counts) = forwarded.report.ins.first() else {
+        return Ok(());
+    };
+    let (taken, placed, lost) = (counts.taken, counts.placed, counts.lost);
+    writeln!(
+        output,
+        "threads: front {front}, taken {taken}, placed {placed}, lost {lost}"
+    )?;
+    tell_copies(&forwarded, output)
+}
+
+/// Writes the numbers of the copies, those that were taken out and then those that are left.
+fn tell_copies<W: Write>(forwarded: &Forwarded, output: &mut W) -> Result<(), Fault> {
+    write!(output, "copies:")?;
+    tell_numbers(&forwarded.copies, output)?;
+    for lane in &forwarded.report.lanes {
+        tell_numbers(&lane.left, output)?;
+    }
+    writeln!(output, "")?;
+    Ok(())
+}
+
+fn tell_numbers<W: Write>(copies: &[FrameCopy], output: &mut W) -> Result<(), Fault> {
+    for copy in copies {
+        let number = copy.number;
+        write!(output, " {number}")?;
+    }
+    Ok(())
 }
 
 /// Writes the number of a frame, by how many batches it was judged, and for which ports a copy was placed.

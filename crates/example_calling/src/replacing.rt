@@ -105,7 +105,7 @@ fn offer_around<R: Wait>(
 }
 
 /// Publishes a batch. It waits for ports that are reading, and no port waits for it.
-fn publish<R: Wait>(rt: &R, operator: &mut Operator, batch: Batch) -> Result<(), Fault>
+pub fn publish<R: Wait>(rt: &R, operator: &mut Operator, batch: Batch) -> Result<(), Fault>
     ensures published { OnOk result (operator.new ≡ record operator.old { published = operator.old.published ++ batch ∷ [] }) }
     ensures may { OnOk result (MayPublish operator.old batch) }
     ensures refused { IfErr result (IsNotPublished operator.old batch) }

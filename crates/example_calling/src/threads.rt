@@ -1,0 +1,361 @@
+//! The ends of a gateway in threads of the caller's own: one offers frames, one takes their copies out, and the calling thread
+//! replaces a policy meanwhile.
+
+ghost use Rattle.std.specs.Prelude.{◌≡◌, ◌++◌, ◌∷◌, [], IfOk, IfErr, MatchBool, vec_len, All};
+ghost use Rattle.j1939_gateway.specs.PortEnds.{end_out};
+ghost use Rattle.j1939_gateway.specs.Making.{AreOfOneGateway};
+ghost use Rattle.j1939_gateway.specs.Closing.{Closes};
+ghost use Rattle.j1939_gateway.specs.Sending.{Sends};
+ghost use Rattle.j1939_gateway.specs.MakeRefusal.{MakeRefusal};
+ghost use Rattle.example_calling.specs.declared.fault.Fault.TheVariants.{NotMade, OutOfMemory};
+ghost use Rattle.example_calling.specs.Threads.{
+  AreApart,
+  CanOffer,
+  CanStart,
+  HasOffered,
+  HasSent,
+  HaveRun,
+  IsClosingFault,
+  IsForwarded,
+  IsForwardingFault,
+  IsOfferFault,
+  IsOpen,
+  IsOpenFault,
+  IsRunFault,
+};
+
+use crate::fault::Fault;
+use crate::replacing::publish;
+use j1939_gateway::{
+    Batch, Frame, FrameCopy, Limits, Operator, Outcome, Parts, PortIn, PortOut, Report, close,
+    gateway,
+};
+use std::alloc::Global;
+use std::marker::{Send, Sync};
+use std::snapshot::Snapshot;
+use std::sync::Wait;
+use std::sync::atomic::{AtomicBool, Ordering};
+use std::thread::{Promise, Scope, Threads, scope, scope_env, yield_now};
+
+/// The port at which frames are offered.
+const FROM: u8 = 0;
+
+/// What became of frames that one thread offered while another took their copies out, and the gateway's report.
+#[derive(Drop)]
+pub struct Forwarded {
+    /// Of each frame that was offered at port 0, in order.
+    pub outcomes: Vec<Outcome>,
+    /// The copies that were taken out at port 1, in order.
+    pub copies: Vec<FrameCopy>,
+    pub report: Report,
+}
+
+/// The end at which a thread offers frames, with what became of them. There is room for the outcome of each.
+#[derive(Drop)]
+struct Source {
+    port: PortIn,
+    frames: Vec<Frame>,
+    outcomes: Vec<Outcome>,
+}
+
+/// The end at which a thread takes copies out, with those that it took. There is room for a copy of each frame.
+#[derive(Drop)]
+struct Sink {
+    port: PortOut,
+    copies: Vec<FrameCopy>,
+}
+
+/// The ends that go to threads.
+#[derive(Drop)]
+struct Ends {
+    operator: Operator,
+    source: Source,
+    sink: Sink,
+}
+
+/// The ends of the other direction, which stay with the caller.
+#[derive(Drop)]
+struct Idle {
+    port_in: PortIn,
+    port_out: PortOut,
+}
+
+/// Forwards frames from port 0 to port 1 of a new gateway. The first batch is in force at the first of them. One thread offers
+/// the frames, another takes copies out, and the second batch is published meanwhile: which of the frames it judges depends on
+/// the schedule. Once the threads are joined, the gateway is closed. It may wait.
+pub fn forward_in_threads<R: Threads + Wait + Sync>(
+    rt: &R,
+    alloc: Global,
+    frames: Vec<Frame>,
+    first: Batch,
+    second: Batch,
+) -> Result<Forwarded, Fault>
+    ensures forwarded { IfOk result (IsForwarded first second frames.items) }
+    ensures refused { IfErr result (IsForwardingFault first second frames.items) }
+{
+    let parts = open(rt, alloc, first)?;
+    let (ends, idle) = set_apart(alloc, parts, frames)?;
+    let is_over = AtomicBool::new(false);
+    let over = &is_over;
+    let ends = scope(
+        scope_env(),
+        rt,
+        move |threads| -> Result<Ends, Fault>
+            requires { CanStart ends }
+        { run_ends(threads, rt, over, ends, second) },
+    )?;
+    close_ends(alloc, ends, idle)
+}
+
+/// A new gateway of two ports, whose first batch is published.
+fn open<R: Wait>(rt: &R, alloc: Global, first: Batch) -> Result<Parts, Fault>
+    ensures opened { IfOk result (λ parts. IsOpen (first ∷ []) parts.operator parts.ins.items parts.outs.items) }
+    ensures refused { IfErr result (IsOpenFault first) }
+{
+    let mut parts = new_gateway(alloc)?;
+    publish(rt, &mut parts.operator, first)?;
+    Ok(parts)
+}
+
+/// Two ports, and room for four copies in a lane, two batches and eight frames at a port.
+fn new_gateway(alloc: Global) -> Result<Parts, Fault>
+    ensures made { IfOk result (λ parts. IsOpen [] parts.operator parts.ins.items parts.outs.items) }
+    ensures refused { IfErr result (λ fault. (why : MakeRefusal) × (fault ≡ NotMade why)) }
+{
+    let Ok(limits) = Limits::new(2, 4, 2, 8) else {
+        unreachable!()
+    };
+    match gateway(alloc, limits) {
+        Ok(parts) => Ok(parts),
+        Err(why) => Err(Fault::NotMade(why)),
+    }
+}
+
+/// Each end on its own, with room for what the threads hand back. Port 0 is told what is published.
+fn set_apart(alloc: Global, parts: Parts, frames: Vec<Frame>) -> Result<(Ends, Idle), Fault>
+    requires two { (vec_len parts.ins ≡ 2) × (vec_len parts.outs ≡ 2) }
+    requires board { All (λ ingress. ingress.board ≡ parts.operator.board) parts.ins.items }
+    ensures apart { IfOk result (λ made. AreApart parts.operator parts.ins.items parts.outs.items frames.items made.0 made.1) }
+    ensures refused { IfErr result (λ fault. fault ≡ OutOfMemory) }
+{
+    let Parts {
+        operator,
+        ins,
+        outs,
+    } = parts;
+    let (mut port_in, other_in) = pair(ins);
+    let (other_out, port_out) = pair(outs);
+    let told = operator.tell();
+    port_in.learn(&told);
+    let Ok(outcomes) = Vec::with_capacity(alloc, frames.len()) else {
+        return Err(Fault::OutOfMemory);
+    };
+    let Ok(copies) = Vec::with_capacity(alloc, frames.len()) else {
+        return Err(Fault::OutOfMemory);
+    };
+    let source = Source {
+        port: port_in,
+        frames,
+        outcomes,
+    };
+    let sink = Sink {
+        port: port_out,
+        copies,
+    };
+    let ends = Ends {
+        operator,
+        source,
+        sink,
+    };
+    let idle = Idle {
+        port_in: other_in,
+        port_out: other_out,
+    };
+    Ok((ends, idle))
+}
+
+/// The two elements of a list.
+fn pair<T: Drop>(mut list: Vec<T>) -> (T, T)
+    requires { vec_len list ≡ 2 }
+    ensures { list.items ≡ result.0 ∷ result.1 ∷ [] }
+{
+    let Some(second) = list.pop() else {
+        unreachable!()
+    };
+    let Some(first) = list.pop() else {
+        unreachable!()
+    };
+    (first, second)
+}
+
+// What is known of a thread that offered frames.
+#[derive(Drop)]
+struct SourcePromise(Snapshot<Source>);
+
+impl Promise<Result<Source, Fault>> for SourcePromise {
+    ghost use Rattle.std.specs.Prelude.{MatchResult};
+    ghost use Rattle.example_calling.specs.Threads.{HasOffered, IsOfferFault};
+
+    ghost kept_by = { λ p done. MatchResult done (HasOffered p.0.value) (IsOfferFault p.0.value) };
+}
+
+// What is known of a thread that took copies out.
+#[derive(Drop)]
+struct SinkPromise(Snapshot<Sink>);
+
+impl Promise<Sink> for SinkPromise {
+    ghost use Rattle.example_calling.specs.Threads.{HasSent};
+
+    ghost kept_by = { λ p done. HasSent p.0.value done };
+}
+
+/// Starts the threads, publishes the batch while they run, and joins them. Copies are taken out until no frame is offered any
+/// more and none waits.
+fn run_ends<'s, E, R: Threads + Wait + Sync>(
+    threads: &'s Scope<'s, E>,
+    rt: &'s R,
+    is_over: &'s AtomicBool,
+    ends: Ends,
+    batch: Batch,
+) -> Result<Ends, Fault>
+    requires { CanStart ends }
+    ensures ran { IfOk result (HaveRun ends batch) }
+    ensures refused { IfErr result (IsRunFault ends batch) }
+{
+    let Ends {
+        mut operator,
+        source,
+        sink,
+    } = ends;
+    let promise = SinkPromise(Snapshot::of(&sink));
+    let Ok(sending) = threads.spawn_with(
+        promise,
+        move || -> Sink
+            requires { sink.copies.items ≡ [] }
+        { take_out(rt, sink, is_over) },
+    ) else {
+        return Err(Fault::NoThread);
+    };
+    let promise = SourcePromise(Snapshot::of(&source));
+    let Ok(offering) = threads.spawn_with(
+        promise,
+        move || -> Result<Source, Fault>
+            requires { CanOffer source }
+        { offer_all(source) },
+    ) else {
+        is_over.store(true, Ordering::SeqCst);
+        return Err(Fault::NoThread);
+    };
+    let published = publish(rt, &mut operator, batch);
+    let offered = offering.join(rt);
+    is_over.store(true, Ordering::SeqCst);
+    let sink = sending.join(rt);
+    published?;
+    let source = offered?;
+    Ok(Ends {
+        operator,
+        source,
+        sink,
+    })
+}
+
+/// Offers the frames in order, up to one that is refused.
+fn offer_all(source: Source) -> Result<Source, Fault>
+    requires { CanOffer source }
+    ensures offered { IfOk result (HasOffered source) }
+    ensures refused { IfErr result (IsOfferFault source) }
+{
+    let Source {
+        mut port,
+        frames,
+        mut outcomes,
+    } = source;
+    for frame in &frames {
+        match port.offer(*frame) {
+            Ok(outcome) => outcomes.push_reserved(outcome),
+            Err(why) => return Err(Fault::NotTaken(why)),
+        }
+    }
+    Ok(Source {
+        port,
+        frames,
+        outcomes,
+    })
+}
+
+/// Takes copies out until a look that began after the last offer finds none. It may wait.
+fn take_out<R: Wait>(rt: &R, sink: Sink, is_over: &AtomicBool) -> Sink
+    requires { sink.copies.items ≡ [] }
+    ensures { HasSent sink result }
+{
+    let Sink {
+        mut port,
+        mut copies,
+    } = sink;
+    for _ in rt.forever() {
+        let is_last = is_over.load(Ordering::SeqCst);
+        if !take_copy(&mut port, &mut copies) {
+            if is_last {
+                break;
+            }
+            yield_now();
+        }
+    }
+    Sink { port, copies }
+}
+
+/// Takes the next copy out, if one waits and there is room for it.
+fn take_copy(port: &mut PortOut, copies: &mut Vec<FrameCopy>) -> bool
+    ensures end { end_out port.new ≡ end_out port.old }
+    ensures taken { MatchBool result
+        ((copy : FrameCopy) × Sends 0 port.old copy port.new × (copies.new.items ≡ copies.old.items ++ copy ∷ []))
+        ((port.new ≡ port.old) × (copies.new.items ≡ copies.old.items)) }
+{
+    if copies.len() >= copies.capacity() {
+        return false;
+    }
+    match port.next_from(FROM) {
+        Some(copy) => {
+            copies.push_reserved(copy);
+            true
+        }
+        None => false,
+    }
+}
+
+/// Puts the ends together again, and closes the gateway.
+fn close_ends(alloc: Global, ends: Ends, idle: Idle) -> Result<Forwarded, Fault>
+    requires { AreOfOneGateway ends.operator (ends.source.port ∷ idle.port_in ∷ []) (idle.port_out ∷ ends.sink.port ∷ []) }
+    ensures closed { IfOk result (λ forwarded. Closes ends.operator (ends.source.port ∷ idle.port_in ∷ [])
+        (idle.port_out ∷ ends.sink.port ∷ []) forwarded.report) }
+    ensures outcomes { IfOk result (λ forwarded. forwarded.outcomes.items ≡ ends.source.outcomes.items) }
+    ensures copies { IfOk result (λ forwarded. forwarded.copies.items ≡ ends.sink.copies.items) }
+    ensures refused { IfErr result IsClosingFault }
+{
+    let Ends {
+        operator,
+        source,
+        sink,
+    } = ends;
+    let Ok(ins) = Vec::from_array(alloc, [source.port, idle.port_in]) else {
+        return Err(Fault::OutOfMemory);
+    };
+    let Ok(outs) = Vec::from_array(alloc, [idle.port_out, sink.port]) else {
+        return Err(Fault::OutOfMemory);
+    };
+    match close(
+        alloc,
+        Parts {
+            operator,
+            ins,
+            outs,
+        },
+    ) {
+        Ok(report) => Ok(Forwarded {
+            outcomes: source.outcomes,
+            copies: sink.copies,
+            report,
+        }),
+        Err(why) => Err(Fault::NotClosed(why)),
+    }
+}
