@@ -39,7 +39,8 @@ quick:
 crate:
 	@tests/crate $(NAME)
 
-# A soak of the running threads: ten million offers at four ports, with a replacement after each 10000 of them.
+# A soak of the running threads: ten million offers at four ports, with a replacement after each 10000 of them. Then 400000
+# offers at each of two gateways: one takes no copy out before the last, and one holds offers back until there is room.
 .PHONY: soak
 soak: crates/test_soak/out/test_soak
 	@$< 2500000 10000

@@ -1,11 +1,13 @@
 //! Soaks a gateway that runs in threads of its own: four ports offer frames and take copies out while policies are replaced,
-//! and one thread judges each outcome again.
+//! and one thread judges each outcome again. Then it soaks two gateways more, whose ends are in threads of the soak's: one from
+//! which no copy is taken out before the last offer, and one whose offers are held back until the lanes have room.
 //!
 //! The words are how many frames each port offers, and after how many offers each replacement comes. What it prints on the output
 //! is the same whatever the schedule; how many copies there were is on stderr. The status is 0 where all agrees, else
 //! 1, or that of a fault. With the word `times` it times the ends of a gateway on the table that it reads instead.
 #![tactic(auto)]
 
+mod ends;
 mod fault;
 mod frames;
 mod judging;
@@ -14,11 +16,13 @@ mod pace;
 mod policies;
 mod replacing;
 mod rounds;
+mod sendings;
 mod soaking;
+mod takings;
 mod times;
 
 use fault::Fault;
-use soaking::{Found, soak};
+use soaking::{Found, Material, soak, soak_ends};
 use std::env;
 use std::io::{Write, read_to_string};
 use std::marker::Sync;
@@ -27,6 +31,9 @@ use std::sync::Wait;
 use std::thread::Threads;
 use std::time::{Clock, Duration, Instant};
 use times::time;
+
+/// How many frames a port offers at most, where its ends are in threads of the soak's own.
+const MOST_AT_ENDS: u32 = 100_000;
 
 fn main(rt: HostRuntime) -> ExitCode {
     match run(&rt, &rt) {
@@ -50,20 +57,67 @@ enum Request {
 /// wait by.
 fn run<R: Threads + Wait + Clock + Sync>(rt: &HostRuntime, threads: &R) -> Result<bool, Fault> {
     match words(rt)? {
-        Request::Soak { each, every } => {
-            let start = Instant::now(rt)?;
-            let found = soak(threads, rt.alloc(), each, every)?;
-            let time = start.elapsed(rt)?;
-            tell(&found, &mut rt.stdout())?;
-            tell_copies(&found, time, &mut rt.stderr())?;
-            Ok(found.agrees())
-        }
+        Request::Soak { each, every } => soak_all(rt, threads, each, every),
         Request::Times => {
             let text = read_to_string(rt.alloc(), rt.stdin())?;
             time(threads, rt.alloc(), text.as_str(), &mut rt.stdout())?;
             Ok(true)
         }
     }
+}
+
+/// Soaks three gateways, and answers whether all agrees.
+fn soak_all<R: Threads + Wait + Sync>(
+    rt: &HostRuntime,
+    threads: &R,
+    each: u32,
+    every: u32,
+) -> Result<bool, Fault> {
+    let material = Material::new(rt.alloc())?;
+    let agrees = soak_whole(rt, threads, &material, each, every)?;
+    Ok(soak_parts(rt, threads, &material, each.min(MOST_AT_ENDS))? && agrees)
+}
+
+/// Soaks a gateway in threads of its own, and answers whether all agrees.
+fn soak_whole<R: Threads + Wait + Sync>(
+    rt: &HostRuntime,
+    threads: &R,
+    material: &Material,
+    each: u32,
+    every: u32,
+) -> Result<bool, Fault> {
+    let start = Instant::now(rt)?;
+    let found = soak(threads, rt.alloc(), material, each, every)?;
+    let time = start.elapsed(rt)?;
+    tell(&found, &mut rt.stdout())?;
+    tell_copies(&found, time, &mut rt.stderr())?;
+    Ok(found.agrees())
+}
+
+/// Soaks two gateways whose ends are in threads of the soak's, and answers whether all agrees.
+fn soak_parts<R: Threads + Wait + Sync>(
+    rt: &HostRuntime,
+    threads: &R,
+    material: &Material,
+    each: u32,
+) -> Result<bool, Fault> {
+    let filled = soak_ends(threads, rt.alloc(), material, each, false)?;
+    tell_ends(
+        "nothing taken out",
+        &filled,
+        filled.placed,
+        "placed",
+        &mut rt.stdout(),
+    )?;
+    let held = soak_ends(threads, rt.alloc(), material, each, true)?;
+    tell_ends(
+        "offers held back",
+        &held,
+        held.lost,
+        "lost",
+        &mut rt.stdout(),
+    )?;
+    Ok(filled.agrees() && held.agrees())
 }
 
 fn words(rt: &HostRuntime) -> Result<Request, Fault> {
@@ -103,9 +157,11 @@ fn tell<W: Write>(found: &Found, output: &mut W) -> Result<(), Fault> {
         taken,
         local,
         published,
+        current,
         differing,
         lanes,
         disordered,
+        left,
         ..
     } = *found;
     writeln!(
@@ -114,10 +170,13 @@ fn tell<W: Write>(found: &Found, output: &mut W) -> Result<(), Fault> {
     )?;
     writeln!(
         output,
-        "{published} of {replacements} replacements published"
+        "{published} of {replacements} replacements published, {current} of 4 ports know the last"
     )?;
     writeln!(output, "{taken} outcomes judged again, {differing} differ")?;
-    writeln!(output, "{lanes} lanes, {disordered} out of order")?;
+    writeln!(
+        output,
+        "{lanes} lanes, {disordered} out of order, {left} copies left"
+    )?;
     let balance = if found.is_balanced {
         "balance"
     } else {
@@ -127,24 +186,39 @@ fn tell<W: Write>(found: &Found, output: &mut W) -> Result<(), Fault> {
     Ok(())
 }
 
+/// Writes what was found of a gateway whose ends are in threads of the soak's, and how many copies had one fate.
+fn tell_ends<W: Write>(
+    name: &str,
+    found: &Found,
+    copies: u64,
+    fate: &str,
+    output: &mut W,
+) -> Result<(), Fault> {
+    let (taken, offers, differing) = (found.taken, found.offers, found.differing);
+    writeln!(
+        output,
+        "{name}: {taken} of {offers} frames taken, {differing} outcomes differ, {copies} copies {fate}"
+    )?;
+    Ok(())
+}
+
 /// Writes how many copies there were, and the time.
 fn tell_copies<W: Write>(found: &Found, time: Duration, faults: &mut W) -> Result<(), Fault> {
     let Found {
         allowed,
         placed,
         lost,
-        left,
         ..
     } = *found;
     let seconds = time.as_secs();
     writeln!(
         faults,
-        "{allowed} copies allowed, {placed} placed, {lost} lost, {left} left; {seconds} s"
+        "{allowed} copies allowed, {placed} placed, {lost} lost; {seconds} s"
     )?;
     if !found.is_whole {
         writeln!(
             faults,
-            "a port stopped, or a replacement was refused or came too soon"
+            "a port stopped, a replacement was refused, or something came too soon"
         )?;
     }
     Ok(())

@@ -1,12 +1,13 @@
 //! Rounds of one call, timed. Each answer is the least time of many rounds, in tenths of a nanosecond a call.
 
+use crate::ends::open;
 use crate::fault::Fault;
 use crate::policies::for_ports;
 use gw_board::board;
 use gw_frame::Frame;
 use gw_ledger::Limits;
 use gw_policy::{Policy, PolicySet};
-use gw_ports::{Parts, PortIn, PortOut, gateway};
+use gw_ports::{Parts, PortIn, PortOut};
 use std::alloc::Global;
 use std::sync::{Arc, Wait};
 use std::time::{Clock, Instant};
@@ -31,13 +32,7 @@ pub fn opened<R: Wait>(
     policy: &Arc<Policy>,
 ) -> Result<Parts, Fault> {
     let limits = Limits::new(u32::from(ports), LANE, 65535, u32::MAX).map_err(|_| Fault::TooMany)?;
-    let Ok(mut parts) = gateway(alloc, limits) else {
-        return Err(Fault::Unprepared);
-    };
-    match parts.operator.replace(rt, for_ports(ports, policy)?) {
-        Ok(_) => Ok(parts),
-        Err(_) => Err(Fault::Unprepared),
-    }
+    open(rt, alloc, limits, for_ports(ports, policy)?)
 }
 
 /// Takes all copies out at a port, and answers how many there were.

@@ -1,13 +1,16 @@
-//! A run of a gateway, and what is found in its report.
+//! Runs of a gateway, and what is found in their reports.
 
 ghost use Rattle.std.specs.Prelude.{◌≡◌, All, IfOk, vec_len};
 
+use crate::ends::run_ends;
 use crate::fault::Fault;
 use crate::frames::{Drawn, pool};
 use crate::judging::Judge;
 use crate::lanes::LaneCopies;
-use crate::pace::Pace;
+use crate::pace::{Pace, Shown};
 use crate::policies::Policies;
+use crate::sendings::{LANE, Room};
+use crate::takings::Takings;
 use gw_frame::Frame;
 use gw_ledger::{InLedger, Limits, Outcome, balance};
 use gw_ports::{LaneLeft, Report, RunReport, run_from};
@@ -16,10 +19,9 @@ use std::marker::Sync;
 use std::sync::Wait;
 use std::thread::Threads;
 
-/// How many copies may wait in a lane.
-const LANE: u32 = 64;
+/// How many ports a gateway has, and how many lanes.
+const PORTS: usize = 4;
 
-/// How many lanes four ports have.
 const LANES: usize = 12;
 
 /// What a soak found.
@@ -31,20 +33,21 @@ pub struct Found {
     /// How many outcomes there are, and of how many frames that were local.
     pub taken: usize,
     pub local: u64,
-    /// How many batches were published behind the first.
+    /// How many batches were published behind the first, and at how many ports the last frame was judged by all of them.
     pub published: usize,
-    /// How many outcomes are other than one thread finds by the batches up to their front.
+    pub current: usize,
+    /// How many outcomes are other than one thread finds by the batches up to their front, and by the copies before.
     pub differing: usize,
-    /// How many lanes there are, and of how many the copies are other than those that were placed.
+    /// How many lanes there are, of how many the copies are other than those that were placed, and how many copies are left.
     pub lanes: usize,
     pub disordered: usize,
-    /// Whether no port and no replacement stopped, and each replacement waited for its offers.
+    pub left: u64,
+    /// Whether no port and no replacement stopped, and each waited for what it was to wait for.
     pub is_whole: bool,
     pub is_balanced: bool,
     pub allowed: u64,
     pub placed: u64,
     pub lost: u64,
-    pub left: u64,
 }
 
 impl Found {
@@ -52,11 +55,49 @@ impl Found {
     pub fn agrees(&self) -> bool {
         self.taken == self.offers
             && self.published == self.replacements
+            && self.current == PORTS
             && self.differing == 0
             && self.lanes == LANES
             && self.disordered == 0
+            && self.left == 0
             && self.is_whole
             && self.is_balanced
+    }
+}
+
+/// The frames and the policies of a soak.
+#[derive(Drop)]
+pub struct Material {
+    pool: Vec<Frame>,
+    policies: Policies,
+}
+
+impl Material {
+    pub fn new(alloc: Global) -> Result<Material, Fault> {
+        Ok(Material {
+            policies: Policies::new(alloc)?,
+            pool: pool(alloc)?,
+        })
+    }
+
+    /// What is found in a report without replacements.
+    fn found_at_ends(
+        &self,
+        alloc: Global,
+        each: u32,
+        room: Room,
+        ran: &RunReport,
+        is_late: bool,
+    ) -> Result<Found, Fault> {
+        let shown = Shown::none(alloc);
+        let soaked = Soaked {
+            material: self,
+            size: each as usize,
+            replacements: 0,
+            shown: &shown,
+            room,
+        };
+        soaked.found(ran, is_late)
     }
 }
 
@@ -64,30 +105,33 @@ impl Found {
 pub fn soak<R: Threads + Wait + Sync>(
     rt: &R,
     alloc: Global,
+    material: &Material,
     each: u32,
     every: u32,
 ) -> Result<Found, Fault> {
     let every = u64::from(every.max(1));
-    let replacements = (4 * u64::from(each) / every) as usize;
-    let pool = pool(alloc)?;
-    let policies = Policies::new(alloc)?;
-    let gate = Pace::new(every);
+    let Ok(replacements) = u32::try_from(4 * u64::from(each) / every) else {
+        return Err(Fault::TooMany);
+    };
+    let limits = limits_of(each, replacements)?;
     let size = each as usize;
+    let gate = Pace::new(alloc, size, every, u64::from(replacements))?;
     let ran = run_from(
         rt,
         alloc,
-        limits_of(each, replacements)?,
-        policies.batch(0)?,
-        inputs(alloc, &pool, size)?,
+        limits,
+        material.policies.batch(0)?,
+        inputs(alloc, &material.pool, size)?,
         sizes(alloc, size)?,
-        policies.batches(alloc, replacements)?,
+        material.policies.batches(alloc, replacements as usize)?,
         &gate,
     );
     let soaked = Soaked {
-        pool: &pool,
-        policies: &policies,
+        material,
         size,
         replacements,
+        shown: gate.shown(),
+        room: Room::SOME,
     };
     match ran {
         Ok(report) => soaked.found(&report, gate.is_late()),
@@ -95,14 +139,32 @@ pub fn soak<R: Threads + Wait + Sync>(
     }
 }
 
+/// Offers so many frames at each of four ports with one batch, and judges what became of them. Offers are held back until the
+/// lanes have room, or else copies are taken out only after the last offer.
+pub fn soak_ends<R: Threads + Wait + Sync>(
+    rt: &R,
+    alloc: Global,
+    material: &Material,
+    each: u32,
+    holds_offers: bool,
+) -> Result<Found, Fault> {
+    let limits = limits_of(each, 0)?;
+    let first = material.policies.batch(0)?;
+    let takings = Takings::new(alloc, &material.pool, each as usize, holds_offers)?;
+    let report = run_ends(rt, alloc, limits, first, &takings)?;
+    let room = if holds_offers {
+        Room::ENOUGH
+    } else {
+        Room::FEW
+    };
+    material.found_at_ends(alloc, each, room, &report, takings.is_late())
+}
+
 /// Four ports, and room for the first batch and the others.
-fn limits_of(each: u32, replacements: usize) -> Result<Limits, Fault>
+fn limits_of(each: u32, replacements: u32) -> Result<Limits, Fault>
     ensures { IfOk result (λ limits. limits.ports ≡ 4) }
 {
-    let Ok(versions) = u32::try_from(replacements) else {
-        return Err(Fault::TooMany);
-    };
-    Limits::new(4, LANE, versions.saturating_add(1), each).map_err(|_| Fault::TooMany)
+    Limits::new(4, LANE, replacements.saturating_add(1), each).map_err(|_| Fault::TooMany)
 }
 
 /// The frames that four ports offer.
@@ -129,10 +191,11 @@ fn sizes(alloc: Global, size: usize) -> Result<Vec<usize>, AllocError>
 /// What a run was made of, to judge its report by.
 #[derive(Drop)]
 struct Soaked<'a> {
-    pool: &'a [Frame],
-    policies: &'a Policies,
+    material: &'a Material,
     size: usize,
-    replacements: usize,
+    replacements: u32,
+    shown: &'a Shown,
+    room: Room,
 }
 
 impl Soaked<'_> {
@@ -141,13 +204,15 @@ impl Soaked<'_> {
         let left = left_on(&ran.report.lanes);
         Ok(Found {
             offers: self.size.saturating_mul(4),
-            replacements: self.replacements,
+            replacements: self.replacements as usize,
             taken: taken(&ran.outcomes),
             local: copies.local,
             published: ran.fronts.len(),
+            current: current(&ran.outcomes, ran.report.front),
             differing: self.differing(&ran.outcomes)?,
             lanes: ran.report.lanes.len(),
             disordered: self.disordered(ran),
+            left,
             is_whole: ran.stops.iter().all(|stop| stop.is_none())
                 && ran.refused.is_none()
                 && !is_late,
@@ -155,7 +220,6 @@ impl Soaked<'_> {
             allowed: copies.allowed,
             placed: copies.placed,
             lost: copies.lost,
-            left,
         })
     }
 
@@ -171,12 +235,11 @@ impl Soaked<'_> {
     }
 
     fn differing_at(&self, port: u8, outcomes: &[Outcome]) -> Result<usize, Fault> {
-        let Ok(most) = u32::try_from(self.replacements.saturating_add(1)) else {
-            return Err(Fault::TooMany);
-        };
-        let mut judge = Judge::new(self.policies, most, port);
+        let most = self.replacements.saturating_add(1);
+        let mut judge = Judge::new(&self.material.policies, most, port, self.shown, self.room);
         let mut differing: usize = 0;
-        for (frame, outcome) in Drawn::new(self.pool, port, self.size).zip(outcomes.iter()) {
+        let frames = Drawn::new(&self.material.pool, port, self.size);
+        for (frame, outcome) in frames.zip(outcomes.iter()) {
             if !judge.agrees(&frame, outcome)? {
                 differing = differing.saturating_add(1);
             }
@@ -208,7 +271,10 @@ impl Soaked<'_> {
             out,
             left: &lane.left,
         };
-        copies.are_placed(Drawn::new(self.pool, lane.from, self.size), outcomes)
+        copies.are_placed(
+            Drawn::new(&self.material.pool, lane.from, self.size),
+            outcomes,
+        )
     }
 }
 
@@ -218,6 +284,18 @@ fn taken(outcomes: &[Vec<Outcome>]) -> usize {
         .iter()
         .map(|of_port| of_port.len())
         .fold(0, usize::saturating_add)
+}
+
+/// At how many ports the last frame was judged by so many batches.
+fn current(outcomes: &[Vec<Outcome>], front: u32) -> usize {
+    let mut current: usize = 0;
+    for of_port in outcomes {
+        match of_port.last() {
+            Some(last) if last.front == front => current = current.saturating_add(1),
+            _ => {}
+        }
+    }
+    current
 }
 
 /// What the ports counted together.
