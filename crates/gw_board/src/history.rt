@@ -126,7 +126,7 @@ impl Prefix {
         }
     }
 
-    /// The longer of two beginnings of one board's list, which both begin.
+    /// The longer of two beginnings of one board's list.
     pub fn longer(&self, other: &Prefix) -> Prefix
         requires { other.now.board ≡ self.now.board }
         ensures value { result ≡ record self.now { batches = longer self.now.batches other.now.batches } }

@@ -100,7 +100,7 @@ impl Watch {
         self.known.len()
     }
 
-    /// It knows the longer list from now on, which both begin.
+    /// Advances to the newer of two policy versions: the one that it knows, and the one that it is told.
     pub fn learn(&mut self, told: &Told)
         requires { told.now.board ≡ self.old.board }
         ensures board { self.new.board ≡ self.old.board }
@@ -111,8 +111,8 @@ impl Watch {
         self.known = self.known.longer(&told.list);
     }
 
-    /// Enters the board, and calls `f` once on the policies in force after the list that is known then, which begins with the
-    /// list that was known. Refused, 77, it calls nothing and knows what it knew.
+    /// Enters the board, and calls `f` once on the policies that are shown then, or on newer ones that it was told. It never goes
+    /// back to an older version. Refused, 77, it calls nothing and knows what it knew.
     pub fn with<R, F: FnOnce(&PolicySet) -> R + Drop>(&mut self, f: F) -> Result<R, NoReading>
         requires { F.IsAlwaysCallable f }
         ensures board { self.new.board ≡ self.old.board }

@@ -94,9 +94,8 @@ impl Debug for CloseRefusal {
 
 impl Error for CloseRefusal {}
 
-/// Closes a gateway. It takes its memory first. Then each port in learns the operator's list and reads once more, so that it
-/// knows just that list, which begins with what it knew. It waits for nobody, so the operator is dropped and not ended: a few
-/// blocks of its memory stay (`gw_board::Operator`).
+/// Closes a gateway. It takes its memory first. Then each ingress port advances to the operator's policy version, and reads once
+/// more. It waits for nobody, so the operator is dropped and not ended: a few blocks of its memory stay (`gw_board::Operator`).
 pub fn close(alloc: Global, parts: Parts) -> Result<Report, CloseRefusal>
     requires { AreOfOneGateway parts.operator parts.ins.items parts.outs.items }
     ensures closed { IfOk result (Closes parts.operator parts.ins.items parts.outs.items) }
@@ -204,7 +203,7 @@ fn ledgers_out(alloc: Global, outs: &[PortOut]) -> Result<Vec<OutLedger>, AllocE
     Ok(ledgers)
 }
 
-// Each port knows just the operator's list from now on. Refused, some may know more.
+// Advances each port to the operator's policy version. Refused, some may have advanced.
 fn settle_all(ins: &mut [PortIn], told: &Told) -> Result<(), NoReading>
     requires { (k : ℕ) (d : Ingress) → k < length ins.old → (slice_index_or ins.old k d).board ≡ told.now.board }
     ensures size { length ins.new ≡ length ins.old }

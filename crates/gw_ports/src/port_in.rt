@@ -88,7 +88,7 @@ impl PortIn {
         &self.ledger
     }
 
-    /// It knows the longer list from now on, which both begin.
+    /// Advances to the newer of two policy versions: the one that it knows, and the one that it is told.
     pub fn learn(&mut self, told: &Told)
         requires { told.now.board ≡ self.old.board }
         ensures end { end_in self.new ≡ end_in self.old }
@@ -100,7 +100,7 @@ impl PortIn {
         self.watch.learn(told);
     }
 
-    // It knows just the operator's list from now on, which begins with what it knew. Refused, it may know more.
+    // Advances to the operator's policy version. Refused, it may know a newer one than before.
     pub(crate) fn settle(&mut self, published: &Told) -> Result<(), NoReading>
         requires { published.now.board ≡ self.old.board }
         ensures settled { OnOk result ((self.new ≡ record self.old { known = published.now.batches })

@@ -277,7 +277,7 @@ fn open<R: Wait>(rt: &R, alloc: Global, limits: Limits, first: Batch) -> Result<
     Ok(parts)
 }
 
-// Each of these ports, which know nothing, knows what was told from now on.
+// Advances ports that know nothing to the policy version that is told.
 fn learn_all(ports: &mut [PortIn], told: &Told)
     requires { All (λ i. (i.board ≡ told.now.board) × (i.known ≡ [])) ports.old }
     ensures size { length ports.new ≡ length ports.old }
