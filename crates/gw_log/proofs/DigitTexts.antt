@@ -2,12 +2,12 @@
 use Rattle.std.proofs.Common.{◌≡◌, ℕ, suc, ◌+◌, ◌*◌, ◌/◌, ◌%◌, ◌<◌, ◌≤◌, ◌==◌, true}
 use Rattle.std.proofs.Common.{false, List, [], ◌∷◌, ◌++◌, length, take, drop, inl, inr}
 use Rattle.std.proofs.Common.{Some, None, Ok, get_or, zero, refl, sym, ap, ◌∙◌, append_assoc, length-append, arith}
-use Rattle.std.specs.Prelude.{is_some, unwrap_or}
+use Rattle.std.specs.Prelude.{◌&&◌, is_some, nat_le, unwrap_or}
 use Rattle.std.specs.List.{list_all, position_or_len, slice_split}
-use Rattle.std.proofs.lemmas.Bool.{cases_eq, eq-eqb, ne_eqb, lt-ltb, le-ltb, and_parts, false≢true}
+use Rattle.std.proofs.lemmas.Bool.{cases_eq, eq-eqb, eqb-true, leb-true, ne_eqb, lt-ltb, le-ltb, and_parts, false≢true}
 use Rattle.hex.specs.Hex.{is_hex_digit, encode_upper, encode_with, upper_digits, IsBytes}
 use Rattle.hex.proofs.HexLemmas.{IsDigits-upper_digits, length-encode_with}
-use Rattle.gw_log.specs.LogFrames.{digit, spelled, pairs, parted, payload}
+use Rattle.gw_log.specs.LogFrames.{coded_payload, digit, spelled, pairs, parted, payload}
 use Rattle.gw_log.specs.LogFrames.{is_dot, is_payload_character, without_dots}
 use Rattle.gw_log.specs.LogTexts.{upper_digit, three_digits}
 
@@ -86,6 +86,16 @@ payload_of_digits (c ∷ cs) all even few =
     let even' : (length (c ∷ cs) % 2 == 1) ≡ false = ne_eqb _ 1 (λ odd. omega arith) in
     let some : (length (c ∷ cs) == 0) ≡ false = ne_eqb _ 0 (λ none. omega arith) in
     rw (characters (c ∷ cs) all, one_part (c ∷ cs) all, even', no_dots (c ∷ cs) all, le-ltb 16 (length (c ∷ cs)) few, some) refl
+
+-- digits alone, two an octet, of 8 octets at most
+pub plain_payload : (text : List ℕ)
+    → (list_all is_hex_digit text && (nat_le (length text) 16 && (length text % 2 == 0))) ≡ true
+    → coded_payload text ≡ Ok (pairs text)
+plain_payload text plain =
+    let all = and_parts (list_all is_hex_digit text) (nat_le (length text) 16 && (length text % 2 == 0)) plain in
+    let sizes = and_parts (nat_le (length text) 16) (length text % 2 == 0) all.1 in
+    let few : length text ≤ 16 = leb-true (length text) 16 sizes.0 in
+    rw (parted_nowhere 95 text refl all.0) (payload_of_digits text all.0 (eqb-true (length text % 2) 0 sizes.1) few)
 
 -- ---- digits of octets
 

@@ -1,9 +1,9 @@
 -- The words of a text, one after another.
 use Rattle.std.proofs.Common.{◌≡◌, ℕ, suc, ◌+◌, ◌<◌, true, false, List, [], ◌∷◌, length, take, drop}
-use Rattle.std.proofs.Common.{refl, sym, ap, ◌∙◌, subst, inl, inr, arith}
+use Rattle.std.proofs.Common.{refl, sym, ap, ◌∙◌, subst, inl, inr, add-zero, arith}
 use Rattle.std.specs.List.{filter, slice_split, position_or_len, prefix_len}
 use Rattle.std.proofs.lemmas.Bool.{cases_Bool}
-use Rattle.gw_log.specs.LogLines.{is_blank, has_octets, words_of, behind_blanks}
+use Rattle.gw_log.specs.LogLines.{is_blank, has_octets, is_marked, words_of, word_at, behind_blanks}
 
 -- how many octets stand before the first blank, and how many blanks in front
 abbrev pub word_length : List ℕ → ℕ
@@ -80,3 +80,30 @@ word_in_front (c ∷ cs) some =
           ∷ words_of (drop (word_length rest) rest)) × (0 < word_length rest) in
           subst Front (sym there) (rw len (begun c cs other), rw len (omega arith))
     ]
+
+-- ---- a walk over the words of a text, of which so many were passed: the next one, and those behind it
+
+pub word_here : (all here behind : List (List ℕ)) (word : List ℕ) (place : ℕ) → here ≡ word ∷ behind
+    → ((k : ℕ) → word_at here k ≡ word_at all (place + k)) → word ≡ word_at all place
+word_here all here behind word place parts same =
+    ap (λ ws. word_at ws 0) (sym parts) ∙ same 0 ∙ ap (word_at all) (add-zero place)
+
+pub word_behind : (all here behind : List (List ℕ)) (word : List ℕ) (place : ℕ) → here ≡ word ∷ behind
+    → ((k : ℕ) → word_at here k ≡ word_at all (place + k)) → (k : ℕ) → word_at behind k ≡ word_at all (place + 1 + k)
+word_behind all here behind word place parts same k =
+    let next : place + suc k ≡ place + 1 + k = omega arith in
+    ap (λ ws. word_at ws (suc k)) (sym parts) ∙ same (suc k) ∙ ap (word_at all) next
+
+pub one_unmarked : (all here behind : List (List ℕ)) (word : List ℕ) (place : ℕ) → here ≡ word ∷ behind
+    → is_marked word ≡ false → position_or_len is_marked all ≡ place + position_or_len is_marked here
+    → position_or_len is_marked all ≡ place + 1 + position_or_len is_marked behind
+one_unmarked all here behind word place parts other before =
+    let first : position_or_len is_marked here ≡ 1 + position_or_len is_marked behind = rw (parts, other) refl in
+    before ∙ ap (λ n. place + n) first ∙ further place (position_or_len is_marked behind)
+  where
+    further : (place n : ℕ) → place + (1 + n) ≡ place + 1 + n
+    further place n = omega arith
+
+pub one_word : (all here behind : List (List ℕ)) (word : List ℕ) (place : ℕ) → here ≡ word ∷ behind
+    → length all ≡ place + length here → length all ≡ place + 1 + length behind
+one_word all here behind word place parts before = let more = ap length parts in omega arith

@@ -2,3 +2,5 @@
 pub mod LogFrames
 pub mod LogTexts
 pub mod LogLines
+-- the inside: a marked word among the words of its text
+pub mod MarkedWords

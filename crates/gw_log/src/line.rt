@@ -6,7 +6,6 @@ ghost use Rattle.gw_log.specs.LogLines.{
   word_at,
   entry,
   is_torn,
-  logged,
   displayed,
   in_words,
   timed,
@@ -19,7 +18,7 @@ use crate::display;
 use crate::payload::place_of;
 use crate::reading::read_frame;
 use crate::refusal::LogRefusal;
-use crate::words::{behind_blanks, is_bracketed, marked_place, word_at};
+use crate::words::{behind_blanks, find_marked, is_bracketed, word_at};
 use gw_frame::Frame;
 use std::marker::Model;
 
@@ -104,35 +103,22 @@ fn timed(text: &[u8]) -> Result<Option<LogLine<'_>>, LogRefusal>
 fn in_words<'a>(time: &'a [u8], text: &'a [u8]) -> Result<Option<LogLine<'a>>, LogRefusal>
     ensures { result ≡ in_words time.now (words_of text.now) }
 {
-    let Some(place) = marked_place(text) else {
+    let Some(marked) = find_marked(text) else {
         return Err(LogRefusal::NoFrame);
     };
-    if is_bracketed(word_at(text, place)) {
-        displayed(time, text, place)
-    } else {
-        logged(time, text, place)
+    if is_bracketed(marked.word) {
+        return displayed(time, text, marked.place);
     }
-}
-
-/// What a line says that has its frame in one word.
-fn logged<'a>(
-    time: &'a [u8],
-    text: &'a [u8],
-    place: usize,
-) -> Result<Option<LogLine<'a>>, LogRefusal>
-    requires { place < length text.now }
-    ensures { result ≡ logged time.now (words_of text.now) place }
-{
-    if place > 1 {
+    if marked.place > 1 {
         return Err(LogRefusal::WordsBefore);
     }
-    if is_torn(word_at(text, place + 1)) {
+    if is_torn(word_at(marked.behind, 0)) {
         return Err(LogRefusal::DigitsBehind);
     }
     entry(
         time,
-        interface_before(text, place),
-        read_frame(word_at(text, place)),
+        interface_before(text, marked.place),
+        read_frame(marked.word),
     )
 }
 

@@ -1,8 +1,9 @@
 //! What stands behind the `#` of a frame.
 
-ghost use Rattle.std.specs.Prelude.{◌≡◌, ◌==◌, ◌<◌, ◌≤◌, Ok, Err, length, option_map, position};
+ghost use Rattle.std.specs.Prelude.{◌≡◌, ◌==◌, ◌<◌, ◌≤◌, ◌%◌, ◌&&◌, nat_le, Ok, Err, length, option_map, position};
 ghost use Rattle.std.specs.Prelude.{IfSome, MatchOption, MatchResult};
 ghost use Rattle.std.specs.List.{list_all, list_any, slice_split};
+ghost use Rattle.hex.specs.Hex.{is_hex_digit};
 ghost use Rattle.gw_log.specs.LogFrames.{
   parted,
   is_dot,
@@ -15,7 +16,7 @@ ghost use Rattle.gw_log.specs.LogFrames.{
   remote_length,
 };
 
-use crate::digits::{digit, is_digit, octets};
+use crate::digits::{are_digits, digit, is_digit, octets};
 use crate::refusal::LogRefusal;
 use arrayvec::ArrayVec;
 
@@ -40,6 +41,10 @@ pub fn coded_payload(text: &[u8]) -> Result<ArrayVec<u8, 8>, LogRefusal>
     ensures { MatchResult result (λ octets. coded_payload text.now ≡ Ok octets.items)
         (λ why. coded_payload text.now ≡ Err why) }
 {
+    // So nearly every payload of a log is written, and it is read in two passes.
+    if is_plain(text) {
+        return Ok(octets(text));
+    }
     let Some((digits, code)) = parted(b'_', text) else {
         return payload(text);
     };
@@ -48,6 +53,13 @@ pub fn coded_payload(text: &[u8]) -> Result<ArrayVec<u8, 8>, LogRefusal>
         return Err(LogRefusal::BadCode);
     }
     Ok(octets)
+}
+
+/// Whether a text is digits alone, two an octet, of at most 8 octets.
+fn is_plain(text: &[u8]) -> bool
+    ensures { result ≡ (list_all is_hex_digit text.now && (nat_le (length text.now) 16 && (length text.now % 2 == 0))) }
+{
+    text.len() <= 16 && text.len() % 2 == 0 && are_digits(text)
 }
 
 /// The octets of pairs of digits with dots between octets.

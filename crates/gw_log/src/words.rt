@@ -1,7 +1,8 @@
 //! Words between blanks.
 
-ghost use Rattle.std.specs.Prelude.{◌≡◌, ◌==◌, ◌<◌, ◌≤◌, [], ◌∷◌, length, slice_index, position, IfSome, MatchOption};
+ghost use Rattle.std.specs.Prelude.{◌≡◌, ◌==◌, ◌<◌, ◌≤◌, [], ◌∷◌, length, slice_index, option_map, position, IfSome, MatchOption};
 ghost use Rattle.std.specs.List.{list_any, prefix_len, position_or_len};
+ghost use Rattle.gw_log.specs.MarkedWords.{IsAmong};
 ghost use Rattle.gw_log.specs.LogLines.{is_blank, behind_blanks, words_of, word_at, is_marked};
 
 /// Whether this is a space, a tab, a CR or a LF.
@@ -75,16 +76,31 @@ pub fn word_at(text: &[u8], place: usize) -> &[u8]
     &[]
 }
 
-/// The place of the first word that has a `#` or begins with `[`.
-pub fn marked_place(text: &[u8]) -> Option<usize>
-    ensures place { result ≡ position is_marked (words_of text.now) }
-    ensures within { IfSome result (λ place. place < length text.now) }
+/// The first word that has a `#` or begins with `[`, among the words of its text.
+#[derive(Drop)]
+pub struct Marked<'a> {
+    /// How many words stand before it.
+    pub place: usize,
+    pub word: &'a [u8],
+    /// What stands behind it.
+    pub behind: &'a [u8],
+}
+
+/// Finds the first word that has a `#` or begins with `[`, in one walk.
+pub fn find_marked(text: &[u8]) -> Option<Marked<'_>>
+    ensures place { option_map (λ m. m.place) result ≡ position is_marked (words_of text.now) }
+    ensures within { IfSome result (λ m. m.place < length text.now) }
+    ensures words { IfSome result (IsAmong (words_of text.now)) }
 {
     let mut place = 0;
     let mut rest = text;
     while let Some((word, behind)) = next_word(rest) {
         if is_marked(word) {
-            return Some(place);
+            return Some(Marked {
+                place,
+                word,
+                behind,
+            });
         }
         place += 1;
         rest = behind;
