@@ -18,4 +18,5 @@ rule_there tally rules n d below =
 pub rules_done : (tally : Tally) (rules : List Rule) (n : ℕ) (before text : List ℕ) → n ≡ length rules
     → text ≡ before ++ flat_map (rule_line tally rules) (range_with_len 0 n) → text ≡ before ++ rule_counts tally rules
 unfolding rule_counts
-rules_done tally rules n before text all same = same ∙ ap (λ m. before ++ flat_map (rule_line tally rules) (range_with_len 0 m)) all
+rules_done tally rules n before text all same =
+    same ∙ ap (λ m. before ++ flat_map (rule_line tally rules) (range_with_len 0 m)) all

@@ -61,8 +61,8 @@ abbrev pub Found : Type 0
 Found = Result Meaning (ℕ × List ℕ)
 
 -- by what is wrong with a document, the first first: its keys, its actions, its ranges, and too many rules
-abbrev pub judged : Option (KeyLocation × List ℕ) → Option (Part × ActionFault) → Option (ℕ × (Field × RangeFault)) → Bool → Meaning
-    → Found
+abbrev pub judged : Option (KeyLocation × List ℕ) → Option (Part × ActionFault) → Option (ℕ × (Field × RangeFault)) → Bool
+    → Meaning → Found
 judged (Some key) action range few meaning = Err (51, [])
 judged None (Some action) range few meaning = Err (52, [])
 judged None None (Some range) few meaning = Err (53, range.0 ∷ [])
