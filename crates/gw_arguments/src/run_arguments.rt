@@ -5,7 +5,7 @@ ghost use Rattle.std.specs.Prelude.{◌≡◌, length, vec_len, IfOk};
 use crate::arguments::{described, flag, matched, valued};
 use clap::error::ErrorKind;
 use clap::{Arg, ArgAction, ArgMatches, Command, Error, value_parser};
-use gw_commands::PolicySource;
+use gw_commands::{PolicyKind, PolicySource};
 use gw_ledger::{Limits, MAX_PORTS};
 use std::alloc::{AllocError, Global};
 use std::convert::AsStr;
@@ -149,23 +149,16 @@ fn asked_sources<'a>(
     }
     let others = program.map_or(PolicySource::Opening, PolicySource::Program);
     let mut sources = vec![in alloc; others; ports]?;
-    name_files(alloc, tables, FileKind::Table, &mut sources)?;
-    name_files(alloc, listings, FileKind::Listing, &mut sources)?;
+    name_files(alloc, tables, PolicyKind::Table, &mut sources)?;
+    name_files(alloc, listings, PolicyKind::Listing, &mut sources)?;
     Ok(sources)
-}
-
-/// What a file of a source has.
-#[derive(Clone, Copy)]
-enum FileKind {
-    Table,
-    Listing,
 }
 
 /// Names files of a kind for their ports.
 fn name_files<'a>(
     alloc: Global,
     words: &[&'a str],
-    kind: FileKind,
+    kind: PolicyKind,
     sources: &mut [PolicySource<'a>],
 ) -> Result<(), Error>
     ensures { length sources.new ≡ length sources.old }
@@ -177,8 +170,8 @@ fn name_files<'a>(
         };
         if let Some(place) = sources.get_mut(port) {
             *place = match kind {
-                FileKind::Table => PolicySource::Table(file),
-                FileKind::Listing => PolicySource::Listing(file),
+                PolicyKind::Table => PolicySource::Table(file),
+                PolicyKind::Listing => PolicySource::Listing(file),
             };
         }
     }
