@@ -4,9 +4,12 @@ use Rattle.std.specs.Option.{option_map_or}
 use Rattle.std.specs.List.{flat_map, range_with_len}
 use Rattle.gw_table.specs.declared.table.Action.{Action}
 use Rattle.gw_table.specs.declared.table.Action.TheVariants.{Pass, Block}
+use Rattle.gw_table.specs.declared.refusal.Field.{Field}
+use Rattle.gw_table.specs.declared.refusal.Field.TheVariants.{Pgn, Source, Destination, From}
 use Rattle.gw_table.specs.declared.table.Span.{Span}
 use Rattle.gw_table.specs.declared.table.Rule.{Rule}
 use Rattle.gw_table.specs.Table.{Meaning}
+use Rattle.gw_table.specs.TableText.{greatest, key_of}
 use Rattle.gw_policy.specs.Filter.{Filter}
 use Rattle.gw_judge.specs.declared.tally.Tally.{Tally}
 
@@ -14,18 +17,18 @@ abbrev pub action_word : Action → List ℕ
 action_word Pass = codes "pass"
 action_word Block = codes "block"
 
--- a range of a rule, unless it leaves nothing out
-abbrev pub range_text : List ℕ → ℕ → Span → List ℕ
-range_text key greatest range =
-    if (range.low == 0) && (range.high == greatest) then []
-    else if range.low == range.high then codes " " ++ key ++ codes " " ++ decimal range.low
-    else codes " " ++ key ++ codes " " ++ decimal range.low ++ codes " to " ++ decimal range.high
+-- a rule's range of a field, unless it leaves nothing out
+abbrev pub range_text : Field → Span → List ℕ
+range_text field range =
+    if (range.low == 0) && (range.high == greatest field) then []
+    else if range.low == range.high then codes " " ++ key_of field ++ codes " " ++ decimal range.low
+    else codes " " ++ key_of field ++ codes " " ++ decimal range.low ++ codes " to " ++ decimal range.high
 
 -- what a rule says: its action, and each range that leaves something out
 abbrev pub rule_text : Rule → List ℕ
 rule_text rule =
-    action_word rule.action ++ range_text (codes "pgn") 262143 rule.pgn ++ range_text (codes "source") 255 rule.source
-    ++ range_text (codes "destination") 255 rule.destination ++ range_text (codes "from") 255 rule.from
+    action_word rule.action ++ range_text Pgn rule.pgn ++ range_text Source rule.source
+    ++ range_text Destination rule.destination ++ range_text From rule.from
 
 -- how many frames a rule decided, and what it says
 abbrev pub rule_count : ℕ → ℕ → Rule → List ℕ

@@ -24,7 +24,6 @@ mod verdict_command;
 pub use answer::Answer;
 pub use files::read_file;
 pub use judge_command::{LogQuery, PolicyKind, Shown, judge_log, judge_named};
-pub use log_counts::TellsParts;
 pub use policies::{PolicySource, policy};
 pub use query::{Query, answer_query};
 pub use refusal::Refusal;

@@ -16,7 +16,7 @@ ghost use Rattle.gw_commands.specs.LogCounts.{
 
 use gw_judge::{Decider, Tally};
 use gw_policy::Policy;
-use gw_table::{Action, Rule, Span, Table};
+use gw_table::{Action, Field, Rule, Span, Table};
 use std::alloc::{AllocError, Global};
 
 /// What decides the frames of a log, and tells how many each of its parts decided.
@@ -77,18 +77,19 @@ fn push_what(text: &mut String, rule: &Rule) -> Result<(), AllocError>
     ensures { OnOk result (string_bytes text.new ≡ string_bytes text.old ++ rule_text rule.now) }
 {
     text.push_str(action_word(rule.action))?;
-    push_range(text, "pgn", rule.pgn, 262143)?;
-    push_range(text, "source", rule.source, 255)?;
-    push_range(text, "destination", rule.destination, 255)?;
-    push_range(text, "from", rule.from, 255)
+    push_range(text, Field::Pgn, rule.pgn)?;
+    push_range(text, Field::Source, rule.source)?;
+    push_range(text, Field::Destination, rule.destination)?;
+    push_range(text, Field::From, rule.from)
 }
 
-/// A range of a rule, unless all numbers up to the greatest are in it.
-fn push_range(text: &mut String, key: &str, range: Span, greatest: u32) -> Result<(), AllocError>
-    ensures { OnOk result (string_bytes text.new ≡ string_bytes text.old ++ range_text key.now greatest range) }
+/// A rule's range of a field, unless the whole field is in it.
+fn push_range(text: &mut String, field: Field, range: Span) -> Result<(), AllocError>
+    ensures { OnOk result (string_bytes text.new ≡ string_bytes text.old ++ range_text field range) }
 {
     let Span { low, high } = range;
-    if low == 0 && high == greatest {
+    let key = field.key();
+    if low == 0 && high == field.greatest() {
         Ok(())
     } else if low == high {
         write!(text, " {key} {low}")
