@@ -73,7 +73,7 @@ impl<'a> Takings<'a> {
 
     /// Counts a copy that was taken out.
     pub fn add(&self, from: u8, to: u8) {
-        if let Some(taken) = self.taken.get(place(from, to)) {
+        if let Some(taken) = self.taken.get(lane_index(from, to)) {
             taken.fetch_add(1, Ordering::SeqCst);
         }
     }
@@ -108,13 +108,13 @@ impl<'a> Takings<'a> {
     }
 
     fn taken(&self, from: u8, to: u8) -> u32 {
-        match self.taken.get(place(from, to)) {
+        match self.taken.get(lane_index(from, to)) {
             Some(taken) => taken.load(Ordering::SeqCst),
             None => 0,
         }
     }
 }
 
-fn place(from: u8, to: u8) -> usize {
+fn lane_index(from: u8, to: u8) -> usize {
     4 * usize::from(from) + usize::from(to)
 }
