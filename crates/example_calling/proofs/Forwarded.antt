@@ -154,7 +154,7 @@ module _ (first second : List Pair) (frames : List (List ℕ)) (operator : Publi
       subst (λ (l : List Ingress). (get_or l 0 apart.untold).known ≡ []) apart.ins_are
       (opened.known 0 apart.untold (let n = opened.ends.enough_ins in omega arith)).1
 
-  told_is : ends.source.port ≡ record apart.untold { known = first ∷ [] }
+  told_is : ends.feed.port ≡ record apart.untold { known = first ∷ [] }
   told_is =
       apart.told
       ∙ ap (λ (l : List (List Pair)). record apart.untold { known = longer l operator.published }) knows_nothing
@@ -187,7 +187,7 @@ module _ (first second : List Pair) (frames : List (List ℕ)) (operator : Publi
   )
   run_refused (NotTaken why) refuses =
       subst (λ n. RefusesNextOf (length frames) n why) (ap (λ (i : Ingress). i.frames) told_is ∙ new_at_0.most)
-      (subst (λ (l : List (List ℕ)). RefusesNextOf (length l) ends.source.port.frames why) apart.frames_are refuses)
+      (subst (λ (l : List (List ℕ)). RefusesNextOf (length l) ends.feed.port.frames why) apart.frames_are refuses)
   run_refused (NotClosed why) refuses = absurd refuses
   run_refused NoThread refuses = tt
   run_refused WriteFailed refuses = absurd refuses
@@ -198,23 +198,23 @@ module _ (first second : List Pair) (frames : List (List ℕ)) (operator : Publi
         ap (λ (o : Publishing). o.published) ran.published
         ∙ ap (λ (o : Publishing). o.published ++ second ∷ []) (apart.operator_is ∙ opened.published)
 
-    offers : Offers [] ends.source.port frames after.source.outcomes.items after.source.port
+    offers : Offers [] ends.feed.port frames after.feed.outcomes.items after.feed.port
     offers =
-        subst (λ (l : List (List ℕ)). Offers [] ends.source.port l after.source.outcomes.items after.source.port)
+        subst (λ (l : List (List ℕ)). Offers [] ends.feed.port l after.feed.outcomes.items after.feed.port)
         apart.frames_are ran.offered.offers
 
-    own : ends.source.port.port ≡ 0
+    own : ends.feed.port.port ≡ 0
     own = ap (λ (i : Ingress). i.port) told_is ∙ new_at_0.number
 
-    empty : All (IsNewLane 4) ends.source.port.lanes
+    empty : All (IsNewLane 4) ends.feed.port.lanes
     empty =
         subst (λ (l : List (Option Inlet)). All (IsNewLane 4) l) (sym (ap (λ (i : Ingress). i.lanes) told_is)) new_at_0.empty
 
-    lost : LosesOnFullLanes two_ports.lane after.source.outcomes.items
+    lost : LosesOnFullLanes two_ports.lane after.feed.outcomes.items
     lost = λ k egress d below loses.
         let least =
-        lost_when_full 4 egress 0 [] ends.source.port frames after.source.outcomes.items after.source.port offers
-        (new_holds 4 ends.source.port.lanes empty egress) k d below loses in
+        lost_when_full 4 egress 0 [] ends.feed.port frames after.feed.outcomes.items after.feed.port offers
+        (new_holds 4 ends.feed.port.lanes empty egress) k d below loses in
         omega arith
 
     -- the lanes after they ran
@@ -225,10 +225,10 @@ module _ (first second : List Pair) (frames : List (List ℕ)) (operator : Publi
         (opened.ends.egress 0 idle.port_out (let n = opened.ends.enough_outs in omega arith))
         ∙ ap (λ (l : List Ingress). new_egress 0 (lanes_from 0 l)) apart.ins_are
 
-    out_at_1 : ends.sink.port ≡ new_egress 1 (lanes_from 1 (apart.untold ∷ idle.port_in ∷ []))
+    out_at_1 : ends.drain.port ≡ new_egress 1 (lanes_from 1 (apart.untold ∷ idle.port_in ∷ []))
     out_at_1 =
-        subst (λ (l : List Egress). get_or l 1 ends.sink.port ≡ new_egress 1 (lanes_from 1 ins)) apart.outs_are
-        (opened.ends.egress 1 ends.sink.port (let n = opened.ends.enough_outs in omega arith))
+        subst (λ (l : List Egress). get_or l 1 ends.drain.port ≡ new_egress 1 (lanes_from 1 ins)) apart.outs_are
+        (opened.ends.egress 1 ends.drain.port (let n = opened.ends.enough_outs in omega arith))
         ∙ ap (λ (l : List Ingress). new_egress 1 (lanes_from 1 l)) apart.ins_are
 
     lanes_0 : (x : Inlet) × (apart.untold.lanes ≡ None ∷ Some x ∷ [])
@@ -237,9 +237,9 @@ module _ (first second : List Pair) (frames : List (List ℕ)) (operator : Publi
     lanes_1 : (y : Inlet) × (idle.port_in.lanes ≡ Some y ∷ None ∷ [])
     lanes_1 = lanes_of_port_1 idle.port_in.lanes new_at_1.lanes.0 new_at_1.lanes.1
 
-    inlet : (x : Inlet) × (after.source.port.lanes ≡ None ∷ Some x ∷ [])
+    inlet : (x : Inlet) × (after.feed.port.lanes ≡ None ∷ Some x ∷ [])
     inlet =
-        inlet_by_ring after.source.port.lanes lanes_0.0.ring
+        inlet_by_ring after.feed.port.lanes lanes_0.0.ring
         (ap (λ (e : EndIn). e.rings) (ran.offered.same ∙ ap end_in apart.told) ∙ ap (map ring_to) lanes_0.1)
 
     unused : idle.port_out.lanes ≡ None ∷ Some (new_outlet lanes_1.0) ∷ []
@@ -249,30 +249,30 @@ module _ (first second : List Pair) (frames : List (List ℕ)) (operator : Publi
         ∷ option_map new_outlet (lane_at idle.port_in.lanes 0) ∷ []) lanes_0.1
         ∙ ap (λ (l : List (Option Inlet)). None ∷ option_map new_outlet (lane_at l 0) ∷ []) lanes_1.1
 
-    before : ends.sink.port.lanes ≡ Some (new_outlet lanes_0.0) ∷ None ∷ []
+    before : ends.drain.port.lanes ≡ Some (new_outlet lanes_0.0) ∷ None ∷ []
     before =
         ap (λ (e : Egress). e.lanes) out_at_1
         ∙ ap (λ (l : List (Option Inlet)). option_map new_outlet (lane_at l 1)
         ∷ option_map new_outlet (lane_at idle.port_in.lanes 1) ∷ []) lanes_0.1
         ∙ ap (λ (l : List (Option Inlet)). Some (new_outlet lanes_0.0) ∷ option_map new_outlet (lane_at l 1) ∷ []) lanes_1.1
 
-    outlet : (u : Outlet) × (after.sink.port.lanes ≡ Some u ∷ None ∷ [])
+    outlet : (u : Outlet) × (after.drain.port.lanes ≡ Some u ∷ None ∷ [])
     outlet =
-        outlet_by_ring after.sink.port.lanes lanes_0.0.ring
+        outlet_by_ring after.drain.port.lanes lanes_0.0.ring
         (ap (λ (e : EndOut). e.rings) ran.sent.same ∙ ap (map ring_from) before)
 
-    placed : inlet.0.placed ≡ copies_to 0 1 frames after.source.outcomes.items
+    placed : inlet.0.placed ≡ copies_to 0 1 frames after.feed.outcomes.items
     placed =
         sym (ap (λ (l : List (Option Inlet)). placed_list (lane_at l 1)) inlet.1)
-        ∙ placed_to 1 [] ends.source.port frames after.source.outcomes.items after.source.port offers
-        ∙ ap (λ (l : List FrameCopy). l ++ copies_to ends.source.port.port 1 frames after.source.outcomes.items)
-        (none_placed 4 ends.source.port.lanes empty 1)
-        ∙ ap (λ n. copies_to n 1 frames after.source.outcomes.items) own
+        ∙ placed_to 1 [] ends.feed.port frames after.feed.outcomes.items after.feed.port offers
+        ∙ ap (λ (l : List FrameCopy). l ++ copies_to ends.feed.port.port 1 frames after.feed.outcomes.items)
+        (none_placed 4 ends.feed.port.lanes empty 1)
+        ∙ ap (λ n. copies_to n 1 frames after.feed.outcomes.items) own
 
-    taken : outlet.0.taken ≡ after.sink.copies.items
+    taken : outlet.0.taken ≡ after.drain.copies.items
     taken =
         sym (ap taken_first outlet.1) ∙ ran.sent.sent
-        ∙ ap (λ (l : List (Option Outlet)). taken_first l ++ after.sink.copies.items) before
+        ∙ ap (λ (l : List (Option Outlet)). taken_first l ++ after.drain.copies.items) before
 
     not_placed : lanes_1.0.placed ≡ []
     not_placed =
@@ -280,17 +280,17 @@ module _ (first second : List Pair) (frames : List (List ℕ)) (operator : Publi
         ∙ none_placed 4 idle.port_in.lanes new_at_1.empty 0
 
     pub forwarded_are : (forwarded : Forwarded)
-        → Closes after.operator (after.source.port ∷ idle.port_in ∷ []) (idle.port_out ∷ after.sink.port ∷ []) forwarded.report
-        → forwarded.outcomes.items ≡ after.source.outcomes.items → forwarded.copies.items ≡ after.sink.copies.items
+        → Closes after.operator (after.feed.port ∷ idle.port_in ∷ []) (idle.port_out ∷ after.drain.port ∷ []) forwarded.report
+        → forwarded.outcomes.items ≡ after.feed.outcomes.items → forwarded.copies.items ≡ after.drain.copies.items
         → IsForwarded first second frames forwarded
     forwarded_are forwarded closed same_outcomes same_copies =
-        let many = as_many_outcomes [] ends.source.port frames after.source.outcomes.items after.source.port offers in
-        let begins : IsPrefix after.source.port.known (first ∷ second ∷ []) =
-        subst (λ (l : List (List Pair)). IsPrefix after.source.port.known l) both
-        (closed.known 0 after.source.port (omega arith)) in
+        let many = as_many_outcomes [] ends.feed.port frames after.feed.outcomes.items after.feed.port offers in
+        let begins : IsPrefix after.feed.port.known (first ∷ second ∷ []) =
+        subst (λ (l : List (List Pair)). IsPrefix after.feed.port.known l) both
+        (closed.known 0 after.feed.port (omega arith)) in
         let knows = ap (λ (i : Ingress). length i.known) told_is in
         let judged =
-        are_judged 2 0 (first ∷ second ∷ []) ends.source.port frames after.source.outcomes.items after.source.port
+        are_judged 2 0 (first ∷ second ∷ []) ends.feed.port frames after.feed.outcomes.items after.feed.port
         (record {
           own = own;
           lanes = ap (λ (i : Ingress). length i.lanes) told_is ∙ new_at_0.lanes.0;
@@ -304,16 +304,16 @@ module _ (first second : List Pair) (frames : List (List ℕ)) (operator : Publi
         AreLeft (lanes_of 0 (inlets_of inlet.0 lanes_1.0) ((None ∷ Some (new_outlet lanes_1.0) ∷ []) ∷ l ∷ []))
         forwarded.report.lanes.items) outlet.1
         (subst (λ (l : List (Option Outlet)).
-        AreLeft (lanes_of 0 (inlets_of inlet.0 lanes_1.0) (l ∷ after.sink.port.lanes ∷ []))
+        AreLeft (lanes_of 0 (inlets_of inlet.0 lanes_1.0) (l ∷ after.drain.port.lanes ∷ []))
         forwarded.report.lanes.items) unused
         (subst (λ (l : List (Option Inlet)).
-        AreLeft (lanes_of 0 ((None ∷ Some inlet.0 ∷ []) ∷ l ∷ []) (idle.port_out.lanes ∷ after.sink.port.lanes ∷ []))
+        AreLeft (lanes_of 0 ((None ∷ Some inlet.0 ∷ []) ∷ l ∷ []) (idle.port_out.lanes ∷ after.drain.port.lanes ∷ []))
         forwarded.report.lanes.items) lanes_1.1
         (subst (λ (l : List (Option Inlet)).
-        AreLeft (lanes_of 0 (l ∷ idle.port_in.lanes ∷ []) (idle.port_out.lanes ∷ after.sink.port.lanes ∷ []))
+        AreLeft (lanes_of 0 (l ∷ idle.port_in.lanes ∷ []) (idle.port_out.lanes ∷ after.drain.port.lanes ∷ []))
         forwarded.report.lanes.items) inlet.1 closed.left)))) not_placed in
         let counted =
-        outcomes_counted [] ends.source.port frames after.source.outcomes.items after.source.port offers in
+        outcomes_counted [] ends.feed.port frames after.feed.outcomes.items after.feed.port offers in
         record {
           whole = ap length same_outcomes ∙ many;
           judged =
@@ -322,7 +322,7 @@ module _ (first second : List Pair) (frames : List (List ℕ)) (operator : Publi
           counted =
               closed.taken
               ∙ ap (λ (l : InLedger). l ∷ idle.port_in.ledger ∷ []) (counted
-              ∙ ap (λ (l : InLedger). fold ledger_with l after.source.outcomes.items)
+              ∙ ap (λ (l : InLedger). fold ledger_with l after.feed.outcomes.items)
               (ap (λ (i : Ingress). i.ledger) told_is ∙ new_at_0.ledger)
               ∙ ap (λ (os : List Outcome). fold ledger_with nothing_counted os) (sym same_outcomes))
               ∙ ap (λ (l : InLedger). fold ledger_with nothing_counted forwarded.outcomes.items ∷ l ∷ []) new_at_1.ledger;
@@ -330,7 +330,7 @@ module _ (first second : List Pair) (frames : List (List ℕ)) (operator : Publi
               subst (λ (os : List Outcome).
               AreLanes (copies_to 0 1 frames os) forwarded.copies.items forwarded.report.lanes.items) (sym same_outcomes)
               (subst (λ (c : List FrameCopy).
-              AreLanes (copies_to 0 1 frames after.source.outcomes.items) c forwarded.report.lanes.items)
+              AreLanes (copies_to 0 1 frames after.feed.outcomes.items) c forwarded.report.lanes.items)
               (taken ∙ sym same_copies)
               (subst (λ (p : List FrameCopy). AreLanes p outlet.0.taken forwarded.report.lanes.items) placed left));
           published = closed.front_is ∙ ap length both;
@@ -338,10 +338,10 @@ module _ (first second : List Pair) (frames : List (List ℕ)) (operator : Publi
         }
 
     pub forwarded_if : (closed : Result Forwarded Fault)
-        → IfOk closed (λ f. Closes after.operator (after.source.port ∷ idle.port_in ∷ [])
-        (idle.port_out ∷ after.sink.port ∷ []) f.report)
-        → IfOk closed (λ f. f.outcomes.items ≡ after.source.outcomes.items)
-        → IfOk closed (λ f. f.copies.items ≡ after.sink.copies.items)
+        → IfOk closed (λ f. Closes after.operator (after.feed.port ∷ idle.port_in ∷ [])
+        (idle.port_out ∷ after.drain.port ∷ []) f.report)
+        → IfOk closed (λ f. f.outcomes.items ≡ after.feed.outcomes.items)
+        → IfOk closed (λ f. f.copies.items ≡ after.drain.copies.items)
         → IfOk closed (IsForwarded first second frames)
     forwarded_if (Ok forwarded) closed outcomes copies = forwarded_are forwarded closed outcomes copies
     forwarded_if (Err fault) closed outcomes copies = tt

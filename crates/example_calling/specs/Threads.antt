@@ -21,8 +21,8 @@ use Rattle.example_calling.specs.declared.fault.Fault.TheVariants.{NoThread}
 use Rattle.example_calling.specs.declared.threads.Ends.{Ends}
 use Rattle.example_calling.specs.declared.threads.Forwarded.{Forwarded}
 use Rattle.example_calling.specs.declared.threads.Idle.{Idle}
-use Rattle.example_calling.specs.declared.threads.Sink.{Sink}
-use Rattle.example_calling.specs.declared.threads.Source.{Source}
+use Rattle.example_calling.specs.declared.threads.Drain.{Drain}
+use Rattle.example_calling.specs.declared.threads.Feed.{Feed}
 
 -- the limits of the gateway: two ports, and room for four copies in a lane, two batches and eight frames at a port
 abbrev pub two_ports : Bounds
@@ -52,24 +52,24 @@ pub record AreApart (operator : Publishing) (ins : List Ingress) (outs : List Eg
   pub operator_is : ends.operator ≡ operator
   pub untold : Ingress
   pub ins_are : ins ≡ untold ∷ idle.port_in ∷ []
-  pub told : ends.source.port ≡ record untold { known = longer untold.known operator.published }
-  pub outs_are : outs ≡ idle.port_out ∷ ends.sink.port ∷ []
-  pub frames_are : ends.source.frames.items ≡ frames
-  pub none_yet : (ends.source.outcomes.items ≡ []) × (ends.sink.copies.items ≡ [])
-  pub room : vec_len ends.source.frames ≤ vec_capacity ends.source.outcomes
+  pub told : ends.feed.port ≡ record untold { known = longer untold.known operator.published }
+  pub outs_are : outs ≡ idle.port_out ∷ ends.drain.port ∷ []
+  pub frames_are : ends.feed.frames.items ≡ frames
+  pub none_yet : (ends.feed.outcomes.items ≡ []) × (ends.drain.copies.items ≡ [])
+  pub room : vec_len ends.feed.frames ≤ vec_capacity ends.feed.outcomes
 
 -- the port took no frame, and there is room for the outcomes of all that it is to offer
-pub record CanOffer (source : Source) : Type 0 where
-  pub ready : IsReady source.port
-  pub none_yet : source.outcomes.items ≡ []
-  pub room : vec_len source.frames ≤ vec_capacity source.outcomes
+pub record CanOffer (feed : Feed) : Type 0 where
+  pub ready : IsReady feed.port
+  pub none_yet : feed.outcomes.items ≡ []
+  pub room : vec_len feed.frames ≤ vec_capacity feed.outcomes
 
 -- what the threads begin with
 abbrev pub CanStart : Ends → Type 0
-CanStart ends = CanOffer ends.source × (ends.sink.copies.items ≡ [])
+CanStart ends = CanOffer ends.feed × (ends.drain.copies.items ≡ [])
 
 -- all frames were offered one after another, and these are their outcomes
-pub record HasOffered (before after : Source) : Type 0 where
+pub record HasOffered (before after : Feed) : Type 0 where
   pub offers : Offers [] before.port before.frames.items after.outcomes.items after.port
   pub same : end_in after.port ≡ end_in before.port
 
@@ -78,24 +78,24 @@ abbrev pub RefusesNextOf : ℕ → ℕ → OfferRefusal → Type 0
 RefusesNextOf frames most FramesSpent = most < frames
 RefusesNextOf frames most NoReading = Unit {0}
 
-abbrev pub IsOfferFault : Source → Fault → Type 0
-IsOfferFault source (NotTaken why) = RefusesNextOf (length source.frames.items) source.port.frames why
-IsOfferFault source _ = ⊥
+abbrev pub IsOfferFault : Feed → Fault → Type 0
+IsOfferFault feed (NotTaken why) = RefusesNextOf (length feed.frames.items) feed.port.frames why
+IsOfferFault feed _ = ⊥
 
 -- the copies that were taken from the lane of port 0
 abbrev pub taken_out : Egress → List FrameCopy
 taken_out egress = option_map_or (λ outlet. outlet.taken) (lane_at egress.lanes 0) []
 
 -- the copies were taken from that lane, in order
-pub record HasSent (before after : Sink) : Type 0 where
+pub record HasSent (before after : Drain) : Type 0 where
   pub sent : taken_out after.port ≡ taken_out before.port ++ after.copies.items
   pub same : end_out after.port ≡ end_out before.port
 
 -- frames were offered and copies taken out, and the batch was published
 pub record HaveRun (before : Ends) (batch : List Pair) (after : Ends) : Type 0 where
   pub published : after.operator ≡ record before.operator { published = before.operator.published ++ batch ∷ [] }
-  pub offered : HasOffered before.source after.source
-  pub sent : HasSent before.sink after.sink
+  pub offered : HasOffered before.feed after.feed
+  pub sent : HasSent before.drain after.drain
 
 -- of the lanes, that from port 0 to port 1 and the other one: the copies that were placed on the first were taken out or are
 -- left, in order, and none was placed on the other
@@ -129,7 +129,7 @@ IsOpenFault first _ = ⊥
 abbrev pub IsRunFault : Ends → List Pair → Fault → Type 0
 IsRunFault ends batch NoThread = Unit {0}
 IsRunFault ends batch (NotPublished why) = (after : Publishing) × Refuses ends.operator batch why after
-IsRunFault ends batch (NotTaken why) = IsOfferFault ends.source (NotTaken why)
+IsRunFault ends batch (NotTaken why) = IsOfferFault ends.feed (NotTaken why)
 IsRunFault ends batch _ = ⊥
 
 -- what is refused: memory for the parts, or the close

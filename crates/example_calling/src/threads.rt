@@ -52,7 +52,7 @@ pub struct Forwarded {
 
 /// The end at which a thread offers frames, with what became of them. There is room for the outcome of each.
 #[derive(Drop)]
-struct Source {
+struct Feed {
     port: PortIn,
     frames: Vec<Frame>,
     outcomes: Vec<Outcome>,
@@ -60,7 +60,7 @@ struct Source {
 
 /// The end at which a thread takes copies out, with those that it took. There is room for a copy of each frame.
 #[derive(Drop)]
-struct Sink {
+struct Drain {
     port: PortOut,
     copies: Vec<FrameCopy>,
 }
@@ -69,8 +69,8 @@ struct Sink {
 #[derive(Drop)]
 struct Ends {
     operator: Operator,
-    source: Source,
-    sink: Sink,
+    feed: Feed,
+    drain: Drain,
 }
 
 /// The ends of the other direction, which stay with the caller.
@@ -153,19 +153,19 @@ fn set_apart(alloc: Global, parts: Parts, frames: Vec<Frame>) -> Result<(Ends, I
     let Ok(copies) = Vec::with_capacity(alloc, frames.len()) else {
         return Err(Fault::OutOfMemory);
     };
-    let source = Source {
+    let feed = Feed {
         port: port_in,
         frames,
         outcomes,
     };
-    let sink = Sink {
+    let drain = Drain {
         port: port_out,
         copies,
     };
     let ends = Ends {
         operator,
-        source,
-        sink,
+        feed,
+        drain,
     };
     let idle = Idle {
         port_in: other_in,
@@ -190,9 +190,9 @@ fn pair<T: Drop>(mut list: Vec<T>) -> (T, T)
 
 // What is known of a thread that offered frames.
 #[derive(Drop)]
-struct SourcePromise(Snapshot<Source>);
+struct FeedPromise(Snapshot<Feed>);
 
-impl Promise<Result<Source, Fault>> for SourcePromise {
+impl Promise<Result<Feed, Fault>> for FeedPromise {
     ghost use Rattle.std.specs.Prelude.{MatchResult};
     ghost use Rattle.example_calling.specs.Threads.{HasOffered, IsOfferFault};
 
@@ -201,9 +201,9 @@ impl Promise<Result<Source, Fault>> for SourcePromise {
 
 // What is known of a thread that took copies out.
 #[derive(Drop)]
-struct SinkPromise(Snapshot<Sink>);
+struct DrainPromise(Snapshot<Drain>);
 
-impl Promise<Sink> for SinkPromise {
+impl Promise<Drain> for DrainPromise {
     ghost use Rattle.example_calling.specs.Threads.{HasSent};
 
     ghost kept_by = { λ p done. HasSent p.0.value done };
@@ -224,24 +224,24 @@ fn run_ends<'s, E, R: Threads + Wait + Sync>(
 {
     let Ends {
         mut operator,
-        source,
-        sink,
+        feed,
+        drain,
     } = ends;
-    let promise = SinkPromise(Snapshot::of(&sink));
+    let promise = DrainPromise(Snapshot::of(&drain));
     let Ok(sending) = threads.spawn_with(
         promise,
-        move || -> Sink
-            requires { sink.copies.items ≡ [] }
-        { take_out(rt, sink, is_over) },
+        move || -> Drain
+            requires { drain.copies.items ≡ [] }
+        { take_out(rt, drain, is_over) },
     ) else {
         return Err(Fault::NoThread);
     };
-    let promise = SourcePromise(Snapshot::of(&source));
+    let promise = FeedPromise(Snapshot::of(&feed));
     let Ok(offering) = threads.spawn_with(
         promise,
-        move || -> Result<Source, Fault>
-            requires { CanOffer source }
-        { offer_all(source) },
+        move || -> Result<Feed, Fault>
+            requires { CanOffer feed }
+        { offer_all(feed) },
     ) else {
         is_over.store(true, Ordering::SeqCst);
         return Err(Fault::NoThread);
@@ -249,34 +249,34 @@ fn run_ends<'s, E, R: Threads + Wait + Sync>(
     let published = publish(rt, &mut operator, batch);
     let offered = offering.join(rt);
     is_over.store(true, Ordering::SeqCst);
-    let sink = sending.join(rt);
+    let drain = sending.join(rt);
     published?;
-    let source = offered?;
+    let feed = offered?;
     Ok(Ends {
         operator,
-        source,
-        sink,
+        feed,
+        drain,
     })
 }
 
 /// Offers the frames in order, up to one that is refused.
-fn offer_all(source: Source) -> Result<Source, Fault>
-    requires { CanOffer source }
-    ensures offered { IfOk result (HasOffered source) }
-    ensures refused { IfErr result (IsOfferFault source) }
+fn offer_all(feed: Feed) -> Result<Feed, Fault>
+    requires { CanOffer feed }
+    ensures offered { IfOk result (HasOffered feed) }
+    ensures refused { IfErr result (IsOfferFault feed) }
 {
-    let Source {
+    let Feed {
         mut port,
         frames,
         mut outcomes,
-    } = source;
+    } = feed;
     for frame in &frames {
         match port.offer(*frame) {
             Ok(outcome) => outcomes.push_reserved(outcome),
             Err(why) => return Err(Fault::NotTaken(why)),
         }
     }
-    Ok(Source {
+    Ok(Feed {
         port,
         frames,
         outcomes,
@@ -284,14 +284,14 @@ fn offer_all(source: Source) -> Result<Source, Fault>
 }
 
 /// Takes copies out until a look that began after the last offer finds none. It may wait.
-fn take_out<R: Wait>(rt: &R, sink: Sink, is_over: &AtomicBool) -> Sink
-    requires { sink.copies.items ≡ [] }
-    ensures { HasSent sink result }
+fn take_out<R: Wait>(rt: &R, drain: Drain, is_over: &AtomicBool) -> Drain
+    requires { drain.copies.items ≡ [] }
+    ensures { HasSent drain result }
 {
-    let Sink {
+    let Drain {
         mut port,
         mut copies,
-    } = sink;
+    } = drain;
     for _ in rt.forever() {
         let is_last = is_over.load(Ordering::SeqCst);
         if !take_copy(&mut port, &mut copies) {
@@ -301,7 +301,7 @@ fn take_out<R: Wait>(rt: &R, sink: Sink, is_over: &AtomicBool) -> Sink
             yield_now();
         }
     }
-    Sink { port, copies }
+    Drain { port, copies }
 }
 
 /// Takes the next copy out, if one waits and there is room for it.
@@ -325,22 +325,22 @@ fn take_copy(port: &mut PortOut, copies: &mut Vec<FrameCopy>) -> bool
 
 /// Puts the ends together again, and closes the gateway.
 fn close_ends(alloc: Global, ends: Ends, idle: Idle) -> Result<Forwarded, Fault>
-    requires { AreOfOneGateway ends.operator (ends.source.port ∷ idle.port_in ∷ []) (idle.port_out ∷ ends.sink.port ∷ []) }
-    ensures closed { IfOk result (λ forwarded. Closes ends.operator (ends.source.port ∷ idle.port_in ∷ [])
-        (idle.port_out ∷ ends.sink.port ∷ []) forwarded.report) }
-    ensures outcomes { IfOk result (λ forwarded. forwarded.outcomes.items ≡ ends.source.outcomes.items) }
-    ensures copies { IfOk result (λ forwarded. forwarded.copies.items ≡ ends.sink.copies.items) }
+    requires { AreOfOneGateway ends.operator (ends.feed.port ∷ idle.port_in ∷ []) (idle.port_out ∷ ends.drain.port ∷ []) }
+    ensures closed { IfOk result (λ forwarded. Closes ends.operator (ends.feed.port ∷ idle.port_in ∷ [])
+        (idle.port_out ∷ ends.drain.port ∷ []) forwarded.report) }
+    ensures outcomes { IfOk result (λ forwarded. forwarded.outcomes.items ≡ ends.feed.outcomes.items) }
+    ensures copies { IfOk result (λ forwarded. forwarded.copies.items ≡ ends.drain.copies.items) }
     ensures refused { IfErr result IsClosingFault }
 {
     let Ends {
         operator,
-        source,
-        sink,
+        feed,
+        drain,
     } = ends;
-    let Ok(ins) = Vec::from_array(alloc, [source.port, idle.port_in]) else {
+    let Ok(ins) = Vec::from_array(alloc, [feed.port, idle.port_in]) else {
         return Err(Fault::OutOfMemory);
     };
-    let Ok(outs) = Vec::from_array(alloc, [idle.port_out, sink.port]) else {
+    let Ok(outs) = Vec::from_array(alloc, [idle.port_out, drain.port]) else {
         return Err(Fault::OutOfMemory);
     };
     match close(
@@ -352,8 +352,8 @@ fn close_ends(alloc: Global, ends: Ends, idle: Idle) -> Result<Forwarded, Fault>
         },
     ) {
         Ok(report) => Ok(Forwarded {
-            outcomes: source.outcomes,
-            copies: sink.copies,
+            outcomes: feed.outcomes,
+            copies: drain.copies,
             report,
         }),
         Err(why) => Err(Fault::NotClosed(why)),

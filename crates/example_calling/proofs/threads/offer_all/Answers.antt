@@ -12,7 +12,7 @@ use Rattle.example_calling.proofs.threads.offer_all.Goals as goal
 pub loop-frame-preserved : goal.loop-frame-preserved
 loop-frame-preserved c =
     let at = c.loop-frame in
-    let start = c.args.source.port in
+    let start = c.args.feed.port in
     let all = c.deref-frame-items.result.now in
     let frame = c.frame-item.result in
     let new = c.offer.new.self in
@@ -43,7 +43,7 @@ push_reserved-requires c =
     let many = inv.5 in
     let room = inv.6 in
     let enough = c.requires.room in
-    let size = c.args.source.frames.ok.0 in
+    let size = c.args.feed.frames.ok.0 in
     let all = ap length c.deref-frame-items.ensures.value in
     let test = c.loop-frame-test.true in
     omega arith
@@ -55,7 +55,7 @@ returns-in-Err-clause-refused c =
     let taken = inv.4 in
     let all = ap length c.deref-frame-items.ensures.value in
     let test = c.loop-frame-test.true in
-    refused_next c.in-Err.why (length c.args.source.frames.items) c.args.source.port.frames at.port.ledger.taken (omega arith)
+    refused_next c.in-Err.why (length c.args.feed.frames.items) c.args.feed.port.frames at.port.ledger.taken (omega arith)
     (λ is. c.in-Err.ensures.spent.0 (ap (λ w. Err w) is) ∙ inv.3)
 
 pub returns-clause-offered : goal.returns-clause-offered
@@ -63,10 +63,10 @@ returns-clause-offered c =
     let at = c.loop-frame in
     let inv = at.invariant in
     let all = c.deref-frame-items.result.now in
-    let whole : take at.frame-index all ≡ c.args.source.frames.items =
+    let whole : take at.frame-index all ≡ c.args.feed.frames.items =
     take_all at.frame-index all (let t = c.loop-frame-test.false in omega arith) ∙ c.deref-frame-items.ensures.value in
     record {
       offers =
-          subst (λ (l : List (List ℕ)). Offers [] c.args.source.port l at.outcomes.items at.port) whole inv.1;
+          subst (λ (l : List (List ℕ)). Offers [] c.args.feed.port l at.outcomes.items at.port) whole inv.1;
       same = inv.2;
     }
