@@ -17,7 +17,7 @@ parted_there octet text at found =
     let all : take (length text - (at + 1)) (drop (at + 1) text) ≡ drop (at + 1) text = take_all _ _ few in
     ap (λ (rest : List ℕ). Some (take at text, rest)) all ∙ ap (option_map (parts_at text)) found
 
--- a digit more stands behind a place with a digit
+-- a digit more stands behind a position with a digit
 pub more_digits : (text : List ℕ) (i : ℕ) → i < length text → (get_or text i 0 ≡ 46 → ⊥)
     → length (without_dots (take i text)) < length (without_dots text)
 more_digits [] i within other = absurd (omega arith)

@@ -83,27 +83,27 @@ word_in_front (c ∷ cs) some =
 
 -- ---- a walk over the words of a text, of which so many were passed: the next one, and those behind it
 
-pub word_here : (all here behind : List (List ℕ)) (word : List ℕ) (place : ℕ) → here ≡ word ∷ behind
-    → ((k : ℕ) → word_at here k ≡ word_at all (place + k)) → word ≡ word_at all place
-word_here all here behind word place parts same =
-    ap (λ ws. word_at ws 0) (sym parts) ∙ same 0 ∙ ap (word_at all) (add-zero place)
+pub word_here : (all here behind : List (List ℕ)) (word : List ℕ) (index : ℕ) → here ≡ word ∷ behind
+    → ((k : ℕ) → word_at here k ≡ word_at all (index + k)) → word ≡ word_at all index
+word_here all here behind word index parts same =
+    ap (λ ws. word_at ws 0) (sym parts) ∙ same 0 ∙ ap (word_at all) (add-zero index)
 
-pub word_behind : (all here behind : List (List ℕ)) (word : List ℕ) (place : ℕ) → here ≡ word ∷ behind
-    → ((k : ℕ) → word_at here k ≡ word_at all (place + k)) → (k : ℕ) → word_at behind k ≡ word_at all (place + 1 + k)
-word_behind all here behind word place parts same k =
-    let next : place + suc k ≡ place + 1 + k = omega arith in
+pub word_behind : (all here behind : List (List ℕ)) (word : List ℕ) (index : ℕ) → here ≡ word ∷ behind
+    → ((k : ℕ) → word_at here k ≡ word_at all (index + k)) → (k : ℕ) → word_at behind k ≡ word_at all (index + 1 + k)
+word_behind all here behind word index parts same k =
+    let next : index + suc k ≡ index + 1 + k = omega arith in
     ap (λ ws. word_at ws (suc k)) (sym parts) ∙ same (suc k) ∙ ap (word_at all) next
 
-pub one_unmarked : (all here behind : List (List ℕ)) (word : List ℕ) (place : ℕ) → here ≡ word ∷ behind
-    → is_marked word ≡ false → position_or_len is_marked all ≡ place + position_or_len is_marked here
-    → position_or_len is_marked all ≡ place + 1 + position_or_len is_marked behind
-one_unmarked all here behind word place parts other before =
+pub one_unmarked : (all here behind : List (List ℕ)) (word : List ℕ) (index : ℕ) → here ≡ word ∷ behind
+    → is_marked word ≡ false → position_or_len is_marked all ≡ index + position_or_len is_marked here
+    → position_or_len is_marked all ≡ index + 1 + position_or_len is_marked behind
+one_unmarked all here behind word index parts other before =
     let first : position_or_len is_marked here ≡ 1 + position_or_len is_marked behind = rw (parts, other) refl in
-    before ∙ ap (λ n. place + n) first ∙ further place (position_or_len is_marked behind)
+    before ∙ ap (λ n. index + n) first ∙ further index (position_or_len is_marked behind)
   where
-    further : (place n : ℕ) → place + (1 + n) ≡ place + 1 + n
-    further place n = omega arith
+    further : (index n : ℕ) → index + (1 + n) ≡ index + 1 + n
+    further index n = omega arith
 
-pub one_word : (all here behind : List (List ℕ)) (word : List ℕ) (place : ℕ) → here ≡ word ∷ behind
-    → length all ≡ place + length here → length all ≡ place + 1 + length behind
-one_word all here behind word place parts before = let more = ap length parts in omega arith
+pub one_word : (all here behind : List (List ℕ)) (word : List ℕ) (index : ℕ) → here ≡ word ∷ behind
+    → length all ≡ index + length here → length all ≡ index + 1 + length behind
+one_word all here behind word index parts before = let more = ap length parts in omega arith

@@ -23,9 +23,9 @@ has_octets (c ∷ cs) = true
 unfoldable pub words_of : List ℕ → List (List ℕ)
 words_of text = filter has_octets (slice_split is_blank text)
 
--- the word at a place, counted from 0, and no octets where there is none
+-- the word with an index, counted from 0, and no octets where there is none
 abbrev pub word_at : List (List ℕ) → ℕ → List ℕ
-word_at words place = slice_index_or words place []
+word_at words index = slice_index_or words index []
 
 -- what a line says: its time as it stands, brackets and all, or no octets; its interface, or no octets; and a record
 pub record Entry : Type 0 where
@@ -45,15 +45,15 @@ entry time interface (Ok octets) = Ok (Some (record { time = time; interface = i
 abbrev pub is_torn : List ℕ → Bool
 is_torn word = nat_le 2 (length word) && list_all is_hex_digit word
 
--- ---- `time interface frame`: the frame is the word at this place
+-- ---- `time interface frame`: the frame is the word with this index
 
 abbrev pub logged : List ℕ → List (List ℕ) → ℕ → Reading
-logged time words place =
-    if nat_lt 1 place then Err WordsBefore
-    else if is_torn (word_at words (place + 1)) then Err DigitsBehind
-    else entry time (if place == 1 then word_at words 0 else []) (frame_of (word_at words place))
+logged time words index =
+    if nat_lt 1 index then Err WordsBefore
+    else if is_torn (word_at words (index + 1)) then Err DigitsBehind
+    else entry time (if index == 1 then word_at words 0 else []) (frame_of (word_at words index))
 
--- ---- the display form: the word at this place has the length in brackets
+-- ---- the display form: the word with this index has the length in brackets
 
 -- of CAN FD it has two digits
 abbrev pub is_decimal : ℕ → Bool
@@ -76,43 +76,43 @@ has_direction words = is_direction (word_at words 1) && (is_mark_of 66 (word_at 
 
 -- interface and identifier, of the words before the brackets
 abbrev pub named : List (List ℕ) → ℕ → Result (List ℕ × List ℕ) LogRefusal
-named words place =
-    if place == 0 then Err NoFrame
-    else if place == 1 then Ok ([], word_at words 0)
-    else if place == 2 then Ok (word_at words 0, word_at words 1)
-    else if (place == 5) && has_direction words then Ok (word_at words 0, word_at words 4)
+named words index =
+    if index == 0 then Err NoFrame
+    else if index == 1 then Ok ([], word_at words 0)
+    else if index == 2 then Ok (word_at words 0, word_at words 1)
+    else if (index == 5) && has_direction words then Ok (word_at words 0, word_at words 4)
     else Err WordsBefore
 
--- so many octets, each a word of two digits, from a place on
+-- the octets of n words from an index on, each of two digits
 abbrev pub is_octet_word : List ℕ → Bool
 is_octet_word word = (length word == 2) && list_all is_hex_digit word
 
 abbrev pub octets_shown : List (List ℕ) → ℕ → ℕ → Result (List ℕ) LogRefusal
-octets_shown words place n =
-    let shown = take n (drop place words) in
+octets_shown words index n =
+    let shown = take n (drop index words) in
     if nat_lt (length shown) n || not (list_all is_octet_word shown) then Err BadLength
-    else if is_torn (word_at words (place + n)) then Err DigitsBehind
+    else if is_torn (word_at words (index + n)) then Err DigitsBehind
     else Ok (flat_map pairs shown)
 
 abbrev pub is_request : List (List ℕ) → ℕ → Bool
-is_request words place =
-    bytes_eq (word_at words place) (codes "remote") && bytes_eq (word_at words (place + 1)) (codes "request")
+is_request words index =
+    bytes_eq (word_at words index) (codes "remote") && bytes_eq (word_at words (index + 1)) (codes "request")
 
 abbrev pub shown_frame : Result ℕ LogRefusal → List (List ℕ) → ℕ → ℕ → Result (List ℕ) LogRefusal
-shown_frame (Err why) words place n = Err why
-shown_frame (Ok word) words place n =
-    if is_request words place then remote_of word (Some n) else with_word word (octets_shown words place n)
+shown_frame (Err why) words index n = Err why
+shown_frame (Ok word) words index n =
+    if is_request words index then remote_of word (Some n) else with_word word (octets_shown words index n)
 
 abbrev pub shown_as : List ℕ → Result (List ℕ × List ℕ) LogRefusal → List (List ℕ) → ℕ → ℕ → Reading
-shown_as time (Err why) words place n = Err why
-shown_as time (Ok names) words place n = entry time names.0 (shown_frame (identifier names.1) words place n)
+shown_as time (Err why) words index n = Err why
+shown_as time (Ok names) words index n = entry time names.0 (shown_frame (identifier names.1) words index n)
 
 abbrev pub shown : List ℕ → List (List ℕ) → ℕ → Result ℕ LogRefusal → Reading
-shown time words place (Err why) = Err why
-shown time words place (Ok n) = shown_as time (named words place) words (place + 1) n
+shown time words index (Err why) = Err why
+shown time words index (Ok n) = shown_as time (named words index) words (index + 1) n
 
 abbrev pub displayed : List ℕ → List (List ℕ) → ℕ → Reading
-displayed time words place = shown time words place (bracketed (word_at words place))
+displayed time words index = shown time words index (bracketed (word_at words index))
 
 -- ---- a line
 
@@ -122,8 +122,8 @@ is_marked word = (slice_index word 0 == 91) || list_any (λ c. c == 35) word
 
 abbrev pub in_form : List ℕ → List (List ℕ) → Option ℕ → Reading
 in_form time words None = Err NoFrame
-in_form time words (Some place) =
-    if slice_index (word_at words place) 0 == 91 then displayed time words place else logged time words place
+in_form time words (Some index) =
+    if slice_index (word_at words index) 0 == 91 then displayed time words index else logged time words index
 
 abbrev pub in_words : List ℕ → List (List ℕ) → Reading
 in_words time words = in_form time words (position is_marked words)

@@ -4,5 +4,5 @@ use Rattle.gw_log.specs.declared.words.Marked.{Marked}
 use Rattle.gw_log.specs.LogLines.{words_of, word_at}
 
 pub record IsAmong (words : List (List ℕ)) (m : Marked) : Type 0 where
-  pub word : m.word.now ≡ word_at words m.place
-  pub behind : (k : ℕ) → word_at (words_of m.behind.now) k ≡ word_at words (m.place + 1 + k)
+  pub word : m.word.now ≡ word_at words m.index
+  pub behind : (k : ℕ) → word_at (words_of m.behind.now) k ≡ word_at words (m.index + 1 + k)

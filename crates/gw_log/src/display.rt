@@ -35,12 +35,12 @@ pub fn bracketed(word: &[u8]) -> Result<usize, LogRefusal>
     }
 }
 
-/// The interface and the identifier before the brackets, which are the word at this place.
-pub fn named(text: &[u8], place: usize) -> Result<(&[u8], &[u8]), LogRefusal>
-    ensures { MatchResult result (λ names. named (words_of text.now) place ≡ Ok (names.0.now, names.1.now))
-        (λ why. named (words_of text.now) place ≡ Err why) }
+/// The interface and the identifier before the brackets, which are the word with this index.
+pub fn named(text: &[u8], index: usize) -> Result<(&[u8], &[u8]), LogRefusal>
+    ensures { MatchResult result (λ names. named (words_of text.now) index ≡ Ok (names.0.now, names.1.now))
+        (λ why. named (words_of text.now) index ≡ Err why) }
 {
-    match place {
+    match index {
         0 => Err(LogRefusal::NoFrame),
         1 => Ok((&[], word_at(text, 0))),
         2 => Ok((word_at(text, 0), word_at(text, 1))),
@@ -75,44 +75,44 @@ fn is_mark_of(letter: u8, word: &[u8]) -> bool
     }
 }
 
-/// The frame of an identifier and of what stands from a place on, behind the brackets.
-pub fn shown_frame(id: &[u8], text: &[u8], place: usize, len: usize) -> Result<Frame, LogRefusal>
-    requires place { place ≤ length text.now }
+/// The frame of an identifier and of the words from an index on, behind the brackets.
+pub fn shown_frame(id: &[u8], text: &[u8], index: usize, len: usize) -> Result<Frame, LogRefusal>
+    requires index { index ≤ length text.now }
     requires few { len ≤ 8 }
-    ensures { result ≡ shown_frame (identifier id.now) (words_of text.now) place len }
+    ensures { result ≡ shown_frame (identifier id.now) (words_of text.now) index len }
 {
     let word = reading::identifier(id)?;
-    if is_request(text, place) {
+    if is_request(text, index) {
         return reading::requested(word, len);
     }
-    let octets = octets_shown(text, place, len)?;
+    let octets = octets_shown(text, index, len)?;
     Ok(reading::frame(word, octets.as_slice()))
 }
 
-/// Whether `remote request` stands at a place.
-fn is_request(text: &[u8], place: usize) -> bool
-    requires { place ≤ length text.now }
-    ensures { result ≡ is_request (words_of text.now) place }
+/// Whether the words from an index on are `remote request`.
+fn is_request(text: &[u8], index: usize) -> bool
+    requires { index ≤ length text.now }
+    ensures { result ≡ is_request (words_of text.now) index }
 {
-    word_at(text, place) == b"remote".as_slice()
-        && word_at(text, place + 1) == b"request".as_slice()
+    word_at(text, index) == b"remote".as_slice()
+        && word_at(text, index + 1) == b"request".as_slice()
 }
 
-/// So many octets from a place on, each a word of two digits.
-fn octets_shown(text: &[u8], place: usize, len: usize) -> Result<ArrayVec<u8, 8>, LogRefusal>
-    requires place { place ≤ length text.now }
+/// The octets of `len` words from an index on, each of two digits.
+fn octets_shown(text: &[u8], index: usize, len: usize) -> Result<ArrayVec<u8, 8>, LogRefusal>
+    requires index { index ≤ length text.now }
     requires few { len ≤ 8 }
-    ensures { MatchResult result (λ octets. octets_shown (words_of text.now) place len ≡ Ok octets.items)
-        (λ why. octets_shown (words_of text.now) place len ≡ Err why) }
+    ensures { MatchResult result (λ octets. octets_shown (words_of text.now) index len ≡ Ok octets.items)
+        (λ why. octets_shown (words_of text.now) index len ≡ Err why) }
 {
     let mut octets = ArrayVec::new();
     for i in 0..len {
-        match octet(word_at(text, place + i)) {
+        match octet(word_at(text, index + i)) {
             Some(octet) => octets.push(octet),
             None => return Err(LogRefusal::BadLength),
         }
     }
-    if is_torn(word_at(text, place + len)) {
+    if is_torn(word_at(text, index + len)) {
         return Err(LogRefusal::DigitsBehind);
     }
     Ok(octets)

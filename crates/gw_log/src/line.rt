@@ -15,7 +15,7 @@ ghost use Rattle.gw_log.specs.LogLines.{
 
 use crate::digits::are_digits;
 use crate::display;
-use crate::payload::place_of;
+use crate::payload::position_of;
 use crate::reading::read_frame;
 use crate::refusal::LogRefusal;
 use crate::words::{behind_blanks, find_marked, is_bracketed, word_at};
@@ -78,7 +78,7 @@ pub fn read_line(line: &[u8]) -> Result<Option<LogLine<'_>>, LogRefusal>
     said(behind_blanks(line))
 }
 
-/// What a line says that no blank begins.
+/// What a line says whose first octet is no blank.
 fn said(text: &[u8]) -> Result<Option<LogLine<'_>>, LogRefusal>
     ensures { result ≡ said text.now }
 {
@@ -89,11 +89,11 @@ fn said(text: &[u8]) -> Result<Option<LogLine<'_>>, LogRefusal>
     }
 }
 
-/// What a line says that a time begins.
+/// What a line says that begins with a time.
 fn timed(text: &[u8]) -> Result<Option<LogLine<'_>>, LogRefusal>
     ensures { result ≡ timed text.now }
 {
-    let Some(end) = place_of(b')', text) else {
+    let Some(end) = position_of(b')', text) else {
         return Err(LogRefusal::OpenTime);
     };
     in_words(&text[..end + 1], &text[end + 1..])
@@ -107,9 +107,9 @@ fn in_words<'a>(time: &'a [u8], text: &'a [u8]) -> Result<Option<LogLine<'a>>, L
         return Err(LogRefusal::NoFrame);
     };
     if is_bracketed(marked.word) {
-        return displayed(time, text, marked.place);
+        return displayed(time, text, marked.index);
     }
-    if marked.place > 1 {
+    if marked.index > 1 {
         return Err(LogRefusal::WordsBefore);
     }
     if is_torn(word_at(marked.behind, 0)) {
@@ -117,37 +117,37 @@ fn in_words<'a>(time: &'a [u8], text: &'a [u8]) -> Result<Option<LogLine<'a>>, L
     }
     entry(
         time,
-        interface_before(text, marked.place),
+        interface_before(text, marked.index),
         read_frame(marked.word),
     )
 }
 
 /// The interface before a frame, if one stands there.
-fn interface_before(text: &[u8], place: usize) -> &[u8]
-    ensures { result.now ≡ (if place == 1 then word_at (words_of text.now) 0 else []) }
+fn interface_before(text: &[u8], index: usize) -> &[u8]
+    ensures { result.now ≡ (if index == 1 then word_at (words_of text.now) 0 else []) }
 {
-    if place == 1 { word_at(text, 0) } else { &[] }
+    if index == 1 { word_at(text, 0) } else { &[] }
 }
 
 /// What a line of the display says.
 fn displayed<'a>(
     time: &'a [u8],
     text: &'a [u8],
-    place: usize,
+    index: usize,
 ) -> Result<Option<LogLine<'a>>, LogRefusal>
-    requires { place < length text.now }
-    ensures { result ≡ displayed time.now (words_of text.now) place }
+    requires { index < length text.now }
+    ensures { result ≡ displayed time.now (words_of text.now) index }
 {
-    let len = display::bracketed(word_at(text, place))?;
-    let (interface, id) = display::named(text, place)?;
+    let len = display::bracketed(word_at(text, index))?;
+    let (interface, id) = display::named(text, index)?;
     entry(
         time,
         interface,
-        display::shown_frame(id, text, place + 1, len),
+        display::shown_frame(id, text, index + 1, len),
     )
 }
 
-/// Whether a word is octets that a blank parts from their frame.
+/// Whether a word is octets of a payload that a blank has split off their frame.
 pub fn is_torn(word: &[u8]) -> bool
     ensures { result ≡ is_torn word.now }
 {

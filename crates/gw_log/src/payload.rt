@@ -24,13 +24,13 @@ use arrayvec::ArrayVec;
 pub fn parted(octet: u8, text: &[u8]) -> Option<(&[u8], &[u8])>
     ensures { option_map (λ parts. (parts.0.now, parts.1.now)) result ≡ parted octet text.now }
 {
-    let at = place_of(octet, text)?;
+    let at = position_of(octet, text)?;
     Some((&text[..at], &text[at + 1..]))
 }
 
 /// Where the first octet of this value stands.
-pub fn place_of(octet: u8, text: &[u8]) -> Option<usize>
-    ensures place { result ≡ position (λ c. c == octet) text.now }
+pub fn position_of(octet: u8, text: &[u8]) -> Option<usize>
+    ensures position { result ≡ position (λ c. c == octet) text.now }
     ensures within { IfSome result (λ at. at < length text.now) }
 {
     text.iter().position(|c| *c == octet)

@@ -24,8 +24,10 @@ use gw_ident::{ERROR_FLAG, EXTENDED_FLAG, GREATEST_STANDARD, REMOTE_FLAG};
 
 /// The frame that a text in candump's form means: `18FEF100#0102030405060708`, `123#R3`.
 ///
-/// Eight digits make an extended identifier, but that a number with 0x20000000 in it is an error frame's word as it stands.
-/// Three digits make one of 11 bits. 101, a frame of CAN FD, 103, no `#`, and 106 to 112 (`LogRefusal`) refuse any other text.
+/// Eight digits make an extended identifier. Where they have 0x20000000 set, they are an error frame's word as it stands.
+/// Three digits make an identifier of 11 bits.
+///
+/// Any other text is refused: 101 for a frame of CAN FD, 103 where no `#` stands, and 106 to 112 (`LogRefusal`).
 #[tactic(auto, unfolding(crate::specs::LogFrames::frame_of))]
 pub fn read_frame(text: &[u8]) -> Result<Frame, LogRefusal>
     ensures { result ≡ frame_of text.now }

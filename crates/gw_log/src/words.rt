@@ -60,11 +60,11 @@ fn next_word(text: &[u8]) -> Option<(&[u8], &[u8])>
     Some((&rest[..end], &rest[end..]))
 }
 
-/// The word at a place, and no octets where there is none.
-pub fn word_at(text: &[u8], place: usize) -> &[u8]
-    ensures { result.now ≡ word_at (words_of text.now) place }
+/// The word with this index, or no octets where there is none.
+pub fn word_at(text: &[u8], index: usize) -> &[u8]
+    ensures { result.now ≡ word_at (words_of text.now) index }
 {
-    let mut left = place;
+    let mut left = index;
     let mut rest = text;
     while let Some((word, behind)) = next_word(rest) {
         if left == 0 {
@@ -80,7 +80,7 @@ pub fn word_at(text: &[u8], place: usize) -> &[u8]
 #[derive(Drop)]
 pub struct Marked<'a> {
     /// How many words stand before it.
-    pub place: usize,
+    pub index: usize,
     pub word: &'a [u8],
     /// What stands behind it.
     pub behind: &'a [u8],
@@ -88,21 +88,21 @@ pub struct Marked<'a> {
 
 /// Finds the first word that has a `#` or begins with `[`, in one walk.
 pub fn find_marked(text: &[u8]) -> Option<Marked<'_>>
-    ensures place { option_map (λ m. m.place) result ≡ position is_marked (words_of text.now) }
-    ensures within { IfSome result (λ m. m.place < length text.now) }
+    ensures index { option_map (λ m. m.index) result ≡ position is_marked (words_of text.now) }
+    ensures within { IfSome result (λ m. m.index < length text.now) }
     ensures words { IfSome result (IsAmong (words_of text.now)) }
 {
-    let mut place = 0;
+    let mut index = 0;
     let mut rest = text;
     while let Some((word, behind)) = next_word(rest) {
         if is_marked(word) {
             return Some(Marked {
-                place,
+                index,
                 word,
                 behind,
             });
         }
-        place += 1;
+        index += 1;
         rest = behind;
     }
     None

@@ -7,8 +7,8 @@ use Rattle.gw_log.proofs.display.octets_shown.Given as goal
 
 abbrev pub invariant-loop-i : goal.invariant-loop-i
 invariant-loop-i l = record {
-  octets : l.octets.items ≡ flat_map pairs (take l.i (drop l.place (words_of l.text)));
-  digits : list_all is_octet_word (take l.i (drop l.place (words_of l.text))) ≡ true;
-  words : l.i ≤ length (drop l.place (words_of l.text));
+  octets : l.octets.items ≡ flat_map pairs (take l.i (drop l.index (words_of l.text)));
+  digits : list_all is_octet_word (take l.i (drop l.index (words_of l.text))) ≡ true;
+  words : l.i ≤ length (drop l.index (words_of l.text));
   room : length l.octets.items ≡ l.i;
 }

@@ -9,8 +9,8 @@ returns-then-is_marked-clause-words c =
     let here = words_of c.loop-word.rest.now in
     let behind = words_of c.in-Some.behind.now in
     record {
-      word = word_here all here behind c.in-Some.word.now c.loop-word.place c.in-Some.ensures.words c.loop-word.invariant.same;
-      behind = word_behind all here behind c.in-Some.word.now c.loop-word.place c.in-Some.ensures.words
+      word = word_here all here behind c.in-Some.word.now c.loop-word.index c.in-Some.ensures.words c.loop-word.invariant.same;
+      behind = word_behind all here behind c.in-Some.word.now c.loop-word.index c.in-Some.ensures.words
           c.loop-word.invariant.same;
     }
 
@@ -24,8 +24,8 @@ loop-word-preserved c =
     let octets = c.loop-word.invariant.octets in
     let not_here : is_marked c.in-Some.word.now ≡ false = sym c.is_marked.ensures ∙ c.if-is_marked.false in
     record {
-      unmarked = one_unmarked all here behind c.in-Some.word.now c.loop-word.place parts not_here c.loop-word.invariant.unmarked;
-      words = one_word all here behind c.in-Some.word.now c.loop-word.place parts c.loop-word.invariant.words;
+      unmarked = one_unmarked all here behind c.in-Some.word.now c.loop-word.index parts not_here c.loop-word.invariant.unmarked;
+      words = one_word all here behind c.in-Some.word.now c.loop-word.index parts c.loop-word.invariant.words;
       octets = omega arith;
-      same = word_behind all here behind c.in-Some.word.now c.loop-word.place parts c.loop-word.invariant.same;
+      same = word_behind all here behind c.in-Some.word.now c.loop-word.index parts c.loop-word.invariant.same;
     }

@@ -6,10 +6,10 @@ use Rattle.gw_log.proofs.words.find_marked.Given as goal
 
 abbrev pub invariant-loop-word : goal.invariant-loop-word
 invariant-loop-word l = record {
-  unmarked : position_or_len is_marked (words_of l.text) ≡ l.place + position_or_len is_marked (words_of l.rest);
-  words : length (words_of l.text) ≡ l.place + length (words_of l.rest);
-  octets : l.place + length l.rest ≤ length l.text;
-  same : (k : ℕ) → word_at (words_of l.rest) k ≡ word_at (words_of l.text) (l.place + k);
+  unmarked : position_or_len is_marked (words_of l.text) ≡ l.index + position_or_len is_marked (words_of l.rest);
+  words : length (words_of l.text) ≡ l.index + length (words_of l.rest);
+  octets : l.index + length l.rest ≤ length l.text;
+  same : (k : ℕ) → word_at (words_of l.rest) k ≡ word_at (words_of l.text) (l.index + k);
 }
 
 abbrev pub decreases-loop-word : goal.decreases-loop-word
