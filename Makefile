@@ -14,11 +14,16 @@ run:
 	@crates/gw/out/gw run --ports 2 --table 0=examples/diagnostics-port.toml --table 1=examples/display.toml \
 		< examples/traces/diagnostics.pcap
 
-# Puts the program that `make run` built into PREFIX/bin, below DESTDIR where that is given.
+# Puts the program that `make run` built, its manual page, bash's completion and the examples below PREFIX, and that below DESTDIR
+# where it is given.
 PREFIX ?= /usr/local
+TO = $(abspath $(DESTDIR)$(PREFIX))
 .PHONY: install
 install: crates/gw/out/gw
-	@install -D -m 755 $< $(DESTDIR)$(PREFIX)/bin/gw
+	@install -D -m 755 $< $(TO)/bin/gw
+	@install -D -m 644 share/man/man1/gw.1 $(TO)/share/man/man1/gw.1
+	@install -D -m 644 share/bash-completion/completions/gw $(TO)/share/bash-completion/completions/gw
+	@cd examples && find . -type f -exec install -D -m 644 {} $(TO)/share/doc/gw/examples/{} ';'
 
 crates/gw/out/gw:
 	@$(MAKE) --no-print-directory run
