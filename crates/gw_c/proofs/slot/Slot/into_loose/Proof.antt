@@ -1,0 +1,55 @@
+-- `into_loose` passes the pointer back.
+use Rattle.std.proofs.Common.{◌≡◌, List, [], ◌∷◌, ◌++◌, refl, sym, subst}
+use Rattle.std.specs.Prelude.{Some, IsSome}
+use mir.Val.{Val, vptr}
+use base.Fml.{ftrue}
+use base.Logic.{SProp, ent, emp, id⊢}
+use prog.Wp.{WpFn}
+use contract.Monad.{fact, fact_i}
+use contract.Running.{tables}
+use types.ByLocal.{alloc_all, pass_all, free_all, look_at, get, get_in, sets}
+use types.Kit.{‵, raw, ◌⊛◌, ◌$◌, ◌∵◌, !, qed, by, move, keep, split, fsplit, fjoin, suffices, use0}
+use types.Part.{agg, sub, whole}
+use types.Run.{stop, fld, of_opd, no_more, and_then, returns, enter}
+use denote.Exit.{yes}
+use denote.RattleType.{owns}
+use denote.RawPtr.{block_ptr}
+use denote.Signature.{types_at, plain}
+use denote.Steps.{nothing, heard}
+use denote.Triple.Walked.{Stays, stay_dropped, walk_of}
+use Rattle.core.proofs.alloc.Calls.{Goes-blank}
+use Rattle.std.proofs.alloc.Global.TheLaws as heap_laws
+use Rattle.std.proofs.raw_atomic.Walks.{proved_at, leaves}
+use Rattle.std_heap.specs.contracts.GlobalAllocator.TheImpl.{ghosts}
+use Rattle.gw_loose.proofs.Callers.{both, loose_good, loose_in}
+use Rattle.gw_c.proofs.Slots.{R, Z, Slot, slot_out, some_of}
+use Rattle.gw_c.specs.contracts.slot.Slot.into_loose.{ended, clauses}
+use Rattle.gw_c.specs.contracts.slot.Slot.into_loose.Key.{name as #self}
+use Rattle.gw_c.proofs.slot.Slot.into_loose.Statement.{statement}
+use Rattle.gw_c.proofs.slot.Slot.into_loose.Code as code
+
+pub into_loose_spec : {M : Type 1} → statement M
+into_loose_spec 𝓤 𝓛 𝓜 𝓡 wired =
+    let H = 𝓛.H in let 𝓣 = tables 𝓤 H 𝓜 𝓡 𝓡.env in let c = clauses 𝓛 𝓜.mem 𝓡.returns in let fn = code.function in
+    let LZ = heap_laws.the_row_laws in
+    let hs : Stays ended.signature.params ended.kept = (stay_dropped (plain (λ _. Slot)) yes, tt) in
+    proved_at 𝓛 ended hs c 𝓜 𝓡 (Goes-blank 𝓛 0 (plain (λ _. Slot)) yes (λ κs x f. tt), tt) #self fn (code.unfolded 𝓤 H 𝓜 𝓡 wired)
+    (λ z are.
+    let κs = z.0.0 in let v = z.0.3.0 in let a = v.alloc in let Post : Val → SProp 𝓤 = (walk_of 𝓛 ended hs c).post z in
+    let Run : List Val → SProp 𝓤 = λ ws. WpFn 𝓤 H 𝓣.C 𝓣.Λ fn ws Post in let asked = raw ((c κs z.0.3).requires z.1) in
+    qed 𝓛 ((‵ ftrue ⊛ ‵ (owns (types_at ended.signature.params κs) z.0.3 z.0.4)) ∷ asked ∷ []) ∵
+    split ! $ move ! (1 ∷ []) $ fsplit ! $ move ! (3 ∷ []) $ heard ! (IsSome v.value) (λ there.
+    let x = (some_of v.value there).0 in let is = (some_of v.value there).1 in
+    move ! (0 ∷ []) $ slot_out ! v x is z.0.4.0 (λ b o h ws fits.
+    let w : Val = both (vptr b o) h in let typed = loose_good R Z LZ ghosts b o h fits in
+    suffices ! (Run (w ∷ []))
+    (subst (λ (us : List Val). ent 𝓤 (Run (w ∷ [])) (Run us)) (sym (λ i. ws i ++ [])) (id⊢ 𝓤 (Run (w ∷ [])))) $
+    enter ! 𝓣.C 𝓣.Λ fn (w ∷ []) Post $ alloc_all ! (λ l. pass_all ! refl (typed, tt) $
+    sets ! (of_opd ! (get_in ! (fld ! refl (stop !)) (sub ! 0 refl (whole !)))) refl (tt, tt) $
+    sets ! (of_opd ! (get_in ! (fld ! refl (stop !)) (sub ! 1 refl (whole !)))) refl fits $
+    sets ! (of_opd ! (get ! refl)) refl (tt, tt) $
+    sets ! (agg ! (and_then ! (get ! refl) (and_then ! (get ! refl) (no_more !)))) refl typed $
+    loose_in R Z LZ ghosts ! b o h a x $
+    use0 𝓛 (raw (fact 𝓤 (v.value ≡ Some x))) (fact_i 𝓤 (v.value ≡ Some x) (emp 𝓤) is) $ nothing ! $ nothing ! $ fjoin ! $
+    returns ! (look_at ! 0 refl) $ free_all ! refl $ keep ! (4 ∷ 0 ∷ 2 ∷ 1 ∷ []) $
+    by ! (leaves 𝓛 ended hs c z w (record { at = block_ptr b o; alloc = a; value = x }) (tt, tt) (tt, tt))))))

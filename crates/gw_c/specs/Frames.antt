@@ -1,0 +1,9 @@
+-- Frames of Linux as records.
+use Rattle.std.specs.Prelude.{ℕ, List, ◌∷◌, ◌++◌}
+use Rattle.std.specs.Int.{to_be_bytes, w32}
+use Rattle.gw_c.specs.declared.can.CanFrame.{CanFrame}
+
+-- the record of LINKTYPE_CAN_SOCKETCAN of a frame: its identifier word big-endian, then the other octets as they lie
+abbrev pub record_of : CanFrame → List ℕ
+record_of can =
+    to_be_bytes w32 can.id ++ can.len ∷ can.pad ∷ can.reserved ∷ can.len8_dlc ∷ can.«data»

@@ -1,0 +1,8 @@
+-- public meaning but for what a slot owns: frames, what a handle holds, faults, policies, verdicts, and hearing
+pub mod Boxes
+pub mod Frames
+pub mod Held
+pub mod Faults
+pub mod Policies
+pub mod Verdicts
+pub mod Hearing

@@ -1,0 +1,14 @@
+//! What a handle holds.
+
+use gw_claims::Claims;
+use gw_policy::Policy;
+use std::sync::Arc;
+
+/// What a handle of C's holds. Its variant is the handle's kind.
+#[derive(Drop)]
+pub enum Inner {
+    /// A policy, which other handles may share.
+    Policy(Arc<Policy>),
+    /// The addresses that are held on a segment.
+    Claims(Claims),
+}
