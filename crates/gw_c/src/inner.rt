@@ -2,6 +2,7 @@
 
 use gw_claims::Claims;
 use gw_policy::Policy;
+use std::marker::Send;
 use std::sync::Arc;
 
 /// What a handle of C's holds. Its variant is the handle's kind.
@@ -12,3 +13,10 @@ pub enum Inner {
     /// The addresses that are held on a segment.
     Claims(Claims),
 }
+
+/// What a handle holds may move to another thread, and so may the handle.
+pub fn may_move() {
+    moves::<Inner>();
+}
+
+fn moves<T: Send>() {}
