@@ -15,7 +15,7 @@ run:
 		< examples/traces/diagnostics.pcap
 
 # Puts the program that `make run` built, its manual page, bash's completion and the examples below PREFIX, and that below DESTDIR
-# where it is given.
+# where it is given. The library for C goes there too where `make capi` built it.
 PREFIX ?= /usr/local
 TO = $(abspath $(DESTDIR)$(PREFIX))
 .PHONY: install
@@ -24,9 +24,18 @@ install: crates/gw/out/gw
 	@install -D -m 644 share/man/man1/gw.1 $(TO)/share/man/man1/gw.1
 	@install -D -m 644 share/bash-completion/completions/gw $(TO)/share/bash-completion/completions/gw
 	@cd examples && find . -type f -exec install -D -m 644 {} $(TO)/share/doc/gw/examples/{} ';'
+	@if test -e out/libj1939gw.a; then $(MAKE) --no-print-directory install-capi; fi
 
 crates/gw/out/gw:
 	@$(MAKE) --no-print-directory run
+
+# libj1939gw for C, proved and built into out/ (docs/C.md), and put into PREFIX with its header.
+.PHONY: capi install-capi
+capi:
+	@$(MAKE) --no-print-directory -C capi
+
+install-capi:
+	@$(MAKE) --no-print-directory -C capi install
 
 # The gate: every proof from nothing, the wrong bodies, the tests and the programs, each growth refused in turn, the examples,
 # and the pages.
