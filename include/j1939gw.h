@@ -94,7 +94,7 @@ enum jgw_refusal {
     JGW_ASSEMBLER_MEMORY = 49,
 
     /* Tables: of 51 to 53 error.rule is the rule, where a rule is wrong. */
-    JGW_TABLE_TOML = 50,
+    JGW_TABLE_TOML = 50, /* error.line */
     JGW_TABLE_KEY = 51,
     JGW_TABLE_ACTION = 52,
     JGW_TABLE_RANGE = 53,

@@ -180,7 +180,10 @@ static void test_tables(void)
     /* 11-bit, remote and error frames are `other`. */
     EXPECT(jgw_verdict(&policy, &standard, 0) == JGW_PASS && jgw_verdict(&policy, &remote, 0) == JGW_PASS);
     EXPECT(jgw_verdict(&policy, &fault, 0) == JGW_PASS);
-    EXPECT(table(&policy, "default =", &error) == 50 && says(&error, 50, JGW_NONE, JGW_NONE, JGW_NONE, JGW_NONE));
+    EXPECT(table(&policy, "default =", &error) == 50 && says(&error, 50, 1, JGW_NONE, JGW_NONE, JGW_NONE));
+    EXPECT(table(&policy, "default = \"pass\"\n\n[[rule]\naction = \"pass\"\n", &error) == 50);
+    EXPECT(says(&error, 50, 3, JGW_NONE, JGW_NONE, JGW_NONE));
+    EXPECT(table(&policy, "[[rule]]\naction = \"pass\"\npgn = 1 2\n", &error) == 50 && error.line == 3);
     EXPECT(table(&policy, "defualt = \"pass\"", &error) == 51 && says(&error, 51, JGW_NONE, JGW_NONE, JGW_NONE, JGW_NONE));
     EXPECT(table(&policy, "rule = 1", &error) == 51 && error.rule == JGW_NONE);
     EXPECT(table(&policy, "[[rule]]\naction = \"pass\"\n[[rule]]\nactoin = \"pass\"", &error) == 51 && error.rule == 1);

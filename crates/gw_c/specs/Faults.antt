@@ -15,7 +15,7 @@ use Rattle.gw_table.specs.declared.refusal.TableRefusal.{TableRefusal}
 use Rattle.gw_table.specs.declared.refusal.TableRefusal.TheVariants.{UnknownKey, BadAction, BadRange}
 use Rattle.gw_table.specs.TableText.{refusal_number as table_number}
 use Rattle.gw_c.specs.declared.fault.Fault.{Fault}
-use Rattle.gw_c.specs.declared.fault.Fault.TheVariants.{NotUtf8, Listing, Code, Assembler, Table, OutOfMemory}
+use Rattle.gw_c.specs.declared.fault.Fault.TheVariants.{NotUtf8, Listing, Code, Assembler, Toml, Table, OutOfMemory}
 use Rattle.gw_c.specs.declared.fault.Told.{Told}
 
 -- stands for a line, place, word or rule that a refusal does not name
@@ -60,6 +60,7 @@ told_of NotUtf8 = bare 120
 told_of (Listing why) = listing_told why
 told_of (Code why place) = code_told why place
 told_of (Assembler why) = assembler_told why
+told_of (Toml line) = record (bare 50) { line = counted line }
 told_of (Table why) = table_told why
 told_of OutOfMemory = bare 100
 

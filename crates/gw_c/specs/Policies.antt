@@ -1,6 +1,8 @@
 -- The policies that C makes of texts and code, and why none is made.
-use Rattle.std.specs.Prelude.{◌≡◌, ◌≢◌, ℕ, List, map, Some, None}
+use Rattle.std.specs.Prelude.{◌≡◌, ◌≢◌, ℕ, ◌+◌, ◌≤◌, ◌==◌, List, map, Some, None}
+use Rattle.std.specs.List.{count_by}
 use Rattle.std.specs.Str.{IsUtf8}
+use Rattle.toml.specs.Parse.{parse_document}
 use Rattle.gw_insn.specs.declared.insn.Raw.{Raw}
 use Rattle.gw_insn.specs.Table.{insn_of}
 use Rattle.gw_insn.specs.Listing.{IsListing, IsListRefusal}
@@ -14,7 +16,7 @@ use Rattle.gw_input.specs.Programs.{IsProgramPolicy}
 use Rattle.gw_input.specs.Tables.{IsTablePolicy}
 use Rattle.gw_c.specs.declared.policies.SockFilter.{SockFilter}
 use Rattle.gw_c.specs.declared.fault.Fault.{Fault}
-use Rattle.gw_c.specs.declared.fault.Fault.TheVariants.{NotUtf8, Listing, Code, Assembler, Table, OutOfMemory}
+use Rattle.gw_c.specs.declared.fault.Fault.TheVariants.{NotUtf8, Listing, Code, Assembler, Toml, Table, OutOfMemory}
 
 -- the four fields of an instruction of Linux
 abbrev pub raw_in : SockFilter → Raw
@@ -59,8 +61,14 @@ RefusesAssembler text (Code why place) =
 RefusesAssembler text OutOfMemory = (policy : Filter) × IsAssembledPolicy text policy
 RefusesAssembler text _ = ⊥
 
+-- a text has one line more than line feeds
+abbrev pub IsLineOf : List ℕ → ℕ → Type 0
+IsLineOf text line = (1 ≤ line) × (line ≤ 1 + count_by (λ octet. octet == 10) text)
+
+-- a text that is no TOML is told with one of its lines
 abbrev pub RefusesTable : List ℕ → Fault → Type 0
 RefusesTable text NotUtf8 = IsUtf8 text → ⊥
+RefusesTable text (Toml line) = IsUtf8 text × (parse_document text ≡ None) × IsLineOf text line
 RefusesTable text (Table why) = IsUtf8 text × IsTableRefusal text why
 RefusesTable text OutOfMemory = (policy : Filter) × IsTablePolicy text policy
 RefusesTable text _ = ⊥

@@ -22,7 +22,9 @@ pub enum Fault {
     Code { why: Cause, place: usize },
     /// 40 to 49: a text that is no assembler text.
     Assembler(AsmRefusal),
-    /// 50 to 55: a text that is no table.
+    /// 50: a text that is no TOML, and the line at which that shows.
+    Toml { line: usize },
+    /// 51 to 55: a text that is no table.
     Table(TableRefusal),
     /// 100: memory was refused for the policy.
     OutOfMemory,
@@ -68,6 +70,10 @@ impl Fault {
             Fault::Listing(why) => listing_told(*why),
             Fault::Code { why, place } => code_told(*why, *place),
             Fault::Assembler(why) => assembler_told(why),
+            Fault::Toml { line } => Told {
+                line: counted(*line),
+                ..Told::bare(50)
+            },
             Fault::Table(why) => table_told(why),
             Fault::OutOfMemory => Told::bare(100),
         }

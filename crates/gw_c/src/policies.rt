@@ -1,6 +1,7 @@
 //! Policies by handle, made of texts and code.
 
-ghost use Rattle.std.specs.Prelude.{◌≡◌, ◌≢◌, map, Some, MatchOption, IsSomeAnd, IfOk, IfErr, IsOkAnd, IsErrAnd};
+ghost use Rattle.std.specs.Prelude.{◌≡◌, ◌≢◌, ◌==◌, map, Some, MatchOption, IsSomeAnd, IfOk, IfErr, IsOkAnd, IsErrAnd};
+ghost use Rattle.std.specs.List.{count_by};
 ghost use Rattle.gw_input.specs.Programs.{IsProgramPolicy};
 ghost use Rattle.gw_input.specs.Tables.{IsTablePolicy};
 ghost use Rattle.gw_c.specs.declared.fault.Fault.TheVariants as fault;
@@ -10,6 +11,7 @@ ghost use Rattle.gw_c.specs.Policies.{
   raw_in,
   IsCodePolicy,
   IsAssembledPolicy,
+  IsLineOf,
   RefusesCode,
   RefusesFilters,
   RefusesListing,
@@ -23,6 +25,7 @@ use crate::inner::Inner;
 use gw_input::{ProgramFault, TableFault, program_policy, table_policy};
 use gw_insn::Raw;
 use gw_policy::Policy;
+use gw_table::TableRefusal;
 use gw_text::assemble;
 use gw_verify::Program;
 use std::alloc::{AllocError, Global};
@@ -245,9 +248,33 @@ fn of_table(alloc: Global, text: &[u8]) -> Result<Box<Inner>, Fault>
     match table_policy(alloc, text) {
         Ok(policy) => hold(alloc, policy),
         Err(TableFault::NotUtf8) => Err(Fault::NotUtf8),
+        Err(TableFault::Text(TableRefusal::BadToml(error))) => Err(Fault::Toml {
+            line: line_of(text, &error),
+        }),
         Err(TableFault::Text(why)) => Err(Fault::Table(why)),
         Err(TableFault::OutOfMemory) => Err(Fault::OutOfMemory),
     }
+}
+
+/// The line at which an error of a text begins.
+#[tactic(auto, using(crate::proofs::Lines::feeds_before))]
+fn line_of(text: &[u8], error: &toml::de::Error) -> usize
+    ensures { IsLineOf text.now result }
+{
+    let place = match error.span() {
+        Some(span) => span.start,
+        None => 0,
+    };
+    match text.get(..place) {
+        Some(before) => 1 + line_feeds(before),
+        None => 1,
+    }
+}
+
+fn line_feeds(text: &[u8]) -> usize
+    ensures { result ≡ count_by (λ octet. octet == 10) text.now }
+{
+    text.iter().filter(|octet| **octet == b'\n').count()
 }
 
 /// A policy as a handle holds it.
