@@ -13,6 +13,7 @@ pub mod Trees
 pub mod TreesFit
 mod TreesExamples
 mod IndexExamples
+mod DifferenceExamples
 pub mod NeverDecides
 pub mod Causes
 pub mod RuleBits
@@ -20,3 +21,8 @@ pub mod Holding
 pub mod Listed
 pub mod Rows
 pub mod Indexed
+pub mod Universes
+pub mod Searched
+pub mod Witnessed
+pub mod Placed
+pub mod Listing

@@ -119,7 +119,7 @@ within n inner outer is found = grind (arith, nat_tests)
 
 -- what holds of a frame by a rule holds of it by a rule that covers it
 
-all_parts : (a b c d : Bool) → (a && b && c && d) ≡ true → (a ≡ true) × (b ≡ true) × (c ≡ true) × (d ≡ true)
+pub all_parts : (a b c d : Bool) → (a && b && c && d) ≡ true → (a ≡ true) × (b ≡ true) × (c ≡ true) × (d ≡ true)
 all_parts true true true true is = (refl, refl, refl, refl)
 all_parts true true true false is = absurd (false≢true is)
 all_parts true true false d is = absurd (false≢true is)
@@ -139,8 +139,8 @@ covered_holds octets port earlier later is holds =
 
 -- a rule that decides holds, and no earlier one does
 
-decider_holds : (octets : List ℕ) (port number : ℕ) (table : Meaning) (rule : Rule) → Decides table octets port (part.Rule number)
-    → slice_get table.rules number ≡ Some rule → matches octets port rule ≡ true
+pub decider_holds : (octets : List ℕ) (port number : ℕ) (table : Meaning) (rule : Rule)
+    → Decides table octets port (part.Rule number) → slice_get table.rules number ≡ Some rule → matches octets port rule ≡ true
 decider_holds octets port number table rule decides here =
     let first = position-Some (matches octets port) table.rules number rule decides.1 in
     ap (matches octets port) (sym (get_or_from_slice_get table.rules number rule rule here)) ∙ first.1

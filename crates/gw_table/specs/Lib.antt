@@ -1,10 +1,14 @@
--- What callers may rest on: what a table passes and what decides it (Table), which rules can never decide (Dead), what a text
--- says as a table and why it is none (TableText), and the program that a table is compiled to (Emission). What only the index
--- speaks of inside: RuleSets, Sections and Index.
+-- What callers may rest on: what a table passes and what decides it (Table), which rules can never decide (Dead), what two tables
+-- differ in (Difference), what a text says as a table and why it is none (TableText), and the program that a table is compiled to
+-- (Emission). What only the index speaks of inside: RuleSets, Sections and Index. What only the list of differences does: Places
+-- and Universes.
 pub mod Table
 pub mod Dead
+pub mod Difference
 pub mod TableText
 pub mod Emission
 pub mod RuleSets
 pub mod Sections
 pub mod Index
+pub mod Places
+pub mod Universes

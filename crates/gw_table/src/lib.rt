@@ -3,6 +3,7 @@
 
 mod compiler;
 mod dead;
+mod difference;
 mod explanation;
 mod faults;
 mod index;
@@ -11,13 +12,16 @@ mod reading;
 mod refusal;
 mod rule_set;
 mod rule_sets;
+mod search;
 mod section;
 mod table;
+mod universe;
 mod values;
 mod verdict;
 
 pub use compiler::compile;
 pub use dead::WhyDead;
+pub use difference::Difference;
 pub use index::IndexedTable;
 pub use refusal::{ActionFault, Field, KeyLocation, RangeFault, TableRefusal};
 pub use table::{Action, Part, Rule, Span, Table};

@@ -1,0 +1,22 @@
+use Rattle.std.proofs.Common.{List, subst, MatchOption}
+use Rattle.gw_boxes.specs.declared.boxes.Block.{Block}
+use Rattle.gw_boxes.specs.Boxes.{IsFree, HasNoFree}
+use Rattle.gw_table.proofs.Searched.{none_there, searched, are_before}
+use Rattle.gw_table.proofs.universe.Universe.common_point.Goals as goal
+
+pub returns-then-is_empty : goal.returns-then-is_empty
+returns-then-is_empty c =
+    none_there c.args.self c.args.old.now c.args.a c.args.new.now c.args.b c.part_at.result c.part_at-2.result
+    c.within-part.result c.part_at.ensures c.part_at-2.ensures c.within-part.ensures c.if-is_empty.ensures
+
+pub returns : goal.returns
+returns c =
+    let others = c.push_meeting-2.new.others.items in
+    let before = are_before c.args.self c.args.old.now c.args.a c.args.new.now c.args.b c.part_at.result c.part_at-2.result
+    c.within-part.result c.part_at.ensures c.part_at-2.ensures c.within-part.ensures c.new-others.result.items
+    c.push_meeting.new.others.items others c.new-others.ensures.items c.in_ok-push_meeting.ensures
+    c.in_ok-push_meeting-2.ensures in
+    searched c.args.self c.args.old.now c.args.a c.args.new.now c.args.b c.part_at.result c.part_at-2.result
+    c.within-part.result c.part_at.ensures c.part_at-2.ensures c.within-part.ensures others before
+    c.requires.a c.requires.b c.free_point.result (subst (λ (list : List Block). MatchOption c.free_point.result
+    (HasNoFree c.within-part.result list) (IsFree c.within-part.result list)) c.deref.ensures.value c.free_point.ensures)

@@ -1,0 +1,154 @@
+//! What two tables differ in.
+
+ghost use Rattle.std.specs.Prelude.{◌≡◌, ◌≢◌, ℕ, ◌+◌, ◌*◌, ◌<◌, ◌≤◌, ◌↔◌, List, [], length, All, Some, IfOk, OnOk, MatchOption};
+ghost use Rattle.gw_table.specs.Table.{Meaning, IsWellFormed, IsRule, action_of};
+ghost use Rattle.gw_table.specs.Difference.{AreDifferences, AreAlike, IsDifference, IsUnlike};
+ghost use Rattle.gw_table.specs.Places.{part_at, place_of, HoldFirst, DecideAt, IsOfPlaces, AreListed};
+
+use crate::search::common_frame;
+use crate::table::{Action, Part, Table};
+use crate::universe::empty_frame;
+use gw_frame::Frame;
+use std::alloc::{AllocError, Global};
+
+/// A frame that two tables treat unlike when it is taken at a port, and the parts that decide it.
+#[derive(Clone, Copy, Debug)]
+pub struct Difference {
+    /// What decides it in the old table.
+    pub old: Part,
+    /// What decides it in the new one.
+    pub new: Part,
+    /// One of 29 bits, of priority 0, or one of 11 bits; without payload.
+    pub frame: Frame,
+    /// The ingress port, below 16.
+    pub port: u8,
+}
+
+/// A frame, and the port at which it is taken.
+#[derive(Clone, Copy)]
+pub struct Witness {
+    pub frame: Frame,
+    pub port: u8,
+}
+
+impl Table {
+    /// What another table differs in: each pair of a part of this table and a part of the other that decide some frame unlike
+    /// at a port below 16, once, with one such frame and port. The rules stand first, then `default`, then `other`. It is
+    /// refused for want of memory alone.
+    pub fn differences(&self, alloc: Global, other: &Table) -> Result<Vec<Difference>, AllocError>
+        ensures differences { IfOk result (λ list. AreDifferences self.now other.now list.items) }
+        ensures alike { IfOk result (λ list. (list.items ≡ []) ↔ AreAlike self.now other.now) }
+    {
+        let mut found = Vec::new(alloc);
+        for place in 0..self.places() {
+            push_row(alloc, &mut found, self, place, other)?;
+        }
+        Ok(found)
+    }
+
+    /// How many parts the table has.
+    fn places(&self) -> usize
+        ensures count { result ≡ length self.now.rules + 2 }
+        ensures table { IsWellFormed self.now }
+    {
+        self.rules().len() + 2
+    }
+
+    fn part_at(&self, place: usize) -> Part
+        ensures { result ≡ part_at (length self.now.rules) place }
+    {
+        let rules = self.rules().len();
+        if place < rules {
+            Part::Rule(place)
+        } else if place == rules {
+            Part::Default
+        } else {
+            Part::Other
+        }
+    }
+
+    fn action_at(&self, place: usize) -> Action
+        ensures { action_of self.now (part_at (length self.now.rules) place) ≡ Some result }
+    {
+        match self.part_at(place) {
+            Part::Rule(rule) => self.rules()[rule].action,
+            Part::Default => self.default(),
+            Part::Other => self.other(),
+        }
+    }
+}
+
+/// Puts the differences of the part at a place of the old table and each part of the new one behind those found.
+fn push_row(
+    alloc: Global,
+    found: &mut Vec<Difference>,
+    old: &Table,
+    place: usize,
+    new: &Table,
+) -> Result<(), AllocError>
+    requires table { IsWellFormed old.now }
+    requires place { place < length old.now.rules + 2 }
+    requires before { AreListed old.now new.now place 0 found.old.items }
+    ensures { OnOk result (AreListed old.now new.now (place + 1) 0 found.new.items) }
+{
+    for with in 0..new.places() {
+        if let Some(difference) = difference_at(alloc, old, place, new, with)? {
+            found.push(difference)?;
+        }
+    }
+    Ok(())
+}
+
+/// A difference of the parts at a place of each table.
+fn difference_at(
+    alloc: Global,
+    old: &Table,
+    a: usize,
+    new: &Table,
+    b: usize,
+) -> Result<Option<Difference>, AllocError>
+    requires a { a < length old.now.rules + 2 }
+    requires b { b < length new.now.rules + 2 }
+    ensures { IfOk result (λ found. MatchOption found
+        ((octets : List ℕ) (port : ℕ) → IsUnlike old.now new.now octets port → ¬ DecideAt old.now a new.now b octets port)
+        (λ d. IsDifference old.now new.now d × IsOfPlaces old.now new.now a b d)) }
+{
+    if old.action_at(a) == new.action_at(b) {
+        return Ok(None);
+    }
+    let Some(witness) = witness_at(alloc, old, a, new, b)? else {
+        return Ok(None);
+    };
+    Ok(Some(Difference {
+        old: old.part_at(a),
+        new: new.part_at(b),
+        frame: witness.frame,
+        port: witness.port,
+    }))
+}
+
+/// A frame that the parts at a place of each table decide.
+fn witness_at(
+    alloc: Global,
+    old: &Table,
+    a: usize,
+    new: &Table,
+    b: usize,
+) -> Result<Option<Witness>, AllocError>
+    requires a { a < length old.now.rules + 2 }
+    requires b { b < length new.now.rules + 2 }
+    ensures { IfOk result (λ found. MatchOption found
+        ((octets : List ℕ) (port : ℕ) → ¬ DecideAt old.now a new.now b octets port)
+        (λ w. DecideAt old.now a new.now b w.frame w.port)) }
+{
+    let is_other = a > old.rules().len();
+    if is_other != (b > new.rules().len()) {
+        return Ok(None);
+    }
+    if is_other {
+        // Neither table looks at such a frame, so that one of them stands for all.
+        let frame = empty_frame(0);
+        return Ok(Some(Witness { frame, port: 0 }));
+    }
+    common_frame(alloc, old.rules(), a, new.rules(), b)
+}
