@@ -17,6 +17,8 @@ mod cli_run;
 #[cfg(test)]
 mod cli_streams;
 #[cfg(test)]
+mod differences;
+#[cfg(test)]
 mod events;
 #[cfg(test)]
 mod frame;
