@@ -9,7 +9,9 @@ use crate::programs::{
     make_read_cut_listing, make_read_listing, make_write_listing,
 };
 use crate::runs::{make_threads, make_threads_from};
-use crate::tables::{make_absorb, make_compile, make_from_table, make_read_table};
+use crate::tables::{
+    make_absorb, make_compile, make_differences, make_from_table, make_read_table,
+};
 use crate::traces::{make_feed, make_frames};
 use std::alloc::Global;
 use std::io::Write;
@@ -40,6 +42,8 @@ pub enum Call {
     ReadTable,
     /// `compile`.
     Compile,
+    /// `Table::differences`.
+    Differences,
     /// `Policy::from_table`.
     FromTable,
     /// `PolicySet::absorb`, which copies an `Arc` and so takes no memory of the allocator.
@@ -72,7 +76,7 @@ pub enum Call {
 
 impl Call {
     /// Every call.
-    pub const ALL: [Call; 24] = [
+    pub const ALL: [Call; 25] = [
         Call::ReadListing,
         Call::ReadCutListing,
         Call::WriteListing,
@@ -83,6 +87,7 @@ impl Call {
         Call::Disassemble,
         Call::ReadTable,
         Call::Compile,
+        Call::Differences,
         Call::FromTable,
         Call::Absorb,
         Call::NewCore,
@@ -112,6 +117,7 @@ impl Call {
             Call::Disassemble => "disassemble",
             Call::ReadTable => "read_table",
             Call::Compile => "compile",
+            Call::Differences => "differences",
             Call::FromTable => "from_table",
             Call::Absorb => "absorb",
             Call::NewCore => "core_new",
@@ -152,6 +158,7 @@ impl Call {
             Call::Disassemble => make_disassemble(alloc, output),
             Call::ReadTable => make_read_table(alloc, output),
             Call::Compile => make_compile(alloc, output),
+            Call::Differences => make_differences(alloc, output),
             Call::FromTable => make_from_table(alloc, output),
             Call::Absorb => make_absorb(alloc, output),
             Call::NewCore => make_core(alloc, output),

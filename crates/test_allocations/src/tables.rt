@@ -92,6 +92,16 @@ pub fn make_compile<W: Write>(alloc: Global, output: &mut W) -> Result<Answer, F
     })
 }
 
+pub fn make_differences<W: Write>(alloc: Global, output: &mut W) -> Result<Answer, Fault> {
+    let old = Table::read(alloc, TABLE).map_err(|_| Fault::Unprepared)?;
+    let new = Table::read(alloc, INDEXED).map_err(|_| Fault::Unprepared)?;
+    say_ready(output)?;
+    Ok(match old.differences(alloc, &new) {
+        Ok(found) => Answer::Count(found.len(), "differences"),
+        Err(_) => Answer::OUT_OF_MEMORY,
+    })
+}
+
 pub fn make_from_table<W: Write>(alloc: Global, output: &mut W) -> Result<Answer, Fault> {
     let table = Table::read(alloc, INDEXED).map_err(|_| Fault::Unprepared)?;
     let (default, other) = (table.default(), table.other());
