@@ -21,10 +21,11 @@ pub fn judge_arguments<'a>(alloc: Global) -> Result<Command<'a>, AllocError> {
         alloc,
         "judge",
         "Judges each line of a log of candump by a policy: counts what each rule decided, or writes the lines that pass",
-        "gw judge (--table FILE | --listing FILE) [--port P] [--passed | --blocked] [--strict] < LOG",
+        "gw judge (--table FILE | --listing FILE) [--port P] [--passed | --blocked | --each] [--strict] < LOG",
         "Example: gw judge --table examples/display.toml < examples/traces/diagnostics.log",
     );
-    with_shown(alloc, with_policy(alloc, command)?)
+    let command = with_shown(alloc, with_policy(alloc, command)?)?;
+    with_taking(alloc, command)
 }
 
 /// The command with the options that name the policy's file, of which one is given.
@@ -47,27 +48,36 @@ fn with_policy<'a>(alloc: Global, command: Command<'a>) -> Result<Command<'a>, A
         ))
 }
 
-/// The command with the options that say how frames were taken, and what is written.
+/// The command with the options that say which lines are written, of which one at most is given.
 fn with_shown<'a>(alloc: Global, command: Command<'a>) -> Result<Command<'a>, AllocError> {
-    let blocked = flag(
-        alloc,
-        "blocked",
-        "Writes the lines whose frame is blocked, unchanged, in place of the counts",
-    );
-    let blocked = blocked.conflicts_with("passed")?;
+    let group = ArgGroup::new(alloc, "shown");
+    let group = group.arg("passed")?.arg("blocked")?.arg("each")?;
     command
-        .arg(ingress_port(alloc))?
+        .group(group)?
         .arg(flag(
             alloc,
             "passed",
             "Writes the lines whose frame passes, unchanged, in place of the counts",
         ))?
-        .arg(blocked)?
         .arg(flag(
             alloc,
-            "strict",
-            "Ends with the first line that says no classic frame; without it such lines are counted",
+            "blocked",
+            "Writes the lines whose frame is blocked, unchanged, in place of the counts",
+        ))?
+        .arg(flag(
+            alloc,
+            "each",
+            "Writes each line with a frame behind its verdict and what decides it, in place of the counts",
         ))
+}
+
+/// The command with the options that say how frames were taken, and what ends the judging.
+fn with_taking<'a>(alloc: Global, command: Command<'a>) -> Result<Command<'a>, AllocError> {
+    command.arg(ingress_port(alloc))?.arg(flag(
+        alloc,
+        "strict",
+        "Ends with the first line that says no classic frame; without it such lines are counted",
+    ))
 }
 
 /// What the arguments ask for where they name the command `judge`, or `clap`'s answer to them: help, or what is wrong.
@@ -104,6 +114,8 @@ fn shown(found: &ArgMatches) -> Shown {
         Shown::Passed
     } else if found.get_flag("blocked") {
         Shown::Blocked
+    } else if found.get_flag("each") {
+        Shown::Each
     } else {
         Shown::Counts
     }

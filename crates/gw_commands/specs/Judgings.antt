@@ -19,7 +19,7 @@ use Rattle.gw_commands.specs.declared.judge_command.LogQuery.{LogQuery}
 use Rattle.gw_commands.specs.declared.judge_command.PolicyKind.{PolicyKind}
 use Rattle.gw_commands.specs.declared.judge_command.PolicyKind.TheVariants as kind
 use Rattle.gw_commands.specs.declared.judge_command.Shown.{Shown}
-use Rattle.gw_commands.specs.declared.judge_command.Shown.TheVariants.{Counts, Passed, Blocked}
+use Rattle.gw_commands.specs.declared.judge_command.Shown.TheVariants.{Counts, Passed, Blocked, Each}
 use Rattle.gw_commands.specs.declared.refusal.Refusal.{Refusal}
 use Rattle.gw_commands.specs.declared.refusal.Refusal.TheVariants.{OutOfMemory}
 use Rattle.gw_commands.specs.Commands.{Writes, WritesText}
@@ -33,6 +33,7 @@ abbrev pub wanted_of : Shown → Wanted
 wanted_of Counts = wanted.Nothing
 wanted_of Passed = wanted.Passed
 wanted_of Blocked = wanted.Blocked
+wanted_of Each = wanted.Each
 
 -- the line of what ends a log early: its number, and that of the line that is refused
 abbrev pub fault_line : JudgeFault → List ℕ
@@ -44,11 +45,13 @@ abbrev pub counts_behind : (Tally → List ℕ) → Shown → Tally → List ℕ
 counts_behind counts Counts tally = counts tally
 counts_behind counts Passed tally = []
 counts_behind counts Blocked tally = []
+counts_behind counts Each tally = []
 
 abbrev pub fault_behind : Shown → JudgeFault → List ℕ
 fault_behind Counts fault = fault_line fault
 fault_behind Passed fault = []
 fault_behind Blocked fault = []
+fault_behind Each fault = []
 
 -- the counts were written, with status 0; or memory was wanting for them
 abbrev pub TellsCounts : (Tally → List ℕ) → Shown → Tally → Option (List ℕ) → Option (List ℕ) → Bool → ℕ → Type 0

@@ -44,6 +44,8 @@ pub enum Shown {
     Passed,
     /// The lines whose frame is blocked.
     Blocked,
+    /// The lines that say a frame, each behind its verdict and what decides it.
+    Each,
 }
 
 /// What is asked of a log.
@@ -84,7 +86,7 @@ pub fn judge_named<R: Files, I: Read, W: Write, F: Write>(
 
 /// Judges each line of a log by the policy of this text, and writes the lines that are asked for, or the counts of all. Refused
 /// are the policy's text as by the commands `table` and `check`; 96, a read that failed; and strictly 101 to 113, the first line
-/// that says no classic frame. Where lines are asked for, only lines of the log are written, and a person is told of the rest.
+/// that says no classic frame. Where lines are asked for, nothing else is written, and a person is told of the rest.
 pub fn judge_log<I: Read, W: Write, F: Write>(
     alloc: Global,
     query: LogQuery,
@@ -153,6 +155,7 @@ fn wanted(shown: Shown) -> Wanted
         Shown::Counts => Wanted::Nothing,
         Shown::Passed => Wanted::Passed,
         Shown::Blocked => Wanted::Blocked,
+        Shown::Each => Wanted::Each,
     }
 }
 

@@ -1,5 +1,6 @@
 -- The definitions computed on a log: a line of each kind, CR LF, and a last line without its end.
-use Rattle.std.proofs.Common.{◌≡◌, ℕ, List, [], ◌∷◌, codes, map, refl, Some}
+use Rattle.std.proofs.Common.{◌≡◌, ℕ, List, [], ◌∷◌, ◌++◌, codes, map, refl, Some}
+use Rattle.std.specs.Fmt.{digits}
 use Rattle.gw_log.specs.LogFrames.{digit, frame_of}
 use Rattle.gw_log.specs.LogLines.{is_blank, words_of, is_marked, line_of}
 use Rattle.gw_log.specs.declared.refusal.LogRefusal.TheVariants.{NoFrame, NoDigit}
@@ -9,7 +10,7 @@ use Rattle.gw_table.specs.declared.table.Part.TheVariants.{Rule, Default, Other}
 use Rattle.gw_table.specs.Table.{Meaning}
 use Rattle.gw_judge.specs.declared.fate.Fate.{Fate}
 use Rattle.gw_judge.specs.declared.fate.Fate.TheVariants as fates
-use Rattle.gw_judge.specs.declared.report.Wanted.TheVariants.{Passed, Blocked, Nothing}
+use Rattle.gw_judge.specs.declared.report.Wanted.TheVariants.{Passed, Blocked, Each, Nothing}
 use Rattle.gw_judge.specs.Fates.{table_fate, fate_of}
 use Rattle.gw_judge.specs.Tallies.{count_of, first_of, counts_of, cause_of}
 use Rattle.gw_judge.specs.Judged.{log_lines, written_of, wanted_front}
@@ -51,6 +52,12 @@ blocked : written_of (fate_of (table_fate not_33 0)) (wanted_front Blocked) (log
     ≡ codes "(1.0) can0 123#01\r\n(1.2) can0 0CFEF121#\n(1.3) can1 123#0A"
 unfolding written_of fate_of log_lines line_of words_of is_blank is_marked frame_of digit
 blocked = refl
+
+each : written_of (fate_of (table_fate not_33 0)) (wanted_front Each) (log_lines log)
+    ≡ codes "block other (1.0) can0 123#01\r\npass default (1.1) can0 18FEF100#01\nblock rule 0 (1.2) can0 0CFEF121#\n"
+    ++ codes "block other (1.3) can1 123#0A"
+unfolding written_of fate_of log_lines line_of words_of is_blank is_marked frame_of digit digits
+each = refl
 
 nothing : written_of (fate_of (table_fate not_33 0)) (wanted_front Nothing) (log_lines log) ≡ []
 unfolding written_of fate_of log_lines line_of words_of is_blank is_marked frame_of digit

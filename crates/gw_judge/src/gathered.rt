@@ -1,12 +1,13 @@
 //! Texts that are written together.
 
-ghost use Rattle.std.specs.Prelude.{◌≡◌, [], false, option_copied, OnOk};
+ghost use Rattle.std.specs.Prelude.{◌≡◌, [], false, OnOk};
 ghost use Rattle.gw_io.specs.Tries.{inner_of, has_failed};
 ghost use Rattle.gw_judge.specs.Judged.{behind_front};
 ghost use Rattle.gw_judge.specs.UnderWay.{Puts};
 
 use crate::fault::JudgeFault;
 use arrayvec::ArrayVec;
+use gw_input::Line;
 use gw_io::{Tried, WriteFault, write_all};
 use std::io::Write;
 
@@ -32,18 +33,18 @@ impl Gathered {
     /// Puts a line behind its front, if it has one. A line without one is not written.
     pub fn put_line<W: Write>(
         &mut self,
-        front: Option<&[u8]>,
+        front: Option<Line>,
         line: &[u8],
         writer: &mut Tried<W>,
     ) -> Result<(), JudgeFault>
         requires { has_failed writer.old ≡ false }
         ensures { Puts (W.contents (inner_of writer.old)) (W.contents (inner_of writer.new)) (has_failed writer.new)
-            self.old.held.items (behind_front (option_copied front.entry) line.now) result self.new.held.items }
+            self.old.held.items (behind_front front line.now) result self.new.held.items }
     {
         let Some(front) = front else {
             return Ok(());
         };
-        self.put(front, writer)?;
+        self.put(front.as_bytes(), writer)?;
         self.put(line, writer)
     }
 
