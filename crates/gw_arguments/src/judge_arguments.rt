@@ -2,8 +2,8 @@
 
 use crate::arguments::{described, flag, ingress_port, matched, valued};
 use crate::run_arguments::wrong;
-use clap::{ArgGroup, ArgMatches, Command, Error};
-use gw_commands::{LogQuery, PolicyKind, Shown};
+use clap::{Arg, ArgGroup, ArgMatches, Command, Error};
+use gw_commands::{Grouping, LogQuery, PolicyKind, Shown};
 use std::alloc::{AllocError, Global};
 use std::convert::AsStr;
 
@@ -21,10 +21,12 @@ pub fn judge_arguments<'a>(alloc: Global) -> Result<Command<'a>, AllocError> {
         alloc,
         "judge",
         "Judges each line of a log of candump by a policy: counts what each rule decided, or writes the lines that pass",
-        "gw judge (--table FILE | --listing FILE) [--port P] [--passed | --blocked | --each] [--strict] < LOG",
+        "gw judge (--table FILE | --listing FILE) [--port P] [--by WHAT | --passed | --blocked | --each] [--strict] < LOG",
         "Example: gw judge --table examples/display.toml < examples/traces/diagnostics.log",
     );
-    let command = with_shown(alloc, with_policy(alloc, command)?)?;
+    let command = with_policy(alloc, command)?;
+    let command = command.arg(counted_by(alloc)?)?;
+    let command = with_shown(alloc, command)?;
     with_taking(alloc, command)
 }
 
@@ -46,6 +48,18 @@ fn with_policy<'a>(alloc: Global, command: Command<'a>) -> Result<Command<'a>, A
             "FILE",
             "A file with a program's listing that decides each frame",
         ))
+}
+
+/// The option that says in which groups frames are counted.
+fn counted_by<'a>(alloc: Global) -> Result<Arg<'a>, AllocError> {
+    let by = valued(
+        alloc,
+        "by",
+        "WHAT",
+        "Counts frames by rule, by pgn or by source: which groups and which senders pass [default: rule]",
+    );
+    by.value_parser(["rule", "pgn", "source"].as_slice())
+        .conflicts_with("shown")
 }
 
 /// The command with the options that say which lines are written, of which one at most is given.
@@ -103,6 +117,7 @@ fn asked<'a>(alloc: Global, found: &ArgMatches<'a>) -> Result<JudgeRequest<'a>, 
         kind,
         port: found.get_one::<u8>("port").unwrap_or(0),
         shown: shown(found),
+        by: grouping(found),
         strict: found.get_flag("strict"),
     };
     Ok(JudgeRequest { query, file })
@@ -118,5 +133,14 @@ fn shown(found: &ArgMatches) -> Shown {
         Shown::Each
     } else {
         Shown::Counts
+    }
+}
+
+/// In which groups frames are counted.
+fn grouping(found: &ArgMatches) -> Grouping {
+    match found.get_str("by") {
+        Some("pgn") => Grouping::Pgn,
+        Some("source") => Grouping::Source,
+        _ => Grouping::Nothing,
     }
 }

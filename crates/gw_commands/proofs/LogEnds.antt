@@ -3,21 +3,24 @@ use Rattle.std.proofs.Common.{◌≡◌, ℕ, Bool, true, List, Option, subst}
 use Rattle.gw_judge.specs.declared.fate.Fate.{Fate}
 use Rattle.gw_judge.specs.declared.fault.JudgeFault.{JudgeFault}
 use Rattle.gw_judge.specs.declared.fault.JudgeFault.TheVariants as ends
+use Rattle.gw_judge.specs.declared.groups.Grouping.{Grouping}
 use Rattle.gw_judge.specs.declared.report.Wanted.{Wanted}
 use Rattle.gw_judge.specs.declared.tally.Tally.{Tally}
 use Rattle.gw_judge.specs.Judged.{IsJudged, IsJudgeFault, IsPartlyJudged, wanted_front}
 use Rattle.gw_commands.specs.declared.judge_command.Shown.{Shown}
+use Rattle.gw_commands.specs.LogCounts.{told_counts}
 use Rattle.gw_commands.specs.Judgings.{EndsEarly, IsEnded, TellsCounts, TellsEnd, wanted_of}
 
-pub ended : (fate : List ℕ → Fate) (counts : Tally → List ℕ) (shown : Shown) (strict : Bool)
+pub ended : (fate : List ℕ → Fate) (counts : Tally → List ℕ) (by : Grouping) (shown : Shown) (strict : Bool)
     (before after old middle new : Option (List ℕ)) (failed : Bool) (status : ℕ) (tally : Tally) (w : Wanted)
-    → w ≡ wanted_of shown → IsJudged fate (wanted_front w) strict before after old middle tally
-    → TellsCounts counts shown tally middle new failed status
-    → IsEnded fate counts shown strict before after old new failed status
-ended fate counts shown strict before after old middle new failed status tally w same judged told = record {
+    → w ≡ wanted_of shown → IsJudged fate (wanted_front w) strict before after old middle tally → tally.groups.grouping ≡ by
+    → TellsCounts (told_counts counts by) shown tally middle new failed status
+    → IsEnded fate counts by shown strict before after old new failed status
+ended fate counts by shown strict before after old middle new failed status tally w same judged grouped told = record {
   tally = tally;
   middle = middle;
   judged = subst (λ w. IsJudged fate (wanted_front w) strict before after old middle tally) same judged;
+  grouped = grouped;
   told = told;
 }
 

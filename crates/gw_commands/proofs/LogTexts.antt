@@ -1,4 +1,4 @@
--- The lines of a table's rules, one after another.
+-- The lines of a table's rules and of groups, one after another.
 use Rattle.std.proofs.Common.{◌≡◌, ℕ, ◌<◌, List, [], ◌++◌, length, flat_map, ap, sym, ◌∙◌, get_or}
 use Rattle.std.specs.List.{range_with_len}
 use Rattle.std.specs.Prelude.{slice_index}
@@ -6,7 +6,8 @@ use Rattle.std.specs.Option.{option_map_or}
 use Rattle.std.proofs.lemmas.Option.{slice_get-get_or}
 use Rattle.gw_table.specs.declared.table.Rule.{Rule}
 use Rattle.gw_judge.specs.declared.tally.Tally.{Tally}
-use Rattle.gw_commands.specs.LogCounts.{rule_count, rule_counts, rule_line}
+use Rattle.gw_judge.specs.Grouped.{Grouped}
+use Rattle.gw_commands.specs.LogCounts.{rule_count, rule_counts, rule_line, group_line, group_lines}
 
 -- the line of a rule that is there
 pub rule_there : (tally : Tally) (rules : List Rule) (n : ℕ) (d : Rule) → n < length rules
@@ -20,3 +21,9 @@ pub rules_done : (tally : Tally) (rules : List Rule) (n : ℕ) (before text : Li
 unfolding rule_counts
 rules_done tally rules n before text all same =
     same ∙ ap (λ m. before ++ flat_map (rule_line tally rules) (range_with_len 0 m)) all
+
+pub groups_done : (key : List ℕ) (groups : Grouped) (count n : ℕ) (before text : List ℕ) → n ≡ count
+    → text ≡ before ++ flat_map (group_line key groups) (range_with_len 0 n) → text ≡ before ++ group_lines key groups count
+unfolding group_lines
+groups_done key groups count n before text all same =
+    same ∙ ap (λ m. before ++ flat_map (group_line key groups) (range_with_len 0 m)) all

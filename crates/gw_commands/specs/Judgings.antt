@@ -1,6 +1,6 @@
 -- What the command `judge` reads and writes: `before` and `after` are what its reader has left, `old` and `new` what its writer
 -- took.
-use Rattle.std.specs.Prelude.{◌≡◌, ◌⊎◌, ℕ, Bool, false, List, [], ◌∷◌, Option, None, Err}
+use Rattle.std.specs.Prelude.{◌≡◌, ◌≢◌, ◌⊎◌, ℕ, Bool, false, List, [], ◌∷◌, Option, None, Err}
 use Rattle.gw_insn.specs.declared.insn.Insn.{Insn}
 use Rattle.gw_table.specs.Table.{Meaning}
 use Rattle.gw_input.specs.Programs.{NamesProgram}
@@ -10,6 +10,8 @@ use Rattle.gw_log.specs.LogFrames.{refusal_number}
 use Rattle.gw_judge.specs.declared.fate.Fate.{Fate}
 use Rattle.gw_judge.specs.declared.fault.JudgeFault.{JudgeFault}
 use Rattle.gw_judge.specs.declared.fault.JudgeFault.TheVariants as ends
+use Rattle.gw_judge.specs.declared.groups.Grouping.{Grouping}
+use Rattle.gw_judge.specs.declared.groups.Grouping.TheVariants as grouping
 use Rattle.gw_judge.specs.declared.report.Wanted.{Wanted}
 use Rattle.gw_judge.specs.declared.report.Wanted.TheVariants as wanted
 use Rattle.gw_judge.specs.declared.tally.Tally.{Tally}
@@ -23,7 +25,7 @@ use Rattle.gw_commands.specs.declared.judge_command.Shown.TheVariants.{Counts, P
 use Rattle.gw_commands.specs.declared.refusal.Refusal.{Refusal}
 use Rattle.gw_commands.specs.declared.refusal.Refusal.TheVariants.{OutOfMemory}
 use Rattle.gw_commands.specs.Commands.{Writes, WritesText}
-use Rattle.gw_commands.specs.LogCounts.{policy_counts, table_counts}
+use Rattle.gw_commands.specs.LogCounts.{policy_counts, table_counts, told_counts}
 use Rattle.gw_commands.specs.Policies.{RefusesFile}
 use Rattle.gw_commands.specs.Tables.{RefusesText}
 use Rattle.gw_commands.specs.Verdicts.{IsProgramRefusal}
@@ -63,13 +65,14 @@ TellsCounts counts shown tally old new failed status =
 abbrev pub TellsEnd : Shown → JudgeFault → Option (List ℕ) → Option (List ℕ) → Bool → ℕ → Type 0
 TellsEnd shown fault old new failed status = WritesText (fault_behind shown fault) 1 status old new failed
 
--- the log was judged to its end, and its counts told
-pub record IsEnded (fate : List ℕ → Fate) (counts : Tally → List ℕ) (shown : Shown) (strict : Bool)
+-- the log was judged to its end, its frames were counted in these groups, and the counts told
+pub record IsEnded (fate : List ℕ → Fate) (counts : Tally → List ℕ) (by : Grouping) (shown : Shown) (strict : Bool)
     (before after old new : Option (List ℕ)) (failed : Bool) (status : ℕ) : Type 0 where
   pub tally : Tally
   pub middle : Option (List ℕ)
   pub judged : IsJudged fate (wanted_front (wanted_of shown)) strict before after old middle tally
-  pub told : TellsCounts counts shown tally middle new failed status
+  pub grouped : tally.groups.grouping ≡ by
+  pub told : TellsCounts (told_counts counts by) shown tally middle new failed status
 
 -- the log ended early, and it is told why
 pub record EndsEarly (fate : List ℕ → Fate) (shown : Shown) (strict : Bool) (before after : Option (List ℕ)) (read_failed : Bool)
@@ -79,15 +82,22 @@ pub record EndsEarly (fate : List ℕ → Fate) (shown : Shown) (strict : Bool) 
   pub judged : IsPartlyJudged fate (wanted_front (wanted_of shown)) strict before after old middle read_failed failed fault
   pub told : TellsEnd shown fault middle new failed status
 
-abbrev pub EndsLog : (List ℕ → Fate) → (Tally → List ℕ) → Shown → Bool → Option (List ℕ) → Option (List ℕ) → Bool
+abbrev pub EndsLog : (List ℕ → Fate) → (Tally → List ℕ) → Grouping → Shown → Bool → Option (List ℕ) → Option (List ℕ) → Bool
     → Option (List ℕ) → Option (List ℕ) → Bool → ℕ → Type 0
-EndsLog fate counts shown strict before after read_failed old new failed status =
-    (IsEnded fate counts shown strict before after old new failed status × (read_failed ≡ false))
+EndsLog fate counts by shown strict before after read_failed old new failed status =
+    (IsEnded fate counts by shown strict before after old new failed status × (read_failed ≡ false))
     ⊎ EndsEarly fate shown strict before after read_failed old new failed status
 
 -- a refusal was written, and nothing was read
 abbrev pub OnlyRefuses : Refusal → Option (List ℕ) → Option (List ℕ) → Option (List ℕ) → Option (List ℕ) → Bool → ℕ → Type 0
 OnlyRefuses refusal before after old new failed status = (after ≡ before) × Writes (Err refusal) status old new failed
+
+-- the same; or memory was wanting for groups that are asked for, and nothing was read
+abbrev pub JudgesGroups : (List ℕ → Fate) → (Tally → List ℕ) → Grouping → Shown → Bool → Option (List ℕ) → Option (List ℕ)
+    → Bool → Option (List ℕ) → Option (List ℕ) → Bool → ℕ → Type 0
+JudgesGroups fate counts by shown strict before after read_failed old new failed status =
+    EndsLog fate counts by shown strict before after read_failed old new failed status
+    ⊎ ((by ≢ grouping.Nothing) × OnlyRefuses OutOfMemory before after old new failed status)
 
 -- what becomes of each line, and how it is told: by the table of a text, or by the program of a listing
 abbrev pub Decides : PolicyKind → ℕ → List ℕ → (List ℕ → Fate) → (Tally → List ℕ) → Type 0
@@ -107,7 +117,7 @@ abbrev pub JudgesLog : LogQuery → List ℕ → Option (List ℕ) → Option (L
     → ℕ → Type 0
 JudgesLog query text before after read_failed old new failed status =
     ((fate : List ℕ → Fate) × (counts : Tally → List ℕ) × Decides query.kind query.port text fate counts
-    × EndsLog fate counts query.shown query.strict before after read_failed old new failed status)
+    × JudgesGroups fate counts query.by query.shown query.strict before after read_failed old new failed status)
     ⊎ ((refusal : Refusal) × RefusesPolicy query.kind text refusal × OnlyRefuses refusal before after old new failed status)
 
 -- the same, whatever the policy's file holds; or the file was refused, and nothing was read

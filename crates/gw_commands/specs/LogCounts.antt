@@ -1,5 +1,7 @@
--- The text of what was counted of a log: a line for each rule of a table, for `default` and `other`, and one for all lines.
+-- The text of what was counted of a log: a line for each rule of a table, for `default` and `other`, or for each group of
+-- frames, and one for all lines.
 use Rattle.std.specs.Prelude.{ℕ, ◌==◌, ◌&&◌, if◌then◌else◌, List, [], ◌++◌, length, codes, decimal, slice_get, slice_index}
+use Rattle.std.specs.Prelude.{slice_index_or}
 use Rattle.std.specs.Option.{option_map_or}
 use Rattle.std.specs.List.{flat_map, range_with_len}
 use Rattle.gw_table.specs.declared.table.Action.{Action}
@@ -11,7 +13,11 @@ use Rattle.gw_table.specs.declared.table.Rule.{Rule}
 use Rattle.gw_table.specs.Table.{Meaning}
 use Rattle.gw_table.specs.TableText.{greatest, key_of}
 use Rattle.gw_policy.specs.Filter.{Filter}
+use Rattle.gw_judge.specs.declared.groups.Grouping.{Grouping}
+use Rattle.gw_judge.specs.declared.groups.Grouping.TheVariants as by
+use Rattle.gw_judge.specs.declared.groups.Verdicts.{Verdicts}
 use Rattle.gw_judge.specs.declared.tally.Tally.{Tally}
+use Rattle.gw_judge.specs.Grouped.{Grouped, other_group, no_verdicts}
 
 abbrev pub action_word : Action → List ℕ
 action_word Pass = codes "pass"
@@ -60,3 +66,33 @@ table_counts table tally =
 
 abbrev pub policy_counts : Filter → Tally → List ℕ
 policy_counts filter tally = totals_line tally
+
+-- how many frames of a group passed, and how many were blocked
+abbrev pub verdicts_text : Verdicts → List ℕ
+verdicts_text verdicts =
+    codes " passed " ++ decimal verdicts.passed ++ codes " blocked " ++ decimal verdicts.blocked ++ codes "\n"
+
+-- the line of a group that has a frame
+abbrev pub group_text : List ℕ → ℕ → Verdicts → List ℕ
+group_text key group verdicts =
+    if (verdicts.passed == 0) && (verdicts.blocked == 0) then []
+    else key ++ codes " " ++ decimal group ++ verdicts_text verdicts
+
+-- a line for each group below a number that has a frame, in ascending order
+abbrev pub group_line : List ℕ → Grouped → ℕ → List ℕ
+group_line key groups group = group_text key group (slice_index_or groups.verdicts group no_verdicts)
+
+unfoldable pub group_lines : List ℕ → Grouped → ℕ → List ℕ
+group_lines key groups count = flat_map (group_line key groups) (range_with_len 0 count)
+
+-- the groups, then all frames that are no extended data frames, then all lines
+abbrev pub group_counts : List ℕ → Tally → List ℕ
+group_counts key tally =
+    group_lines key tally.groups (other_group tally.groups.grouping) ++ codes "other"
+    ++ verdicts_text (slice_index_or tally.groups.verdicts (other_group tally.groups.grouping) no_verdicts) ++ totals_line tally
+
+-- what is told of a tally: in groups, or by the parts of what decides
+abbrev pub told_counts : (Tally → List ℕ) → Grouping → Tally → List ℕ
+told_counts counts by.Nothing tally = counts tally
+told_counts counts by.Pgn tally = group_counts (codes "pgn") tally
+told_counts counts by.Source tally = group_counts (codes "source") tally

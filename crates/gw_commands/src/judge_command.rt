@@ -3,8 +3,11 @@
 ghost use Rattle.std.specs.Prelude.{◌≡◌, true, false};
 ghost use Rattle.gw_io.specs.Tries.{inner_of, has_failed};
 ghost use Rattle.gw_judge.specs.Fates.{fate_of};
+ghost use Rattle.gw_judge.specs.Grouped.{no_groups};
+ghost use Rattle.gw_commands.specs.LogCounts.{told_counts};
 ghost use Rattle.gw_commands.specs.Judgings.{
   EndsLog,
+  JudgesGroups,
   JudgesLog,
   JudgesNamed,
   TellsCounts,
@@ -15,14 +18,14 @@ ghost use Rattle.gw_commands.specs.Judgings.{
 
 use crate::answer::Answer;
 use crate::files::read_file;
-use crate::log_counts::TellsParts;
+use crate::log_counts::{TellsParts, told_text};
 use crate::notes::{note_file, note_refused_lines};
 use crate::refusal::Refusal;
 use crate::responding::{respond, write_refusal};
 use crate::texts::{program, read_table};
 use gw_input::{Line, refused};
 use gw_io::Tried;
-use gw_judge::{Asked, JudgeFault, Tally, Wanted, judge};
+use gw_judge::{Asked, Grouping, Groups, JudgeFault, Tally, Wanted, judge};
 use gw_policy::Policy;
 use std::alloc::{AllocError, Global};
 use std::io::{Read, Write};
@@ -38,7 +41,7 @@ pub enum PolicyKind {
 /// What is written of a log.
 #[derive(Clone, Copy, PartialEq, Eq, Debug)]
 pub enum Shown {
-    /// How many frames passed and were blocked, and by which part of a table.
+    /// How many frames passed and were blocked, by which part of a table, or in which group.
     Counts,
     /// The lines whose frame passes.
     Passed,
@@ -55,6 +58,8 @@ pub struct LogQuery {
     /// The port at which the frames were taken.
     pub port: u8,
     pub shown: Shown,
+    /// In which groups frames are counted, where counts are shown. By nothing they are counted by the parts of a table.
+    pub by: Grouping,
     /// Whether the first line that says no classic frame ends the command.
     pub strict: bool,
 }
@@ -116,7 +121,7 @@ pub fn judge_log<I: Read, W: Write, F: Write>(
     }
 }
 
-/// Judges each line of a log by what decides.
+/// Judges each line of a log by what decides. 100 is want of memory for groups that are asked for, before the log is read.
 fn judge_by<D: TellsParts, I: Read, W: Write, F: Write>(
     alloc: Global,
     query: LogQuery,
@@ -127,7 +132,30 @@ fn judge_by<D: TellsParts, I: Read, W: Write, F: Write>(
 ) -> u8
     requires input { has_failed input.old ≡ false }
     requires output { has_failed output.old ≡ false }
-    ensures { EndsLog (fate_of (D.fate_by decider.now query.port)) (D.counts_by decider.now) query.shown query.strict
+    ensures { JudgesGroups (fate_of (D.fate_by decider.now query.port)) (D.counts_by decider.now) query.by query.shown
+        query.strict (I.remaining (inner_of input.old)) (I.remaining (inner_of input.new)) (has_failed input.new)
+        (W.contents (inner_of output.old)) (W.contents (inner_of output.new)) (has_failed output.new) result }
+{
+    match Groups::new(alloc, query.by) {
+        Ok(groups) => judge_grouped(alloc, query, decider, groups, input, output, faults),
+        Err(AllocError) => respond(&Err(Refusal::OutOfMemory), output, faults),
+    }
+}
+
+/// Judges each line of a log by what decides, and counts it in its group.
+fn judge_grouped<D: TellsParts, I: Read, W: Write, F: Write>(
+    alloc: Global,
+    query: LogQuery,
+    decider: &D,
+    groups: Groups,
+    input: &mut Tried<I>,
+    output: &mut Tried<W>,
+    faults: &mut Tried<F>,
+) -> u8
+    requires input { has_failed input.old ≡ false }
+    requires output { has_failed output.old ≡ false }
+    requires groups { groups ≡ no_groups query.by }
+    ensures { EndsLog (fate_of (D.fate_by decider.now query.port)) (D.counts_by decider.now) query.by query.shown query.strict
         (I.remaining (inner_of input.old)) (I.remaining (inner_of input.new)) (has_failed input.new)
         (W.contents (inner_of output.old)) (W.contents (inner_of output.new)) (has_failed output.new) result }
 {
@@ -138,10 +166,18 @@ fn judge_by<D: TellsParts, I: Read, W: Write, F: Write>(
         report: &report,
         strict: query.strict,
     };
-    match judge(&asked, input, output) {
+    match judge(&asked, groups, input, output) {
         Ok(tally) => {
             note_refused_lines(&tally, faults);
-            tell_counts(alloc, query.shown, decider, &tally, output, faults)
+            tell_counts(
+                alloc,
+                query.shown,
+                query.by,
+                decider,
+                &tally,
+                output,
+                faults,
+            )
         }
         Err(fault) => tell_end(query.shown, fault, output, faults),
     }
@@ -163,12 +199,13 @@ fn wanted(shown: Shown) -> Wanted
 fn tell_counts<D: TellsParts, W: Write, F: Write>(
     alloc: Global,
     shown: Shown,
+    by: Grouping,
     decider: &D,
     tally: &Tally,
     output: &mut Tried<W>,
     faults: &mut Tried<F>,
 ) -> u8
-    ensures { TellsCounts (D.counts_by decider.now) shown tally.now
+    ensures { TellsCounts (told_counts (D.counts_by decider.now) by) shown tally.now
         (W.contents (inner_of output.old)) (W.contents (inner_of output.new)) (has_failed output.new) result }
 {
     if output.failed() {
@@ -177,7 +214,7 @@ fn tell_counts<D: TellsParts, W: Write, F: Write>(
     if !matches!(shown, Shown::Counts) {
         return 0;
     }
-    match decider.counts_text(alloc, tally) {
+    match told_text(alloc, by, decider, tally) {
         Ok(text) => respond(&Ok(Answer::Text(text.into_bytes())), output, faults),
         Err(AllocError) => respond(&Err(Refusal::OutOfMemory), output, faults),
     }

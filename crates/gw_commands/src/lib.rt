@@ -23,6 +23,7 @@ mod verdict_command;
 
 pub use answer::Answer;
 pub use files::read_file;
+pub use gw_judge::Grouping;
 pub use judge_command::{LogQuery, PolicyKind, Shown, judge_log, judge_named};
 pub use policies::{PolicySource, policy};
 pub use query::{Query, answer_query};

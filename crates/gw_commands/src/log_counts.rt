@@ -2,8 +2,12 @@
 
 ghost use Rattle.std.specs.Prelude.{◌≡◌, ◌≤◌, ℕ, List, ◌++◌, string_bytes, length, IfOk, OnOk};
 ghost use Rattle.gw_judge.specs.declared.tally.Tally.{Tally};
+ghost use Rattle.gw_judge.specs.Grouped.{other_group};
 ghost use Rattle.gw_commands.specs.LogCounts.{
   action_word,
+  group_counts,
+  group_lines,
+  group_text,
   part_line,
   policy_counts,
   range_text,
@@ -11,10 +15,12 @@ ghost use Rattle.gw_commands.specs.LogCounts.{
   rule_counts,
   rule_text,
   table_counts,
+  told_counts,
   totals_line,
+  verdicts_text,
 };
 
-use gw_judge::{Decider, Tally};
+use gw_judge::{Decider, Grouping, Groups, Tally, Verdicts};
 use gw_policy::Policy;
 use gw_table::{Action, Field, Rule, Span, Table};
 use std::alloc::{AllocError, Global};
@@ -50,6 +56,75 @@ impl TellsParts for Table {
         push_totals(&mut text, tally)?;
         Ok(text)
     }
+}
+
+/// The lines that tell what was counted, in groups or by the parts of what decides.
+pub fn told_text<D: TellsParts>(
+    alloc: Global,
+    by: Grouping,
+    decider: &D,
+    tally: &Tally,
+) -> Result<String, AllocError>
+    ensures { IfOk result (λ text. string_bytes text ≡ told_counts (D.counts_by decider.now) by tally.now) }
+{
+    match by {
+        Grouping::Nothing => decider.counts_text(alloc, tally),
+        Grouping::Pgn => groups_text(alloc, "pgn", tally),
+        Grouping::Source => groups_text(alloc, "source", tally),
+    }
+}
+
+/// The lines that tell what was counted in groups: those with a frame, and that of all frames that are no extended data frames.
+fn groups_text(alloc: Global, key: &str, tally: &Tally) -> Result<String, AllocError>
+    ensures { IfOk result (λ text. string_bytes text ≡ group_counts key.now tally.now) }
+{
+    let mut text = String::new(alloc);
+    let groups = &tally.groups;
+    let other = groups.grouping().other();
+    push_groups(&mut text, key, groups, other)?;
+    text.push_str("other")?;
+    push_verdicts(&mut text, groups.verdicts(other))?;
+    push_totals(&mut text, tally)?;
+    Ok(text)
+}
+
+/// A line for each group below a number that has a frame, in their order.
+fn push_groups(
+    text: &mut String,
+    key: &str,
+    groups: &Groups,
+    count: usize,
+) -> Result<(), AllocError>
+    ensures { OnOk result (string_bytes text.new ≡ string_bytes text.old ++ group_lines key.now groups.now count) }
+{
+    for group in 0..count {
+        push_group(text, key, group, groups.verdicts(group))?;
+    }
+    Ok(())
+}
+
+/// The line of a group that has a frame.
+fn push_group(
+    text: &mut String,
+    key: &str,
+    group: usize,
+    verdicts: Verdicts,
+) -> Result<(), AllocError>
+    ensures { OnOk result (string_bytes text.new ≡ string_bytes text.old ++ group_text key.now group verdicts) }
+{
+    if verdicts.passed == 0 && verdicts.blocked == 0 {
+        return Ok(());
+    }
+    write!(text, "{key} {group}")?;
+    push_verdicts(text, verdicts)
+}
+
+/// How many frames of a group passed, and how many were blocked.
+fn push_verdicts(text: &mut String, verdicts: Verdicts) -> Result<(), AllocError>
+    ensures { OnOk result (string_bytes text.new ≡ string_bytes text.old ++ verdicts_text verdicts) }
+{
+    let Verdicts { passed, blocked } = verdicts;
+    write!(text, " passed {passed} blocked {blocked}\n")
 }
 
 /// A line for each rule, in their order.

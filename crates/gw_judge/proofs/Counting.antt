@@ -16,12 +16,16 @@ use Rattle.gw_table.specs.declared.table.Part.{Part}
 use Rattle.gw_table.specs.declared.table.Part.TheVariants.{Rule, Default, Other}
 use Rattle.gw_judge.specs.declared.fate.Fate.{Fate}
 use Rattle.gw_judge.specs.declared.fate.Fate.TheVariants.{Passed, Blocked, Silent, Refused}
+use Rattle.gw_judge.specs.declared.groups.Grouping.{Grouping}
 use Rattle.gw_judge.specs.declared.tally.Cause.{Cause}
 use Rattle.gw_judge.specs.declared.tally.Tally.{Tally}
+use Rattle.gw_judge.specs.Grouped.{Grouped, group_of, group_count, no_verdicts, no_groups}
 use Rattle.gw_judge.specs.Fates.{is_passed, is_blocked, is_refused, decided_by}
 use Rattle.gw_judge.specs.Tallies.{up_to_most, count_of, number_at, first_of, counts_of, is_rule, is_default, is_other}
 use Rattle.gw_judge.specs.Tallies.{cause_place, is_refused_for, cause_of, no_cause, IsTally}
-use Rattle.gw_judge.specs.Counting.{counts_with, no_tally, with_part, cause_with, counted, tally_with}
+use Rattle.gw_judge.specs.Tallies.{is_passed_in, is_blocked_in, verdicts_of, IsGrouped}
+use Rattle.gw_judge.specs.Counting.{counts_with, verdicts_with, group_with, groups_with, no_tally, with_part, cause_with}
+use Rattle.gw_judge.specs.Counting.{counted, tally_with}
 
 saturates : (n : ℕ) → up_to_most (n + 1) ≡ up_to_most (up_to_most n + 1)
 saturates n = omega arith
@@ -79,17 +83,17 @@ first_more test fates f =
 -- ---- the counts
 
 counts_more : (fates : List Fate) (f : Fate) → counts_of (fates ++ f ∷ []) ≡ counts_with f (counts_of fates)
-counts_more fates (Passed part) =
+counts_more fates (Passed frame) =
     rw (
-      count_more is_passed fates (Passed part),
-      count_more is_blocked fates (Passed part),
-      count_more is_refused fates (Passed part),
+      count_more is_passed fates (Passed frame),
+      count_more is_blocked fates (Passed frame),
+      count_more is_refused fates (Passed frame),
     ) refl
-counts_more fates (Blocked part) =
+counts_more fates (Blocked frame) =
     rw (
-      count_more is_passed fates (Blocked part),
-      count_more is_blocked fates (Blocked part),
-      count_more is_refused fates (Blocked part),
+      count_more is_passed fates (Blocked frame),
+      count_more is_blocked fates (Blocked frame),
+      count_more is_refused fates (Blocked frame),
     ) refl
 counts_more fates Silent =
     rw (count_more is_passed fates Silent, count_more is_blocked fates Silent, count_more is_refused fates Silent) refl
@@ -229,11 +233,103 @@ causes_more fates cause causes number at h = record {
       ∙ rw (h.by_cause why, at) (sym (cause_more why fates (Refused cause)));
 }
 
+-- ---- the groups
+
+-- a frame of a group passes or is blocked
+abbrev is_in : Grouping → ℕ → Fate → Bool
+is_in grouping group (Passed frame) = group_of grouping frame.word == group
+is_in grouping group (Blocked frame) = group_of grouping frame.word == group
+is_in grouping group Silent = false
+is_in grouping group (Refused why) = false
+
+verdicts_more : (grouping : Grouping) (group : ℕ) (fates : List Fate) (f : Fate) → verdicts_of grouping group (fates ++ f ∷ [])
+    ≡ (if is_in grouping group f then verdicts_with f (verdicts_of grouping group fates) else verdicts_of grouping group fates)
+verdicts_more grouping group fates (Passed frame) =
+    rw (
+      count_more (is_passed_in grouping group) fates (Passed frame),
+      count_more (is_blocked_in grouping group) fates (Passed frame),
+    ) (go (group_of grouping frame.word == group))
+  where
+    go : (b : Bool) → (record {
+      passed = if b then up_to_most (count_of (is_passed_in grouping group) fates + 1)
+          else count_of (is_passed_in grouping group) fates;
+      blocked = count_of (is_blocked_in grouping group) fates;
+    }) ≡ (if b then verdicts_with (Passed frame) (verdicts_of grouping group fates) else verdicts_of grouping group fates)
+    go true = refl
+    go false = refl
+verdicts_more grouping group fates (Blocked frame) =
+    rw (
+      count_more (is_passed_in grouping group) fates (Blocked frame),
+      count_more (is_blocked_in grouping group) fates (Blocked frame),
+    ) (go (group_of grouping frame.word == group))
+  where
+    go : (b : Bool) → (record {
+      passed = count_of (is_passed_in grouping group) fates;
+      blocked = if b then up_to_most (count_of (is_blocked_in grouping group) fates + 1)
+          else count_of (is_blocked_in grouping group) fates;
+    }) ≡ (if b then verdicts_with (Blocked frame) (verdicts_of grouping group fates) else verdicts_of grouping group fates)
+    go true = refl
+    go false = refl
+verdicts_more grouping group fates Silent =
+    rw (count_more (is_passed_in grouping group) fates Silent, count_more (is_blocked_in grouping group) fates Silent) refl
+verdicts_more grouping group fates (Refused why) =
+    rw (
+      count_more (is_passed_in grouping group) fates (Refused why),
+      count_more (is_blocked_in grouping group) fates (Refused why),
+    ) refl
+
+-- a frame more in its group
+group_more : (fates : List Fate) (f : Fate) (groups : Grouped) (group : ℕ)
+    → ((other : ℕ) → is_in groups.grouping other f ≡ (group == other)) → IsGrouped fates groups
+    → IsGrouped (fates ++ f ∷ []) (group_with group f groups)
+group_more fates f groups group there h =
+    let set_length = length-set groups.verdicts group (verdicts_with f (get_or groups.verdicts group no_verdicts)) in
+    record {
+      all = set_length ∙ h.all;
+      each = λ other less.
+          get_set groups.verdicts group other (verdicts_with f) no_verdicts (subst (λ len. other < len) (sym h.all) less)
+          ∙ rw (h.each other less, sym (there other)) (sym (verdicts_more groups.grouping other fates f));
+    }
+
+-- a line more that says no frame
+groups_same : (fates : List Fate) (f : Fate) (groups : Grouped) → ((other : ℕ) → is_in groups.grouping other f ≡ false)
+    → IsGrouped fates groups → IsGrouped (fates ++ f ∷ []) groups
+groups_same fates f groups none h = record {
+  all = h.all;
+  each = λ other less. h.each other less ∙ sym (verdicts_more groups.grouping other fates f
+      ∙ ap (λ b. if b then verdicts_with f (verdicts_of groups.grouping other fates) else verdicts_of groups.grouping other fates)
+      (none other));
+}
+
+groups_more : (fates : List Fate) (f : Fate) (groups : Grouped) → IsGrouped fates groups
+    → IsGrouped (fates ++ f ∷ []) (groups_with f groups)
+groups_more fates (Passed frame) groups h =
+    group_more fates (Passed frame) groups (group_of groups.grouping frame.word) (λ other. refl) h
+groups_more fates (Blocked frame) groups h =
+    group_more fates (Blocked frame) groups (group_of groups.grouping frame.word) (λ other. refl) h
+groups_more fates Silent groups h = groups_same fates Silent groups (λ other. refl) h
+groups_more fates (Refused why) groups h = groups_same fates (Refused why) groups (λ other. refl) h
+
+-- no line
+none_grouped : (grouping : Grouping) → IsGrouped [] (no_groups grouping)
+unfolding count_of
+none_grouped grouping = record {
+  all = length-replicate (group_count grouping) no_verdicts;
+  each = λ group less. get_or-replicate (group_count grouping) group no_verdicts no_verdicts less;
+}
+
+-- frames are grouped as before
+same_grouping : (f : Fate) (groups : Grouped) → (groups_with f groups).grouping ≡ groups.grouping
+same_grouping (Passed frame) groups = refl
+same_grouping (Blocked frame) groups = refl
+same_grouping Silent groups = refl
+same_grouping (Refused why) groups = refl
+
 -- ---- all of it
 
 told : (fates : List Fate) (t : Tally) → t.lines ≡ up_to_most (length fates) → t.counts ≡ counts_of fates
-    → ArePartsTold fates t → AreCausesTold fates t.causes → IsTally fates t
-told fates t lines counts parts causes = record {
+    → ArePartsTold fates t → AreCausesTold fates t.causes → IsGrouped fates t.groups → IsTally fates t
+told fates t lines counts parts causes groups = record {
   lines = lines;
   counts = counts;
   rules = parts.rules;
@@ -242,6 +338,7 @@ told fates t lines counts parts causes = record {
   by_other = parts.by_other;
   causes = causes.all;
   by_cause = causes.by_cause;
+  groups = groups;
 }
 
 parts_told : (fates : List Fate) (f : Fate) (t : Tally) → IsTally fates t → ArePartsTold fates (counted f t)
@@ -281,6 +378,12 @@ same_causes (Some Default) t = refl
 same_causes (Some Other) t = refl
 same_causes None t = refl
 
+same_groups : (d : Option Part) (t : Tally) → (with_part d t).groups ≡ t.groups
+same_groups (Some (Rule n)) t = refl
+same_groups (Some Default) t = refl
+same_groups (Some Other) t = refl
+same_groups None t = refl
+
 -- a line more that is not refused
 fine_more : (fates : List Fate) (f : Fate) (t : Tally) (d : Option Part) → decided_by f ≡ d
     → ((why : LogRefusal) → is_refused_for why f ≡ false) → IsTally fates t
@@ -290,10 +393,11 @@ fine_more fates f t d by none h =
     (same_counts d (counted f t) ∙ all_counts fates f t h) (parts_more fates f (counted f t) d by (parts_told fates f t h))
     (subst (AreCausesTold (fates ++ f ∷ [])) (sym (same_causes d (counted f t)))
     (causes_same fates f t.causes none (causes_told fates t h)))
+    (subst (IsGrouped (fates ++ f ∷ [])) (sym (same_groups d (counted f t))) (groups_more fates f t.groups h.groups))
 
 pub tally_more : (fates : List Fate) (f : Fate) (t : Tally) → IsTally fates t → IsTally (fates ++ f ∷ []) (tally_with f t)
-tally_more fates (Passed part) t h = fine_more fates (Passed part) t part refl (λ why. refl) h
-tally_more fates (Blocked part) t h = fine_more fates (Blocked part) t part refl (λ why. refl) h
+tally_more fates (Passed frame) t h = fine_more fates (Passed frame) t frame.part refl (λ why. refl) h
+tally_more fates (Blocked frame) t h = fine_more fates (Blocked frame) t frame.part refl (λ why. refl) h
 tally_more fates Silent t h = fine_more fates Silent t None refl (λ why. refl) h
 tally_more fates (Refused why) t h =
     let parts = parts_more fates (Refused why) (counted (Refused why) t) None refl (parts_told fates (Refused why) t h) in
@@ -301,11 +405,24 @@ tally_more fates (Refused why) t h =
     (all_counts fates (Refused why) t h)
     (record { rules = parts.rules; by_rule = parts.by_rule; by_default = parts.by_default; by_other = parts.by_other })
     (causes_more fates why t.causes (up_to_most (t.lines + 1)) (number_more fates (Refused why) t h) (causes_told fates t h))
+    (groups_more fates (Refused why) t.groups h.groups)
+
+-- frames are grouped as before
+pub grouping_stays : (f : Fate) (t u : Tally) → u ≡ tally_with f t → u.groups.grouping ≡ t.groups.grouping
+grouping_stays (Passed frame) t u one =
+    ap (λ (u : Tally). u.groups.grouping) one
+    ∙ ap (λ (g : Grouped). g.grouping) (same_groups frame.part (counted (Passed frame) t)) ∙ same_grouping (Passed frame) t.groups
+grouping_stays (Blocked frame) t u one =
+    ap (λ (u : Tally). u.groups.grouping) one
+    ∙ ap (λ (g : Grouped). g.grouping) (same_groups frame.part (counted (Blocked frame) t))
+    ∙ same_grouping (Blocked frame) t.groups
+grouping_stays Silent t u one = ap (λ (u : Tally). u.groups.grouping) one
+grouping_stays (Refused why) t u one = ap (λ (u : Tally). u.groups.grouping) one
 
 -- no line
-pub none_told : IsTally [] no_tally
+pub none_told : (groups : Grouped) → groups ≡ no_groups groups.grouping → IsTally [] (no_tally groups)
 unfolding count_of first_of
-none_told = record {
+none_told groups fresh = record {
   lines = refl;
   counts = refl;
   rules = length-replicate {A = ℕ} 256 0;
@@ -314,4 +431,5 @@ none_told = record {
   by_other = refl;
   causes = length-replicate {A = Cause} 13 no_cause;
   by_cause = λ why. get_or-replicate 13 (cause_place why) no_cause no_cause (place_below why);
+  groups = subst (IsGrouped []) (sym fresh) (none_grouped groups.grouping);
 }

@@ -6,13 +6,16 @@ use Rattle.gw_log.specs.LogLines.{is_blank, words_of, is_marked, line_of}
 use Rattle.gw_log.specs.declared.refusal.LogRefusal.TheVariants.{NoFrame, NoDigit}
 use Rattle.gw_table.specs.declared.table.Action.TheVariants.{Pass, Block}
 use Rattle.gw_table.specs.declared.table.Span.{Span}
+use Rattle.gw_table.specs.declared.table.Part.{Part}
 use Rattle.gw_table.specs.declared.table.Part.TheVariants.{Rule, Default, Other}
 use Rattle.gw_table.specs.Table.{Meaning}
+use Rattle.gw_judge.specs.declared.fate.Decided.{Decided}
 use Rattle.gw_judge.specs.declared.fate.Fate.{Fate}
 use Rattle.gw_judge.specs.declared.fate.Fate.TheVariants as fates
 use Rattle.gw_judge.specs.declared.report.Wanted.TheVariants.{Passed, Blocked, Each, Nothing}
 use Rattle.gw_judge.specs.Fates.{table_fate, fate_of}
-use Rattle.gw_judge.specs.Tallies.{count_of, first_of, counts_of, cause_of}
+use Rattle.gw_judge.specs.declared.groups.Grouping.TheVariants.{Pgn, Source}
+use Rattle.gw_judge.specs.Tallies.{count_of, first_of, counts_of, cause_of, verdicts_of}
 use Rattle.gw_judge.specs.Judged.{log_lines, written_of, wanted_front}
 
 abbrev log : List ℕ
@@ -35,10 +38,14 @@ not_33 = record {
   } ∷ [];
 }
 
+abbrev by : Part → ℕ → Decided
+by part word = record { part = Some part; word = word }
+
+-- 123, 18FEF100 with the flag of an identifier of 29 bits, and 0CFEF121 with it
 abbrev all_fates : List Fate
 all_fates =
-    fates.Blocked (Some Other) ∷ fates.Refused NoFrame ∷ fates.Passed (Some Default) ∷ fates.Silent ∷ fates.Silent
-    ∷ fates.Blocked (Some (Rule 0)) ∷ fates.Blocked (Some Other) ∷ []
+    fates.Blocked (by Other 291) ∷ fates.Refused NoFrame ∷ fates.Passed (by Default 2566844672) ∷ fates.Silent ∷ fates.Silent
+    ∷ fates.Blocked (by (Rule 0) 2365518113) ∷ fates.Blocked (by Other 291) ∷ []
 
 fates_are : map (fate_of (table_fate not_33 0)) (log_lines log) ≡ all_fates
 unfolding fate_of log_lines line_of words_of is_blank is_marked frame_of digit
@@ -74,3 +81,16 @@ no_frame = refl
 no_digit : cause_of NoDigit all_fates ≡ record { count = 0; first = 0 }
 unfolding count_of first_of
 no_digit = refl
+
+-- PGN 65265 is FEF1, and source 33 is 21
+pgn_65265 : verdicts_of Pgn 65265 all_fates ≡ record { passed = 1; blocked = 1 }
+unfolding count_of
+pgn_65265 = refl
+
+no_pgn : verdicts_of Pgn 262144 all_fates ≡ record { passed = 0; blocked = 2 }
+unfolding count_of
+no_pgn = refl
+
+source_33 : verdicts_of Source 33 all_fates ≡ record { passed = 0; blocked = 1 }
+unfolding count_of
+source_33 = refl

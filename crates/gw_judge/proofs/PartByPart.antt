@@ -16,6 +16,7 @@ use Rattle.gw_judge.specs.declared.fault.RefusedLine.{RefusedLine}
 use Rattle.gw_judge.specs.declared.fault.JudgeFault.{JudgeFault}
 use Rattle.gw_judge.specs.declared.fault.JudgeFault.TheVariants.{ReadFault, WriteFault, Refused}
 use Rattle.gw_judge.specs.declared.judging.Judging.{Judging}
+use Rattle.gw_judge.specs.Grouped.{Grouped, no_groups}
 use Rattle.gw_judge.specs.Fates.{is_refused, fate_of}
 use Rattle.gw_judge.specs.Tallies.{up_to_most, IsTally}
 use Rattle.gw_judge.specs.Counting.{no_tally, tally_with}
@@ -164,16 +165,17 @@ tally_whole by kept line t u there one = one ∙ ap (λ f. tally_with f t) (ap (
 -- ---- one part more
 
 -- nothing was read
-pub judged_nothing : (fate : List ℕ → Fate) (front : Fate → Option (List ℕ)) (strict : Bool) (p : Judging) → p.kept.items ≡ []
-    → p.gathered.held.items ≡ [] → p.tally ≡ no_tally → HasJudged fate front strict [] p []
-judged_nothing fate front strict p empty none untold = record {
+pub judged_nothing : (fate : List ℕ → Fate) (front : Fate → Option (List ℕ)) (strict : Bool) (p : Judging) (groups : Grouped)
+    → groups ≡ no_groups groups.grouping → p.kept.items ≡ [] → p.gathered.held.items ≡ [] → p.tally ≡ no_tally groups
+    → HasJudged fate front strict [] p []
+judged_nothing fate front strict p groups fresh empty none untold = record {
   lines = [];
   rest = [];
   split = λ later. refl;
   endless = All-nil (λ c. is_line_feed c ≡ false);
   kept = empty;
   judged = record {
-    tallied = subst (IsTally []) (sym untold) none_told;
+    tallied = subst (IsTally []) (sym untold) (none_told groups fresh);
     written = none ∙ sym (written_none fate front);
     fine = λ strictly. All-nil (λ line. is_refused (fate line) ≡ false);
   };

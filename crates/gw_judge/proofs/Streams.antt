@@ -11,6 +11,7 @@ use Rattle.gw_judge.specs.declared.tally.Tally.{Tally}
 use Rattle.gw_judge.specs.declared.judging.Judging.{Judging}
 use Rattle.gw_judge.specs.declared.fault.JudgeFault.{JudgeFault}
 use Rattle.gw_judge.specs.declared.fault.JudgeFault.TheVariants.{ReadFault, WriteFault, Refused}
+use Rattle.gw_judge.specs.Grouped.{Grouped, no_groups}
 use Rattle.gw_judge.specs.Counting.{no_tally}
 use Rattle.gw_judge.specs.Judged.{log_lines, written_of, IsJudged, IsPartlyJudged}
 use Rattle.gw_judge.specs.LineParts.{Ahead, IsNextPart, GivesPart}
@@ -238,14 +239,14 @@ ends_partly (Err fault) fate front strict a b c w x y read_failed failed rest p 
 -- ---- before and behind the parts
 
 pub starts : (fate : List ℕ → Fate) (front : Fate → Option (List ℕ)) (strict : Bool) (a w : Option (List ℕ)) (rest : List ℕ)
-    (p : Judging) (parts : ℕ) → rest ≡ [] → p.kept.items ≡ [] → p.gathered.held.items ≡ [] → p.tally ≡ no_tally → parts ≡ 0
-    → IsUnderWay fate front strict a a w w rest p parts
-starts fate front strict a w rest p parts none empty unheld untold zero_parts = record {
+    (p : Judging) (parts : ℕ) (groups : Grouped) → groups ≡ no_groups groups.grouping → rest ≡ [] → p.kept.items ≡ []
+    → p.gathered.held.items ≡ [] → p.tally ≡ no_tally groups → parts ≡ 0 → IsUnderWay fate front strict a a w w rest p parts
+starts fate front strict a w rest p parts groups fresh none empty unheld untold zero_parts = record {
   octets = [];
   text = [];
   consumed = subst (Consumes a a) (sym none) (consumed_nothing a);
   written = appended_nothing w;
-  judged = judged_nothing fate front strict p empty unheld untold;
+  judged = judged_nothing fate front strict p groups fresh empty unheld untold;
   some = omega arith;
 }
 

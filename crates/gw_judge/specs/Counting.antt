@@ -6,8 +6,10 @@ use Rattle.gw_table.specs.declared.table.Part.TheVariants.{Rule, Default, Other}
 use Rattle.gw_judge.specs.declared.fate.Fate.{Fate}
 use Rattle.gw_judge.specs.declared.fate.Fate.TheVariants.{Passed, Blocked, Silent, Refused}
 use Rattle.gw_judge.specs.declared.counts.Counts.{Counts}
+use Rattle.gw_judge.specs.declared.groups.Verdicts.{Verdicts}
 use Rattle.gw_judge.specs.declared.tally.Cause.{Cause}
 use Rattle.gw_judge.specs.declared.tally.Tally.{Tally}
+use Rattle.gw_judge.specs.Grouped.{Grouped, group_of, no_verdicts}
 use Rattle.gw_judge.specs.Tallies.{up_to_most, no_cause, cause_place}
 
 -- the counts of no line, and with one more
@@ -15,20 +17,39 @@ abbrev pub no_counts : Counts
 no_counts = record { passed = 0; blocked = 0; refused = 0 }
 
 abbrev pub counts_with : Fate → Counts → Counts
-counts_with (Passed part) counts = record counts { passed = up_to_most (counts.passed + 1) }
-counts_with (Blocked part) counts = record counts { blocked = up_to_most (counts.blocked + 1) }
+counts_with (Passed frame) counts = record counts { passed = up_to_most (counts.passed + 1) }
+counts_with (Blocked frame) counts = record counts { blocked = up_to_most (counts.blocked + 1) }
 counts_with Silent counts = counts
 counts_with (Refused why) counts = record counts { refused = up_to_most (counts.refused + 1) }
 
--- the tally of no line
-abbrev pub no_tally : Tally
-no_tally = record {
+-- the verdicts on the frames of a group, with one frame more
+abbrev pub verdicts_with : Fate → Verdicts → Verdicts
+verdicts_with (Passed frame) verdicts = record verdicts { passed = up_to_most (verdicts.passed + 1) }
+verdicts_with (Blocked frame) verdicts = record verdicts { blocked = up_to_most (verdicts.blocked + 1) }
+verdicts_with Silent verdicts = verdicts
+verdicts_with (Refused why) verdicts = verdicts
+
+abbrev pub group_with : ℕ → Fate → Grouped → Grouped
+group_with group fate groups = record groups {
+  verdicts = slice_set groups.verdicts group (verdicts_with fate (slice_index_or groups.verdicts group no_verdicts));
+}
+
+abbrev pub groups_with : Fate → Grouped → Grouped
+groups_with (Passed frame) groups = group_with (group_of groups.grouping frame.word) (Passed frame) groups
+groups_with (Blocked frame) groups = group_with (group_of groups.grouping frame.word) (Blocked frame) groups
+groups_with Silent groups = groups
+groups_with (Refused why) groups = groups
+
+-- the tally of no line, with its groups
+abbrev pub no_tally : Grouped → Tally
+no_tally groups = record {
   lines = 0;
   counts = no_counts;
   by_rule = replicate 256 0;
   by_default = 0;
   by_other = 0;
   causes = replicate 13 no_cause;
+  groups = groups;
 }
 
 -- a frame more that a part decided
@@ -54,11 +75,15 @@ with_cause why tally = record tally {
 
 -- a line more
 abbrev pub counted : Fate → Tally → Tally
-counted fate tally = record tally { lines = up_to_most (tally.lines + 1); counts = counts_with fate tally.counts }
+counted fate tally = record tally {
+  lines = up_to_most (tally.lines + 1);
+  counts = counts_with fate tally.counts;
+  groups = groups_with fate tally.groups;
+}
 
 abbrev pub with_fate : Fate → Tally → Tally
-with_fate (Passed part) tally = with_part part tally
-with_fate (Blocked part) tally = with_part part tally
+with_fate (Passed frame) tally = with_part frame.part tally
+with_fate (Blocked frame) tally = with_part frame.part tally
 with_fate Silent tally = tally
 with_fate (Refused why) tally = with_cause why tally
 

@@ -7,15 +7,17 @@ use Rattle.gw_table.specs.declared.table.Part.{Part}
 use Rattle.gw_table.specs.declared.table.Part.TheVariants.{Rule, Default, Other}
 use Rattle.gw_table.specs.Table.{Meaning, matches, table_passes}
 use Rattle.gw_policy.specs.Filter.{Filter, filter_passes}
+use Rattle.gw_judge.specs.declared.fate.Decided.{Decided}
 use Rattle.gw_judge.specs.declared.fate.Fate.{Fate}
 use Rattle.gw_judge.specs.declared.fate.Fate.TheVariants.{Passed, Blocked, Silent, Refused}
 
-abbrev pub verdict_fate : Bool → Option Part → Fate
-verdict_fate passes part = if passes then Passed part else Blocked part
+abbrev pub verdict_fate : Bool → Decided → Fate
+verdict_fate passes decided = if passes then Passed decided else Blocked decided
 
 -- what becomes of a record that was taken at a port: a policy says alone whether it passes
 abbrev pub policy_fate : Filter → ℕ → List ℕ → Fate
-policy_fate filter port octets = verdict_fate (filter_passes filter octets port) None
+policy_fate filter port octets =
+    verdict_fate (filter_passes filter octets port) (record { part = None; word = word_of octets })
 
 -- the part of a table that decides a frame: the rule of least number whose four ranges hold, else `default`, and `other` for
 -- a frame that is no extended data frame
@@ -30,7 +32,8 @@ deciding_part table octets port =
 -- a table names this part too
 abbrev pub table_fate : Meaning → ℕ → List ℕ → Fate
 table_fate table port octets =
-    verdict_fate (table_passes table octets port) (Some (deciding_part table octets port))
+    verdict_fate (table_passes table octets port)
+    (record { part = Some (deciding_part table octets port); word = word_of octets })
 
 -- what becomes of a line, where this becomes of the record that it says
 abbrev pub said_fate : (List ℕ → Fate) → Reading → Fate
@@ -42,26 +45,26 @@ unfoldable pub fate_of : (List ℕ → Fate) → List ℕ → Fate
 fate_of by line = said_fate by (line_of line)
 
 abbrev pub is_passed : Fate → Bool
-is_passed (Passed part) = true
-is_passed (Blocked part) = false
+is_passed (Passed frame) = true
+is_passed (Blocked frame) = false
 is_passed Silent = false
 is_passed (Refused why) = false
 
 abbrev pub is_blocked : Fate → Bool
-is_blocked (Passed part) = false
-is_blocked (Blocked part) = true
+is_blocked (Passed frame) = false
+is_blocked (Blocked frame) = true
 is_blocked Silent = false
 is_blocked (Refused why) = false
 
 abbrev pub is_refused : Fate → Bool
-is_refused (Passed part) = false
-is_refused (Blocked part) = false
+is_refused (Passed frame) = false
+is_refused (Blocked frame) = false
 is_refused Silent = false
 is_refused (Refused why) = true
 
 -- the part that decided, if a table judged a frame
 abbrev pub decided_by : Fate → Option Part
-decided_by (Passed part) = part
-decided_by (Blocked part) = part
+decided_by (Passed frame) = frame.part
+decided_by (Blocked frame) = frame.part
 decided_by Silent = None
 decided_by (Refused why) = None

@@ -42,8 +42,8 @@ part_text None = []
 
 -- the verdict on a frame, and what decides it; no other line is written
 abbrev pub verdict_front : Fate → Option (List ℕ)
-verdict_front (Passed part) = Some (codes "pass" ++ part_text part ++ codes " ")
-verdict_front (Blocked part) = Some (codes "block" ++ part_text part ++ codes " ")
+verdict_front (Passed frame) = Some (codes "pass" ++ part_text frame.part ++ codes " ")
+verdict_front (Blocked frame) = Some (codes "block" ++ part_text frame.part ++ codes " ")
 verdict_front Silent = None
 verdict_front (Refused why) = None
 
@@ -60,8 +60,8 @@ behind_front None line = []
 behind_front (Some front) line = front ++ line
 
 abbrev pub line_text : (Fate → Option (List ℕ)) → Fate → List ℕ → List ℕ
-line_text front (Passed part) line = behind_front (front (Passed part)) line
-line_text front (Blocked part) line = behind_front (front (Blocked part)) line
+line_text front (Passed frame) line = behind_front (front (Passed frame)) line
+line_text front (Blocked frame) line = behind_front (front (Blocked frame)) line
 line_text front Silent line = behind_front (front Silent) line
 line_text front (Refused why) line = []
 

@@ -1,5 +1,6 @@
--- public meaning: what becomes of a line, how lines are counted, and what judging a log writes
+-- public meaning: what becomes of a line, groups of frames, how lines are counted, and what judging a log writes
 pub mod Fates
+pub mod Grouped
 pub mod Tallies
 pub mod Judged
 -- the inside: a tally with a line more, parts of lines, and how far a log was judged

@@ -9,8 +9,11 @@ use Rattle.gw_table.specs.declared.table.Part.TheVariants.{Rule, Default, Other}
 use Rattle.gw_judge.specs.declared.fate.Fate.{Fate}
 use Rattle.gw_judge.specs.declared.fate.Fate.TheVariants.{Passed, Blocked, Silent, Refused}
 use Rattle.gw_judge.specs.declared.counts.Counts.{Counts}
+use Rattle.gw_judge.specs.declared.groups.Grouping.{Grouping}
+use Rattle.gw_judge.specs.declared.groups.Verdicts.{Verdicts}
 use Rattle.gw_judge.specs.declared.tally.Cause.{Cause}
 use Rattle.gw_judge.specs.declared.tally.Tally.{Tally}
+use Rattle.gw_judge.specs.Grouped.{Grouped, group_of, group_count, no_verdicts}
 use Rattle.gw_judge.specs.Fates.{is_passed, is_blocked, is_refused, decided_by}
 
 abbrev pub up_to_most : ℕ → ℕ
@@ -58,8 +61,8 @@ abbrev pub cause_place : LogRefusal → ℕ
 cause_place why = refusal_number why - 101
 
 abbrev pub is_refused_for : LogRefusal → Fate → Bool
-is_refused_for why (Passed part) = false
-is_refused_for why (Blocked part) = false
+is_refused_for why (Passed frame) = false
+is_refused_for why (Blocked frame) = false
 is_refused_for why Silent = false
 is_refused_for why (Refused cause) = cause_place cause == cause_place why
 
@@ -73,6 +76,32 @@ no_cause = record { count = 0; first = 0 }
 abbrev pub cause_in : Tally → LogRefusal → Cause
 cause_in tally why = slice_index_or tally.causes (cause_place why) no_cause
 
+-- a frame of a group passes, or is blocked
+abbrev pub is_passed_in : Grouping → ℕ → Fate → Bool
+is_passed_in grouping group (Passed frame) = group_of grouping frame.word == group
+is_passed_in grouping group (Blocked frame) = false
+is_passed_in grouping group Silent = false
+is_passed_in grouping group (Refused why) = false
+
+abbrev pub is_blocked_in : Grouping → ℕ → Fate → Bool
+is_blocked_in grouping group (Passed frame) = false
+is_blocked_in grouping group (Blocked frame) = group_of grouping frame.word == group
+is_blocked_in grouping group Silent = false
+is_blocked_in grouping group (Refused why) = false
+
+-- how many frames of a group passed, and how many were blocked
+abbrev pub verdicts_of : Grouping → ℕ → List Fate → Verdicts
+verdicts_of grouping group fates = record {
+  passed = count_of (is_passed_in grouping group) fates;
+  blocked = count_of (is_blocked_in grouping group) fates;
+}
+
+-- what is told of each group
+pub record IsGrouped (fates : List Fate) (groups : Grouped) : Type 0 where
+  pub all : length groups.verdicts ≡ group_count groups.grouping
+  pub each : (group : ℕ) → group < group_count groups.grouping
+      → slice_index_or groups.verdicts group no_verdicts ≡ verdicts_of groups.grouping group fates
+
 -- what a tally of lines tells, where these are their fates
 pub record IsTally (fates : List Fate) (tally : Tally) : Type 0 where
   pub lines : tally.lines ≡ up_to_most (length fates)
@@ -84,3 +113,4 @@ pub record IsTally (fates : List Fate) (tally : Tally) : Type 0 where
   pub by_other : tally.by_other ≡ count_of (λ fate. is_other (decided_by fate)) fates
   pub causes : length tally.causes ≡ 13
   pub by_cause : (why : LogRefusal) → cause_in tally why ≡ cause_of why fates
+  pub groups : IsGrouped fates tally.groups

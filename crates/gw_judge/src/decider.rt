@@ -6,7 +6,7 @@ ghost use Rattle.gw_table.specs.Table.{is_pass, action_of};
 ghost use Rattle.gw_judge.specs.declared.fate.Fate.{Fate};
 ghost use Rattle.gw_judge.specs.Fates.{policy_fate, table_fate};
 
-use crate::fate::Fate;
+use crate::fate::{Decided, Fate};
 use gw_frame::Frame;
 use gw_policy::Policy;
 use gw_table::{Action, Part, Table};
@@ -25,10 +25,14 @@ impl Decider for Policy {
     ghost fate_by = { policy_fate };
 
     fn fate(&self, frame: &Frame, from: u8) -> Fate {
+        let decided = Decided {
+            part: None,
+            word: frame.id().word(),
+        };
         if self.verdict(frame, from) {
-            Fate::Passed(None)
+            Fate::Passed(decided)
         } else {
-            Fate::Blocked(None)
+            Fate::Blocked(decided)
         }
     }
 }
@@ -38,10 +42,14 @@ impl Decider for Table {
 
     fn fate(&self, frame: &Frame, from: u8) -> Fate {
         let part = self.decides(frame, from);
+        let decided = Decided {
+            part: Some(part),
+            word: frame.id().word(),
+        };
         if is_passing(self, part) {
-            Fate::Passed(Some(part))
+            Fate::Passed(decided)
         } else {
-            Fate::Blocked(Some(part))
+            Fate::Blocked(decided)
         }
     }
 }

@@ -7,13 +7,22 @@ use crate::decider::Decider;
 use gw_log::{LogRefusal, read_line};
 use gw_table::Part;
 
+/// A frame that was judged.
+#[derive(Clone, Copy, PartialEq, Eq, Debug)]
+pub struct Decided {
+    /// The part that decided it, where a table judges.
+    pub part: Option<Part>,
+    /// Its identifier word.
+    pub word: u32,
+}
+
 /// What becomes of a line of a log.
 #[derive(Clone, Copy, PartialEq, Eq, Debug)]
 pub enum Fate {
-    /// It says a frame that passes, by this part of a table where a table judges.
-    Passed(Option<Part>),
-    /// It says a frame that is blocked, likewise.
-    Blocked(Option<Part>),
+    /// It says a frame that passes.
+    Passed(Decided),
+    /// It says a frame that is blocked.
+    Blocked(Decided),
     /// It says nothing.
     Silent,
     /// It says no classic frame.

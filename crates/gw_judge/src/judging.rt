@@ -1,6 +1,6 @@
 //! A log that comes in parts of lines, and what is written of it.
 
-ghost use Rattle.std.specs.Prelude.{◌≡◌, ◌++◌, ◌-◌, [], ℕ, List, false, length, take, OnOk};
+ghost use Rattle.std.specs.Prelude.{◌≡◌, ◌++◌, ◌-◌, [], ℕ, List, false, length, take, IfOk, OnOk};
 ghost use Rattle.gw_io.specs.Tries.{inner_of, has_failed};
 ghost use Rattle.gw_judge.specs.Fates.{fate_of};
 ghost use Rattle.gw_judge.specs.Judged.{line_text};
@@ -12,6 +12,7 @@ use crate::decider::Decider;
 use crate::fate::{Fate, line_fate};
 use crate::fault::{JudgeFault, RefusedLine};
 use crate::gathered::Gathered;
+use crate::groups::Groups;
 use crate::report::Report;
 use crate::tally::Tally;
 use arrayvec::ArrayVec;
@@ -48,15 +49,15 @@ impl Judging {
     ghost use Rattle.gw_judge.specs.UnderWay.{HasJudged, Judges, Reaches, Closes, Ends};
 
     /// Starts before the first octet.
-    pub fn new() -> Judging
+    pub fn new(groups: Groups) -> Judging
         ensures kept { result.kept.items ≡ [] }
         ensures gathered { result.gathered.held.items ≡ [] }
-        ensures tally { result.tally ≡ no_tally }
+        ensures tally { result.tally ≡ no_tally groups }
     {
         Judging {
             kept: ArrayVec::new(),
             gathered: Gathered::new(),
-            tally: Tally::new(),
+            tally: Tally::new(groups),
         }
     }
 
@@ -76,6 +77,7 @@ impl Judging {
             asked.now.strict (octets ++ part.now) text (W.contents (inner_of writer.old)) (W.contents (inner_of writer.new))
             (has_failed writer.new) result self.new }
         ensures whole { OnOk result (has_failed writer.new ≡ false) }
+        ensures grouping { self.new.tally.groups.grouping ≡ self.old.tally.groups.grouping }
     {
         self.keep(part);
         if !ends_line(part) {
@@ -101,6 +103,7 @@ impl Judging {
             asked.now.strict octets text (W.contents (inner_of writer.old)) (W.contents (inner_of writer.new))
             (has_failed writer.new) result self.new }
         ensures whole { OnOk result (has_failed writer.new ≡ false) }
+        ensures grouping { self.new.tally.groups.grouping ≡ self.old.tally.groups.grouping }
     {
         if used_up {
             self.gathered.flush(writer)
@@ -116,12 +119,13 @@ impl Judging {
         writer: &mut Tried<W>,
     ) -> Result<Tally, JudgeFault>
         requires { has_failed writer.old ≡ false }
-        ensures { (octets text : List ℕ)
+        ensures ended { (octets text : List ℕ)
             → HasJudged (fate_of (D.fate_by asked.now.decider.now asked.now.from)) (P.front_of asked.now.report.now)
             asked.now.strict octets self text
             → Ends (fate_of (D.fate_by asked.now.decider.now asked.now.from)) (P.front_of asked.now.report.now)
             asked.now.strict octets text (W.contents (inner_of writer.old)) (W.contents (inner_of writer.new))
             (has_failed writer.new) result }
+        ensures grouping { IfOk result (λ tally. tally.groups.grouping ≡ self.tally.groups.grouping) }
     {
         self.judge_last(asked, writer)?;
         self.gathered.flush(writer)?;
@@ -142,6 +146,7 @@ impl Judging {
             asked.now.strict octets text (W.contents (inner_of writer.old)) (W.contents (inner_of writer.new))
             (has_failed writer.new) result self.new }
         ensures whole { OnOk result (has_failed writer.new ≡ false) }
+        ensures grouping { self.new.tally.groups.grouping ≡ self.old.tally.groups.grouping }
     {
         if self.kept.is_empty() {
             Ok(())
@@ -161,6 +166,7 @@ impl Judging {
     }
 
     /// Judges the line that is kept.
+    #[tactic(auto, using(crate::proofs::Counting::grouping_stays))]
     fn judge_kept<D: Decider, P: Report, W: Write>(
         &mut self,
         asked: &Asked<D, P>,
@@ -175,6 +181,7 @@ impl Judging {
             asked.now.strict self.new.tally.lines
             (W.contents (inner_of writer.old)) (W.contents (inner_of writer.new)) (has_failed writer.new)
             self.old.gathered.held.items result self.new.gathered.held.items }
+        ensures grouping { self.new.tally.groups.grouping ≡ self.old.tally.groups.grouping }
     {
         let fate = line_fate(asked.decider, asked.from, self.kept.as_slice());
         self.tally.count(fate);

@@ -6,6 +6,7 @@ mod decider;
 mod fate;
 mod fault;
 mod gathered;
+mod groups;
 mod judging;
 mod parts;
 mod report;
@@ -14,8 +15,9 @@ mod whole;
 
 pub use counts::Counts;
 pub use decider::Decider;
-pub use fate::{Fate, line_fate};
+pub use fate::{Decided, Fate, line_fate};
 pub use fault::{JudgeFault, RefusedLine};
+pub use groups::{Grouping, Groups, Verdicts};
 pub use judging::Asked;
 pub use report::{Report, Wanted};
 pub use tally::{Cause, MAX_RULES, Tally};

@@ -56,8 +56,8 @@ fn verdict_front(fate: Fate) -> Option<Line>
     ensures { result ≡ verdict_front fate }
 {
     match fate {
-        Fate::Passed(part) => Some(with_part(Line::new().text("pass"), part).text(" ")),
-        Fate::Blocked(part) => Some(with_part(Line::new().text("block"), part).text(" ")),
+        Fate::Passed(frame) => Some(with_part(Line::new().text("pass"), frame.part).text(" ")),
+        Fate::Blocked(frame) => Some(with_part(Line::new().text("block"), frame.part).text(" ")),
         Fate::Silent | Fate::Refused(_) => None,
     }
 }

@@ -1,11 +1,12 @@
 //! How many frames each part of a table decided, and how many lines were refused for which cause.
 
-ghost use Rattle.std.specs.Prelude.{◌≡◌, ◌<◌, Some};
+ghost use Rattle.std.specs.Prelude.{◌≡◌, ◌<◌};
 ghost use Rattle.gw_judge.specs.Tallies.{cause_in, cause_place};
 ghost use Rattle.gw_judge.specs.Counting.{no_tally, tally_with, with_part, with_cause, cause_with};
 
 use crate::counts::Counts;
 use crate::fate::Fate;
+use crate::groups::Groups;
 use gw_log::LogRefusal;
 use gw_table::Part;
 
@@ -36,12 +37,14 @@ pub struct Tally {
     pub by_default: u64,
     pub by_other: u64,
     pub(crate) causes: [Cause; CAUSES],
+    /// How many frames of each group passed and were blocked.
+    pub groups: Groups,
 }
 
 impl Tally {
     /// No line yet.
-    pub(crate) fn new() -> Tally
-        ensures { result ≡ no_tally }
+    pub(crate) fn new(groups: Groups) -> Tally
+        ensures { result ≡ no_tally groups }
     {
         Tally {
             lines: 0,
@@ -50,6 +53,7 @@ impl Tally {
             by_default: 0,
             by_other: 0,
             causes: [Cause { count: 0, first: 0 }; CAUSES],
+            groups,
         }
     }
 
@@ -66,24 +70,26 @@ impl Tally {
     {
         self.lines = self.lines.saturating_add(1);
         self.counts = self.counts.with(fate);
+        self.groups.count(fate);
         match fate {
-            Fate::Passed(Some(part)) | Fate::Blocked(Some(part)) => self.count_part(part),
+            Fate::Passed(frame) | Fate::Blocked(frame) => self.count_part(frame.part),
             Fate::Refused(why) => self.count_cause(why),
-            Fate::Passed(None) | Fate::Blocked(None) | Fate::Silent => {}
+            Fate::Silent => {}
         }
     }
 
-    fn count_part(&mut self, part: Part)
-        ensures { self.new ≡ with_part (Some part) self.old }
+    fn count_part(&mut self, part: Option<Part>)
+        ensures { self.new ≡ with_part part self.old }
     {
         match part {
-            Part::Rule(number) => {
+            Some(Part::Rule(number)) => {
                 if number < MAX_RULES {
                     self.by_rule[number] = self.by_rule[number].saturating_add(1);
                 }
             }
-            Part::Default => self.by_default = self.by_default.saturating_add(1),
-            Part::Other => self.by_other = self.by_other.saturating_add(1),
+            Some(Part::Default) => self.by_default = self.by_default.saturating_add(1),
+            Some(Part::Other) => self.by_other = self.by_other.saturating_add(1),
+            None => {}
         }
     }
 

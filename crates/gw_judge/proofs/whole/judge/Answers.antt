@@ -1,6 +1,7 @@
-use Rattle.std.proofs.Common.{◌+◌, ◌-◌, ◌≤◌, ℕ, List, ◌++◌, inl, inr, refl, ◌∙◌, subst, arith}
+use Rattle.std.proofs.Common.{◌+◌, ◌-◌, ◌≤◌, ℕ, List, ◌++◌, inl, inr, refl, ap, ◌∙◌, subst, arith}
 use Rattle.std.proofs.lemmas.Result.{err_from_is_err_and}
 use Rattle.gw_io.specs.Tries.{inner_of, has_failed}
+use Rattle.gw_judge.specs.declared.tally.Tally.{Tally}
 use Rattle.gw_judge.specs.Fates.{fate_of}
 use Rattle.gw_judge.specs.UnderWay.{HasJudged, Reaches}
 use Rattle.gw_judge.proofs.Streams.{starts, goes_on, writes_on, stops, stops_writing, stays, ends_whole, ends_partly}
@@ -14,10 +15,11 @@ parts-init g c =
       read = c.requires.reader;
       written = c.requires.writer;
       most = omega arith;
+      grouping = ap (λ (t : Tally). t.groups.grouping) c.new-judging.ensures.tally;
       way = starts (fate_of (g.D.Decider.fate_by asked.decider.now asked.from)) (g.P.Report.front_of asked.report.now)
           asked.strict (g.R.Read.remaining (inner_of c.args.reader.now)) (g.W.Write.contents (inner_of c.args.writer.now))
-          c.new-parts.result.rest c.new-judging.result 0 c.new-parts.ensures c.new-judging.ensures.kept
-          c.new-judging.ensures.gathered c.new-judging.ensures.tally refl;
+          c.new-parts.result.rest c.new-judging.result 0 c.args.groups c.requires.groups c.new-parts.ensures
+          c.new-judging.ensures.kept c.new-judging.ensures.gathered c.new-judging.ensures.tally refl;
     }
 
 pub returns-in_err-next-clause-part : goal.returns-in_err-next-clause-part
@@ -43,7 +45,7 @@ returns-then-not-branch-clause-judged g c =
     (g.W.Write.contents (inner_of c.end.new.writer)) (has_failed c.end.new.writer) c.parts.parts.rest c.parts.judging
     (18446744073709551615 - c.parts.left) c.parts.invariant.way
     (met_end before after c.parts.parts.rest c.next.new.self c.in_ok-next.field-0 c.if-not-branch.true c.in_ok-next.ensures.part)
-    c.end.ensures
+    c.end.ensures.ended
 
 pub returns-then-not-branch-clause-part : goal.returns-then-not-branch-clause-part
 returns-then-not-branch-clause-part g c =
@@ -56,7 +58,7 @@ returns-then-not-branch-clause-part g c =
     (g.W.Write.contents (inner_of c.end.new.writer)) (has_failed c.next.new.reader) (has_failed c.end.new.writer)
     c.parts.parts.rest c.parts.judging (18446744073709551615 - c.parts.left) c.parts.invariant.way
     (met_end before after c.parts.parts.rest c.next.new.self c.in_ok-next.field-0 c.if-not-branch.true c.in_ok-next.ensures.part)
-    c.end.ensures
+    c.end.ensures.ended
 
 pub parts-preserved : goal.parts-preserved
 parts-preserved g c =
@@ -85,6 +87,7 @@ parts-preserved g c =
       read = c.in_ok-next.ensures.whole ∙ c.parts.invariant.read;
       written = c.in_ok-write_out.ensures.whole;
       most = let most = c.parts.invariant.most in omega arith;
+      grouping = c.in_ok-write_out.ensures.grouping ∙ c.in_ok-take.ensures.grouping ∙ c.parts.invariant.grouping;
       way = writes_on c.write_out.result fate front asked.strict begun after none new
           (g.W.Write.contents (inner_of c.write_out.new.writer)) (has_failed c.write_out.new.writer) c.next.new.self.rest
           c.take.new.self c.write_out.new.self (18446744073709551615 - (left - 1)) c.in_ok-write_out.field-0

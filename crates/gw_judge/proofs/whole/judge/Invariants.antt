@@ -9,6 +9,7 @@ invariant-parts g l = record {
   read : has_failed l.reader ≡ false;
   written : has_failed l.writer ≡ false;
   most : l.left ≤ 18446744073709551615;
+  grouping : l.judging.tally.groups.grouping ≡ l.fn.groups.grouping;
   way : IsUnderWay (fate_of (g.D.Decider.fate_by l.asked.decider.now l.asked.from))
       (g.P.Report.front_of l.asked.report.now) l.asked.strict
       (g.R.Read.remaining (inner_of l.fn.reader)) (g.R.Read.remaining (inner_of l.reader))

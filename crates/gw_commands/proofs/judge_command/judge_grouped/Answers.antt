@@ -1,18 +1,20 @@
-use Rattle.std.proofs.Common.{inl, inr}
+use Rattle.std.proofs.Common.{inl, inr, ap, ◌∙◌}
 use Rattle.gw_io.specs.Tries.{inner_of, has_failed}
+use Rattle.gw_judge.specs.Grouped.{Grouped}
 use Rattle.gw_judge.specs.Fates.{fate_of}
 use Rattle.gw_commands.proofs.LogEnds.{ended, ended_early}
-use Rattle.gw_commands.proofs.judge_command.judge_by.Goals as goal
+use Rattle.gw_commands.proofs.judge_command.judge_grouped.Goals as goal
 
 pub returns-in-Ok : goal.returns-in-Ok
 returns-in-Ok g c =
     inl (
       ended (fate_of (g.D.Decider.fate_by c.args.decider.now c.args.query.port)) (g.D.TellsParts.counts_by c.args.decider.now)
-          c.args.query.shown c.args.query.strict
+          c.args.query.by c.args.query.shown c.args.query.strict
           (g.I.Read.remaining (inner_of c.args.input.now)) (g.I.Read.remaining (inner_of c.judge.new.reader))
           (g.W.Write.contents (inner_of c.args.output.now)) (g.W.Write.contents (inner_of c.judge.new.writer))
           (g.W.Write.contents (inner_of c.tell_counts.new.output)) (has_failed c.tell_counts.new.output) c.tell_counts.result
-          c.in-Ok.tally c.wanted-report.result c.wanted-report.ensures c.in-Ok.ensures.judged c.tell_counts.ensures,
+          c.in-Ok.tally c.wanted-report.result c.wanted-report.ensures c.in-Ok.ensures.judged
+          (c.in-Ok.ensures.grouping ∙ ap (λ (groups : Grouped). groups.grouping) c.requires.groups) c.tell_counts.ensures,
       c.in-Ok.ensures.read,
     )
 
