@@ -19,13 +19,13 @@ ghost use Rattle.gw_commands.specs.Judgings.{
 use crate::answer::Answer;
 use crate::files::read_file;
 use crate::log_counts::{TellsParts, told_text};
-use crate::notes::{note_file, note_refused_lines};
+use crate::notes::{note_file, note_no_log, note_refused_lines};
 use crate::refusal::Refusal;
 use crate::responding::{respond, write_refusal};
 use crate::texts::{program, read_table};
 use gw_input::{Line, refused};
 use gw_io::Tried;
-use gw_judge::{Asked, Grouping, Groups, JudgeFault, Tally, Wanted, judge};
+use gw_judge::{Asked, Grouping, Groups, Head, JudgeFault, Tally, Wanted, judge};
 use gw_policy::Policy;
 use std::alloc::{AllocError, Global};
 use std::io::{Read, Write};
@@ -166,20 +166,17 @@ fn judge_grouped<D: TellsParts, I: Read, W: Write, F: Write>(
         report: &report,
         strict: query.strict,
     };
-    match judge(&asked, groups, input, output) {
+    let mut head = Head::new();
+    match judge(&asked, groups, &mut head, input, output) {
         Ok(tally) => {
+            note_no_log(&head, faults);
             note_refused_lines(&tally, faults);
-            tell_counts(
-                alloc,
-                query.shown,
-                query.by,
-                decider,
-                &tally,
-                output,
-                faults,
-            )
+            tell_counts(alloc, query, decider, &tally, output, faults)
         }
-        Err(fault) => tell_end(query.shown, fault, output, faults),
+        Err(fault) => {
+            note_no_log(&head, faults);
+            tell_end(query.shown, fault, output, faults)
+        }
     }
 }
 
@@ -198,23 +195,22 @@ fn wanted(shown: Shown) -> Wanted
 /// Writes the counts, where they are asked for.
 fn tell_counts<D: TellsParts, W: Write, F: Write>(
     alloc: Global,
-    shown: Shown,
-    by: Grouping,
+    query: LogQuery,
     decider: &D,
     tally: &Tally,
     output: &mut Tried<W>,
     faults: &mut Tried<F>,
 ) -> u8
-    ensures { TellsCounts (told_counts (D.counts_by decider.now) by) shown tally.now
+    ensures { TellsCounts (told_counts (D.counts_by decider.now) query.by) query.shown tally.now
         (W.contents (inner_of output.old)) (W.contents (inner_of output.new)) (has_failed output.new) result }
 {
     if output.failed() {
         return 1;
     }
-    if !matches!(shown, Shown::Counts) {
+    if !matches!(query.shown, Shown::Counts) {
         return 0;
     }
-    match told_text(alloc, by, decider, tally) {
+    match told_text(alloc, query.by, decider, tally) {
         Ok(text) => respond(&Ok(Answer::Text(text.into_bytes())), output, faults),
         Err(AllocError) => respond(&Err(Refusal::OutOfMemory), output, faults),
     }

@@ -3,7 +3,7 @@
 use gw_frame::Frame;
 use gw_ident::{EXTENDED_FLAG, GREATEST_EXTENDED, GREATEST_STANDARD};
 use gw_io::Tried;
-use gw_judge::Tally;
+use gw_judge::{Head, NoLog, Tally};
 use gw_log::LogRefusal;
 use gw_table::Table;
 use std::io::Write;
@@ -77,4 +77,19 @@ pub fn note_refused_lines<F: Write>(tally: &Tally, faults: &mut Tried<F>) {
             );
         }
     }
+}
+
+/// Tells of an input that is no log but a capture or a compressed file, and which command takes it.
+pub fn note_no_log<F: Write>(head: &Head, faults: &mut Tried<F>) {
+    let told = match head.no_log() {
+        Some(NoLog::Pcap) =>
+            "the input is a pcap capture and no log of candump; `gw run` takes one of link type 227",
+        Some(NoLog::PcapNg) => {
+            "the input is a pcapng capture and no log of candump; `editcap -F pcap` makes a pcap capture of it for `gw run`"
+        }
+        Some(NoLog::Gzip) =>
+            "the input is compressed; `gzip -dc FILE | gw judge ..` judges what it holds",
+        None => return,
+    };
+    let _ = writeln!(faults, "gw: {told}");
 }

@@ -9,6 +9,7 @@ ghost use Rattle.gw_judge.specs.Judged.{IsJudged, IsPartlyJudged};
 use crate::decider::Decider;
 use crate::fault::JudgeFault;
 use crate::groups::Groups;
+use crate::head::Head;
 use crate::judging::{Asked, Judging};
 use crate::parts::Parts;
 use crate::report::Report;
@@ -17,13 +18,15 @@ use gw_io::Tried;
 use std::io::{Read, Write};
 
 /// Writes the lines of a log that are asked for, unchanged to the octet and in order, each behind its front, and returns what
-/// is told of all lines. Each frame is counted in its group too.
+/// is told of all lines. Each frame is counted in its group too. `head` is given the
+/// first octets.
 ///
 /// All lines that a read ended are judged and written before the next read, in the memory of one line and 65536 octets more.
 /// Where a fault ends it, a beginning of what is asked for is written; where a refused line does, all up to that line.
 pub fn judge<D: Decider, P: Report, R: Read, W: Write>(
     asked: &Asked<D, P>,
     groups: Groups,
+    head: &mut Head,
     reader: &mut Tried<R>,
     writer: &mut Tried<W>,
 ) -> Result<Tally, JudgeFault>
@@ -50,7 +53,9 @@ pub fn judge<D: Decider, P: Report, R: Read, W: Write>(
         if !parts.next(reader)? {
             return judging.end(asked, writer);
         }
-        judging.take(asked, parts.part(), writer)?;
+        let part = parts.part();
+        head.see(part);
+        judging.take(asked, part, writer)?;
         judging.write_out(asked, parts.is_used_up(), writer)?;
     }
     Err(JudgeFault::ReadFault)

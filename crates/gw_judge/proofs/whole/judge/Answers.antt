@@ -82,7 +82,7 @@ parts-preserved g c =
     (18446744073709551615 - (left - 1)) c.in_ok-take.field-0 c.in_ok-take.was fewer c.parts.invariant.way
     (met_part before after c.parts.parts.rest c.next.new.self c.in_ok-next.field-0 c.if-not-branch.false
     c.in_ok-next.ensures.part)
-    (subst Taken c.part.ensures c.take.ensures.taken) in
+    (subst Taken c.part-part.ensures c.take.ensures.taken) in
     record {
       read = c.in_ok-next.ensures.whole ∙ c.parts.invariant.read;
       written = c.in_ok-write_out.ensures.whole;
@@ -114,7 +114,7 @@ returns-in_err-take-clause-part g c =
     c.take.new.self (18446744073709551615 - c.parts.left) c.in_err-take.field-0.0 c.in_err-take.was c.parts.invariant.way
     (met_part before after c.parts.parts.rest c.next.new.self c.in_ok-next.field-0 c.if-not-branch.false
     c.in_ok-next.ensures.part)
-    (subst Taken c.part.ensures c.take.ensures.taken))
+    (subst Taken c.part-part.ensures c.take.ensures.taken))
 
 pub returns-in_err-write_out-clause-part : goal.returns-in_err-write_out-clause-part
 returns-in_err-write_out-clause-part g c =
@@ -138,7 +138,7 @@ returns-in_err-write_out-clause-part g c =
     (18446744073709551615 - (left - 1)) c.in_ok-take.field-0 c.in_ok-take.was fewer c.parts.invariant.way
     (met_part before after c.parts.parts.rest c.next.new.self c.in_ok-next.field-0 c.if-not-branch.false
     c.in_ok-next.ensures.part)
-    (subst Taken c.part.ensures c.take.ensures.taken) in
+    (subst Taken c.part-part.ensures c.take.ensures.taken) in
     let fault = err_from_is_err_and c.from_residual-in_err-write_out.result c.from_residual-in_err-write_out.ensures.1 in
     rw (fault.1, fault.2) (stops_writing c.write_out.result fate front asked.strict begun after none new
     (g.W.Write.contents (inner_of c.write_out.new.writer)) (has_failed c.next.new.reader) (has_failed c.write_out.new.writer)
