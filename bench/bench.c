@@ -1,8 +1,8 @@
 /*
  * Times the gateway's machine beside libpcap's bpf_filter, and a table's rules beside its program: the same records, one
  * process, in turn; then the event machine, scripts, runs beside libpcap's reader and filter, the assembler, and traces beside
- * libpcap's reader. Prints tables in markdown. Fails where two answers to the same question differ. With one word more, `tables`,
- * `texts`, `traces`, `scripts` or `runs`, it times that alone.
+ * libpcap's reader. Prints tables in markdown. Fails where two answers to the same question differ. With one word more, `programs`,
+ * `tables`, `events`, `texts`, `traces`, `scripts` or `runs`, it times that alone.
  */
 #include "bench.h"
 
@@ -189,6 +189,8 @@ static bool time_rules(const char *name, const uint8_t (*records)[16])
 static bool time_part(const char *part, const char *name, const uint8_t (*records)[16])
 {
     static char text[LONGEST_TEXT];
+    if (strcmp(part, "programs") == 0)
+        return time_programs(records);
     size_t length = read_text(name, text);
     if (length == 0)
         return is_refused(name, "no text");
@@ -211,7 +213,7 @@ int main(int argc, char **argv)
 {
     static uint8_t records[RECORDS][16];
     if (argc != 2 && argc != 3) {
-        fprintf(stderr, "usage: bench TABLE.toml [tables|texts|traces|scripts|runs]\n");
+        fprintf(stderr, "usage: bench TABLE.toml [programs|tables|events|texts|traces|scripts|runs]\n");
         return 2;
     }
     write_records(records);
