@@ -26,3 +26,4 @@ pub mod Searched
 pub mod Witnessed
 pub mod Placed
 pub mod Listing
+pub mod Asked

@@ -47,14 +47,14 @@ impl Table {
     }
 
     /// How many parts the table has.
-    fn places(&self) -> usize
+    pub(crate) fn places(&self) -> usize
         ensures count { result ≡ length self.now.rules + 2 }
         ensures table { IsWellFormed self.now }
     {
         self.rules().len() + 2
     }
 
-    fn part_at(&self, place: usize) -> Part
+    pub(crate) fn part_at(&self, place: usize) -> Part
         ensures { result ≡ part_at (length self.now.rules) place }
     {
         let rules = self.rules().len();
@@ -67,7 +67,7 @@ impl Table {
         }
     }
 
-    fn action_at(&self, place: usize) -> Action
+    pub(crate) fn action_at(&self, place: usize) -> Action
         ensures { action_of self.now (part_at (length self.now.rules) place) ≡ Some result }
     {
         match self.part_at(place) {
