@@ -45,6 +45,8 @@ mod policy;
 #[cfg(test)]
 mod ports;
 #[cfg(test)]
+mod questions;
+#[cfg(test)]
 mod replay;
 #[cfg(test)]
 mod running;
