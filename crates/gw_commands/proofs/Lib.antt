@@ -1,6 +1,8 @@
 mod LinesExamples
 pub mod Callers
 pub mod ClaimLines
+pub mod DifferenceStatus
+pub mod DifferenceTexts
 pub mod EndedEarly
 pub mod LogEnds
 pub mod LogTexts

@@ -4,7 +4,9 @@ use Rattle.std.specs.Prelude.{codes}
 use Rattle.std.specs.Fmt.{digits}
 use Rattle.gw_commands.specs.Answers.{verdict_line, accepted_line, passes_line}
 use Rattle.gw_commands.specs.Checks.{path_line}
+use Rattle.gw_table.specs.declared.table.Part.TheVariants.{Rule, Default, Other}
 use Rattle.gw_commands.specs.ClaimLines.{name_digits, holder_line}
+use Rattle.gw_commands.specs.Differences.{side_text}
 use Rattle.gw_input.specs.Lines.{lines_of}
 
 pass_7 : verdict_line 7 ≡ codes "pass 7\n"
@@ -27,6 +29,16 @@ table_passes = refl
 
 table_blocks : passes_line false ≡ codes "block\n"
 table_blocks = refl
+
+rule_2_blocks : side_text (Rule 2) false ≡ codes "rule 2 blocks"
+unfolding digits
+rule_2_blocks = refl
+
+default_passes : side_text Default true ≡ codes "default passes"
+default_passes = refl
+
+other_blocks : side_text Other false ≡ codes "other blocks"
+other_blocks = refl
 
 name_5 : name_digits 5 ≡ codes "0000000000000005"
 unfolding digits

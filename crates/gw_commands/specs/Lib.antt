@@ -4,6 +4,7 @@ pub mod Assemblies
 pub mod Checks
 pub mod ClaimLines
 pub mod Commands
+pub mod Differences
 pub mod Judgings
 pub mod LogCounts
 pub mod Policies

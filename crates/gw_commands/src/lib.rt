@@ -5,6 +5,8 @@ mod answer;
 mod asm_command;
 mod check_command;
 mod claims_command;
+mod diff_command;
+mod difference_lines;
 mod explanation;
 mod files;
 mod judge_command;
@@ -22,6 +24,7 @@ mod texts;
 mod verdict_command;
 
 pub use answer::Answer;
+pub use diff_command::{TableFiles, diff_named, diff_texts};
 pub use files::read_file;
 pub use gw_judge::Grouping;
 pub use judge_command::{LogQuery, PolicyKind, Shown, judge_log, judge_named};

@@ -68,6 +68,23 @@ pub fn write_refusal<D: Display, W: Write, F: Write>(
     }
 }
 
+/// Writes a text, and gives the status `done`, or 1 where a write failed.
+pub(crate) fn write_text<W: Write, F: Write>(
+    text: &[u8],
+    done: u8,
+    output: &mut Tried<W>,
+    faults: &mut Tried<F>,
+) -> u8
+    requires { has_failed output.old ≡ false }
+    ensures { WritesText text.now done result (W.contents (inner_of output.old)) (W.contents (inner_of output.new))
+        (has_failed output.new) }
+{
+    match write_all(output, text) {
+        Ok(()) => done,
+        Err(WriteFault) => unwritten(faults),
+    }
+}
+
 /// Tells a person that a write failed, and gives the status 1.
 fn unwritten<F: Write>(faults: &mut Tried<F>) -> u8
     ensures { result ≡ 1 }

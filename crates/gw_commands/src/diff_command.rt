@@ -1,0 +1,162 @@
+//! The command `diff`: what two tables differ in.
+
+ghost use Rattle.std.specs.Prelude.{◌≡◌, ◌⊎◌, false, Err, IfOk, IfErr};
+ghost use Rattle.gw_io.specs.Tries.{inner_of, has_failed};
+ghost use Rattle.gw_input.specs.Tables.{IsTable};
+ghost use Rattle.gw_commands.specs.Commands.{Writes, WritesText};
+ghost use Rattle.gw_commands.specs.Differences.{
+  ComparesNamed,
+  ComparesTexts,
+  TellsDifferences,
+  differences_status,
+  differences_text,
+};
+ghost use Rattle.gw_commands.specs.Policies.{RefusesFile};
+ghost use Rattle.gw_commands.specs.Tables.{RefusesText};
+ghost use Rattle.gw_commands.specs.declared.refusal.Refusal.TheVariants.{OutOfMemory};
+
+use crate::difference_lines::differences_text;
+use crate::files::read_file;
+use crate::notes::note_file;
+use crate::refusal::Refusal;
+use crate::responding::{respond, write_text};
+use crate::texts::read_table;
+use gw_io::Tried;
+use gw_table::{Difference, Table};
+use std::alloc::{AllocError, Global};
+use std::io::Write;
+use std::rt::Files;
+
+/// The names of the files of two tables.
+#[derive(Clone, Copy, PartialEq, Eq, Debug)]
+pub struct TableFiles<'a> {
+    pub old: &'a str,
+    pub new: &'a str,
+}
+
+/// Reads the files of two tables, and tells what they differ in: see `diff_texts`. A file that cannot be read is 96, and one of
+/// more than 1048576 octets 98, before the tables' own refusals.
+pub fn diff_named<R: Files, W: Write, F: Write>(
+    rt: &R,
+    alloc: Global,
+    files: TableFiles,
+    output: &mut Tried<W>,
+    faults: &mut Tried<F>,
+) -> u8
+    requires { has_failed output.old ≡ false }
+    ensures { ComparesNamed (W.contents (inner_of output.old)) (W.contents (inner_of output.new)) (has_failed output.new)
+        result }
+{
+    let old = match told_file(rt, alloc, files.old, faults) {
+        Ok(text) => text,
+        Err(refusal) => return respond(&Err(refusal), output, faults),
+    };
+    let new = match told_file(rt, alloc, files.new, faults) {
+        Ok(text) => text,
+        Err(refusal) => return respond(&Err(refusal), output, faults),
+    };
+    diff_texts(alloc, files, old.as_slice(), new.as_slice(), output, faults)
+}
+
+/// Tells what the tables of two texts differ in: `alike` with status 0, or with status 1 a line for each pair of parts that
+/// decide some frame unlike. Refused are first the old table's text and then the new one's, as by the command `table`; a person
+/// is told which file it is. 100 is want of memory for what is told.
+pub fn diff_texts<W: Write, F: Write>(
+    alloc: Global,
+    files: TableFiles,
+    old: &[u8],
+    new: &[u8],
+    output: &mut Tried<W>,
+    faults: &mut Tried<F>,
+) -> u8
+    requires { has_failed output.old ≡ false }
+    ensures { ComparesTexts old.now new.now (W.contents (inner_of output.old)) (W.contents (inner_of output.new))
+        (has_failed output.new) result }
+{
+    let old = match told_table(alloc, files.old, old, faults) {
+        Ok(table) => table,
+        Err(refusal) => return respond(&Err(refusal), output, faults),
+    };
+    let new = match told_table(alloc, files.new, new, faults) {
+        Ok(table) => table,
+        Err(refusal) => return respond(&Err(refusal), output, faults),
+    };
+    tell_differences(alloc, &old, &new, output, faults)
+}
+
+/// What a file holds. A person is told which file is refused.
+fn told_file<R: Files, F: Write>(
+    rt: &R,
+    alloc: Global,
+    file: &str,
+    faults: &mut Tried<F>,
+) -> Result<Vec<u8>, Refusal>
+    ensures { IfErr result RefusesFile }
+{
+    match read_file(rt, alloc, file) {
+        Ok(text) => Ok(text),
+        Err(refusal) => {
+            note_file(file, faults);
+            Err(refusal)
+        }
+    }
+}
+
+/// The table of a file's text. A person is told which file is refused.
+fn told_table<F: Write>(
+    alloc: Global,
+    file: &str,
+    text: &[u8],
+    faults: &mut Tried<F>,
+) -> Result<Table, Refusal>
+    ensures table { IfOk result (IsTable text.now) }
+    ensures refused { IfErr result (RefusesText text.now) }
+{
+    match read_table(alloc, text) {
+        Ok(table) => Ok(table),
+        Err(refusal) => {
+            note_file(file, faults);
+            Err(refusal)
+        }
+    }
+}
+
+/// Tells what two tables differ in.
+fn tell_differences<W: Write, F: Write>(
+    alloc: Global,
+    old: &Table,
+    new: &Table,
+    output: &mut Tried<W>,
+    faults: &mut Tried<F>,
+) -> u8
+    requires { has_failed output.old ≡ false }
+    ensures { TellsDifferences old.now new.now (W.contents (inner_of output.old)) (W.contents (inner_of output.new))
+        (has_failed output.new) result }
+{
+    match old.differences(alloc, new) {
+        Ok(found) => tell_found(alloc, old, new, found.as_slice(), output, faults),
+        Err(AllocError) => respond(&Err(Refusal::OutOfMemory), output, faults),
+    }
+}
+
+/// Tells the differences that were found, and gives the status.
+fn tell_found<W: Write, F: Write>(
+    alloc: Global,
+    old: &Table,
+    new: &Table,
+    found: &[Difference],
+    output: &mut Tried<W>,
+    faults: &mut Tried<F>,
+) -> u8
+    requires { has_failed output.old ≡ false }
+    ensures { WritesText (differences_text old.now new.now found.now) (differences_status found.now) result
+        (W.contents (inner_of output.old)) (W.contents (inner_of output.new)) (has_failed output.new)
+        ⊎ Writes (Err OutOfMemory) result (W.contents (inner_of output.old)) (W.contents (inner_of output.new))
+        (has_failed output.new) }
+{
+    let status = if found.is_empty() { 0 } else { 1 };
+    match differences_text(alloc, old, new, found) {
+        Ok(text) => write_text(text.as_slice(), status, output, faults),
+        Err(AllocError) => respond(&Err(Refusal::OutOfMemory), output, faults),
+    }
+}
