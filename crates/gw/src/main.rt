@@ -1,7 +1,7 @@
 //! The gateway's program.
 #![tactic(auto)]
 
-use gw_cli::{command, judge_command, run_command};
+use gw_cli::{command, diff_command, judge_command, run_command};
 use gw_io::Tried;
 use std::alloc::AllocError;
 use std::env;
@@ -36,6 +36,9 @@ fn main(rt: HostRuntime) -> ExitCode {
             &mut output,
             &mut faults,
         ),
+        Some(first) if first.as_str() == "diff" => {
+            diff_command(&rt, alloc, &words, &mut output, &mut faults)
+        }
         _ => command(alloc, &words, &mut input, &mut output, &mut faults),
     };
     ExitCode::from(status)

@@ -1,5 +1,6 @@
 //! The arguments of the command line.
 
+use crate::diff_arguments::diff_arguments;
 use crate::judge_arguments::judge_arguments;
 use crate::run_arguments::{run_arguments, wrong};
 use clap::{Arg, ArgAction, ArgMatches, Command, Error, value_parser};
@@ -109,7 +110,7 @@ fn bare_program<'a>(alloc: Global) -> Command<'a> {
         "gw",
         "A gateway for SAE J1939 vehicle networks: forwarding filters that cannot go wrong",
         "gw [COMMAND] < FILE",
-        "Each command reads the standard input. Without a command the first line of the input is a record and a listing \
+        "Each command but diff reads the standard input. Without a command the first line of the input is a record and a listing \
         follows.\nA record is written 98FEF100 08 000000 and the payload, without spaces.",
     )
     .version(VERSION)
@@ -162,6 +163,7 @@ fn commands<'a>(alloc: Global) -> Result<Command<'a>, AllocError> {
     let program = bare_program(alloc).subcommand(verdict_command(alloc)?)?;
     with_plain(alloc, program)?
         .subcommand(table_command(alloc)?)?
+        .subcommand(diff_arguments(alloc)?)?
         .subcommand(judge_arguments(alloc)?)?
         .subcommand(run_arguments(alloc)?)
 }
@@ -171,13 +173,14 @@ pub fn matched<'a, S: AsStr>(alloc: Global, words: &'a [S]) -> Result<ArgMatches
     commands(alloc)?.try_get_matches_from(words)
 }
 
-/// What the arguments ask for, or `clap`'s answer to them. Arguments that name `run` or `judge`, but not first, are wrong.
+/// What the arguments ask for, or `clap`'s answer to them. Arguments that name `run`, `judge` or `diff`, but not first, are wrong.
 pub fn read_arguments<'a, S: AsStr>(alloc: Global, words: &'a [S]) -> Result<Request<'a>, Error> {
     let matches = matched(alloc, words)?;
     match matches.subcommand() {
         Some(("replay", _)) => Ok(Request::Replay),
         Some(("run", _)) => Err(wrong(alloc, "`run` must be the first word")),
         Some(("judge", _)) => Err(wrong(alloc, "`judge` must be the first word")),
+        Some(("diff", _)) => Err(wrong(alloc, "`diff` must be the first word")),
         Some((name, found)) => Ok(Request::Query(named_query(name, found))),
         None => Ok(Request::Query(Query::Check)),
     }

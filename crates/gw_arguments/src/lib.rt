@@ -2,9 +2,11 @@
 //! The arguments of the command line of the program `gw`: what `clap` reads of them, and shows as help.
 
 mod arguments;
+mod diff_arguments;
 mod judge_arguments;
 mod run_arguments;
 
 pub use arguments::{Request, read_arguments};
+pub use diff_arguments::read_diff;
 pub use judge_arguments::{JudgeRequest, read_judge};
 pub use run_arguments::{RunRequest, read_run};

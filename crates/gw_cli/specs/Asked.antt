@@ -6,6 +6,7 @@ use Rattle.clap.specs.declared.error.kind.ErrorKind.TheVariants.{DisplayHelp, Di
 use Rattle.gw_ledger.specs.Bounds.{Bounds}
 use Rattle.gw_commands.specs.Commands.{Does, Writes, WritesText}
 use Rattle.gw_run.specs.Forwarding.{ForwardsNamed}
+use Rattle.gw_commands.specs.Differences.{ComparesNamed}
 use Rattle.gw_commands.specs.Judgings.{JudgesNamed}
 use Rattle.gw_commands.specs.Replays.{Replays}
 use Rattle.gw_commands.specs.Queries.{AnswersQuery, RefusesQuery}
@@ -60,3 +61,9 @@ abbrev pub JudgesWords : Option (List ℕ) → Option (List ℕ) → Bool → Op
 JudgesWords before after failed old new write_failed told_old told_new tell_failed status =
     ((query : LogQuery) × JudgesNamed query before after failed old new write_failed status)
     ⊎ OnlyAnswersWords before after old new write_failed told_old told_new tell_failed status
+
+-- the tables of two files were compared, or a file or a table was refused; or the arguments were answered
+abbrev pub ComparesWords : Option (List ℕ) → Option (List ℕ) → Bool → Option (List ℕ) → Option (List ℕ) → Bool → ℕ → Type 0
+ComparesWords old new write_failed told_old told_new tell_failed status =
+    ComparesNamed old new write_failed status
+    ⊎ ((kind : ErrorKind) × AnswersWords kind old new write_failed told_old told_new tell_failed status)
