@@ -47,7 +47,7 @@ fn some_pass_and_some_do_not(rt: HostRuntime) -> Result<(), Fail> {
     };
     assert!(rt; passing.by == Part::Rule(1));
     assert!(rt; passing.frame.id().source() != 249);
-    assert!(rt; passing.frame.id().destination() == 0);
+    assert!(rt; passing.frame.id().destination() == Some(0));
     assert!(rt; blocked.by == Part::Rule(0));
     assert!(rt; blocked.frame.id().source() == 249);
     Ok(())
