@@ -1,8 +1,8 @@
 /*
  * Times the gateway's machine beside libpcap's bpf_filter, and a table's rules beside its program: the same records, one
  * process, in turn; then the event machine, scripts, runs beside libpcap's reader and filter, the assembler, and traces beside
- * libpcap's reader. Prints tables in markdown. Fails where two answers to the same question differ. With one word more, `programs`,
- * `tables`, `events`, `texts`, `traces`, `scripts` or `runs`, it times that alone.
+ * libpcap's reader. Prints tables in markdown. Fails where two answers to the same question differ. With one word more,
+ * `programs`, `tables`, `events`, `texts`, `traces`, `scripts` or `runs`, it times that alone.
  */
 #include "bench.h"
 

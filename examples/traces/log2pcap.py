@@ -1,7 +1,7 @@
 """Makes a pcap trace of link type 227 from a log of candump: python3 log2pcap.py < drive.log > drive.pcap
 
-A line is `(time) interface frame`, or a frame alone, whose time is 0. A line that says no classic frame is told on stderr and left
-out, and the status is 1 then.
+A line is `(time) interface frame`, or a frame alone, whose time is 0. A line that says no classic frame is told on stderr and
+left out, and the status is 1 then.
 """
 import re
 import struct

@@ -173,7 +173,8 @@ pub fn matched<'a, S: AsStr>(alloc: Global, words: &'a [S]) -> Result<ArgMatches
     commands(alloc)?.try_get_matches_from(words)
 }
 
-/// What the arguments ask for, or `clap`'s answer to them. Arguments that name `run`, `judge` or `diff`, but not first, are wrong.
+/// What the arguments ask for, or `clap`'s answer to them. Arguments that name `run`, `judge` or `diff`, but not first, are
+/// wrong.
 pub fn read_arguments<'a, S: AsStr>(alloc: Global, words: &'a [S]) -> Result<Request<'a>, Error> {
     let matches = matched(alloc, words)?;
     match matches.subcommand() {

@@ -14,7 +14,8 @@ unfolding difference_lines
 difference_more old new found n d within =
     ap (flat_map (difference_line old new)) (take_more found n d within)
     ∙ flat_map-append (difference_line old new) (take n found) (get_or found n d ∷ [])
-    ∙ ap (λ last. flat_map (difference_line old new) (take n found) ++ last) (append-nil (difference_line old new (get_or found n d)))
+    ∙ ap (λ last. flat_map (difference_line old new) (take n found) ++ last)
+    (append-nil (difference_line old new (get_or found n d)))
 
 -- a text behind another: no line yet, and the line of one difference more
 pub text_alone : (old new : Meaning) (before : List ℕ) → before ≡ before ++ difference_lines old new []
