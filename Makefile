@@ -35,7 +35,7 @@ capi:
 	@$(MAKE) --no-print-directory -C capi
 
 install-capi:
-	@$(MAKE) --no-print-directory -C capi install
+	@$(MAKE) --no-print-directory -C capi install TO=$(TO) PREFIX=$(abspath $(PREFIX))
 
 # The gate: every proof from nothing, the wrong bodies, the tests and the programs, each growth refused in turn, the examples,
 # and the pages.
