@@ -1,14 +1,9 @@
 -- A tally with one line more.
-use Rattle.std.proofs.Common.{◌≡◌, ℕ, ◌+◌, ◌≤◌, ◌<◌, ◌==◌, Bool, true, false, not, cond, eqb, List, [], ◌∷◌, ◌++◌}
-use Rattle.std.proofs.Common.{length, get_or, set, Option, Some, None, refl, sym, ap, ◌∙◌, subst, arith, inl, inr}
+use Rattle.std.proofs.Common.{◌≡◌, ℕ, ◌+◌, ◌≤◌, ◌<◌, ◌==◌, Bool, true, false, List, [], ◌∷◌, ◌++◌}
+use Rattle.std.proofs.Common.{length, get_or, set, Option, Some, None, refl, sym, ap, ◌∙◌, subst, arith}
 use Rattle.std.specs.Prelude.{if◌then◌else◌, slice_index}
-use Rattle.std.specs.List.{filter, position_or_len}
-use Rattle.std.proofs.lemmas.Bool.{eqb-true, eqb-false, eq-eqb, ne_eqb, cases_lt, lt-ltb, le-ltb}
-use Rattle.std.proofs.lemmas.List.{length-append, length-replicate, length-set, get_or-set_same, get_or-set_other}
+use Rattle.std.proofs.lemmas.List.{length-append, length-replicate, length-set}
 use Rattle.std.proofs.lemmas.List.{get_or-replicate}
-use Rattle.std.proofs.lemmas.List.Elements.{filter-append}
-use Rattle.std.proofs.lemmas.List.Folds.{position_or_len_push}
-use Rattle.std.proofs.lemmas.List.Sums.{prefix_len-le-length}
 use Rattle.gw_log.specs.declared.refusal.LogRefusal.{LogRefusal}
 use Rattle.gw_log.specs.declared.refusal.LogRefusal.TheVariants as refusal
 use Rattle.gw_log.specs.LogFrames.{refusal_number}
@@ -16,69 +11,17 @@ use Rattle.gw_table.specs.declared.table.Part.{Part}
 use Rattle.gw_table.specs.declared.table.Part.TheVariants.{Rule, Default, Other}
 use Rattle.gw_judge.specs.declared.fate.Fate.{Fate}
 use Rattle.gw_judge.specs.declared.fate.Fate.TheVariants.{Passed, Blocked, Silent, Refused}
-use Rattle.gw_judge.specs.declared.groups.Grouping.{Grouping}
 use Rattle.gw_judge.specs.declared.tally.Cause.{Cause}
 use Rattle.gw_judge.specs.declared.tally.Tally.{Tally}
-use Rattle.gw_judge.specs.Grouped.{Grouped, group_of, group_count, no_verdicts, no_groups}
+use Rattle.gw_judge.specs.Grouped.{Grouped, no_groups}
 use Rattle.gw_judge.specs.Fates.{is_passed, is_blocked, is_refused, decided_by}
-use Rattle.gw_judge.specs.Tallies.{up_to_most, count_of, number_at, first_of, counts_of, is_rule, is_default, is_other}
+use Rattle.gw_judge.specs.Tallies.{up_to_most, count_of, first_of, counts_of, is_rule, is_default, is_other}
 use Rattle.gw_judge.specs.Tallies.{cause_place, is_refused_for, cause_of, no_cause, IsTally}
-use Rattle.gw_judge.specs.Tallies.{is_passed_in, is_blocked_in, verdicts_of, IsGrouped}
-use Rattle.gw_judge.specs.Counting.{counts_with, verdicts_with, group_with, groups_with, no_tally, with_part, cause_with}
+use Rattle.gw_judge.specs.Tallies.{IsGrouped}
+use Rattle.gw_judge.specs.Counting.{counts_with, no_tally, with_part, cause_with}
 use Rattle.gw_judge.specs.Counting.{counted, tally_with}
-
-saturates : (n : ℕ) → up_to_most (n + 1) ≡ up_to_most (up_to_most n + 1)
-saturates n = omega arith
-
--- ---- a fate more that passes a test, or does not
-
-more_of : (test : Fate → Bool) (fates : List Fate) (f : Fate)
-    → length (filter test (fates ++ f ∷ [])) ≡ length (filter test fates) + (if test f then 1 else 0)
-more_of test fates f =
-    ap length (filter-append test fates (f ∷ [])) ∙ length-append (filter test fates) (filter test (f ∷ []))
-    ∙ ap (λ n. length (filter test fates) + n) (go (test f))
-  where
-    go : (b : Bool) → length (if b then f ∷ [] else []) ≡ (if b then 1 else 0)
-    go true = refl
-    go false = refl
-
-up_more : (b : Bool) (n : ℕ) → up_to_most (n + (if b then 1 else 0)) ≡ (if b then up_to_most (up_to_most n + 1) else up_to_most n)
-up_more true n = saturates n
-up_more false n = ap up_to_most (omega arith)
-
-count_more : (test : Fate → Bool) (fates : List Fate) (f : Fate)
-    → count_of test (fates ++ f ∷ []) ≡ (if test f then up_to_most (count_of test fates + 1) else count_of test fates)
-unfolding count_of
-count_more test fates f = ap up_to_most (more_of test fates f) ∙ up_more (test f) (length (filter test fates))
-
-first_step : (b : Bool) (at n : ℕ) → at ≤ n → number_at (cond (eqb at n) (n + cond b 0 1) at) (n + 1)
-    ≡ (if b then (if number_at at n == 0 then up_to_most (n + 1) else number_at at n) else number_at at n)
-first_step b at n within =
-    elim (cases_lt at n) [
-      | inl below ↦
-          let some : (up_to_most (at + 1) == 0) ≡ false = ne_eqb (up_to_most (at + 1)) 0 (λ e. omega arith) in
-          rw (ne_eqb at n (λ e. omega arith), lt-ltb at (n + 1) (omega arith), lt-ltb at n below, some)
-          (same b (up_to_most (at + 1)))
-      | inr above ↦
-          let at_end : at ≡ n = omega arith in
-          rw (at_end, eq-eqb n n refl, le-ltb n n (omega arith)) (last b n)
-    ]
-  where
-    same : (b : Bool) (k : ℕ) → k ≡ (if b then k else k)
-    same true k = refl
-    same false k = refl
-
-    last : (b : Bool) (n : ℕ) → number_at (n + cond b 0 1) (n + 1) ≡ (if b then up_to_most (n + 1) else 0)
-    last true n = rw (lt-ltb (n + 0) (n + 1) (omega arith)) (ap up_to_most (omega arith))
-    last false n = rw (le-ltb (n + 1) (n + 1) (omega arith)) refl
-
-first_more : (test : Fate → Bool) (fates : List Fate) (f : Fate) → first_of test (fates ++ f ∷ [])
-    ≡ (if test f then (if first_of test fates == 0 then up_to_most (length fates + 1) else first_of test fates)
-    else first_of test fates)
-unfolding first_of
-first_more test fates f =
-    rw (position_or_len_push test fates f, length-append fates (f ∷ []))
-    (first_step (test f) (position_or_len test fates) (length fates) (prefix_len-le-length (λ fate. not (test fate)) fates))
+use Rattle.gw_judge.proofs.OneMore.{saturates, count_more, first_more, get_set}
+use Rattle.gw_judge.proofs.CountedGroups.{groups_more, none_grouped, same_grouping}
 
 -- ---- the counts
 
@@ -105,18 +48,6 @@ counts_more fates (Refused why) =
     ) refl
 
 -- ---- the parts of a table
-
--- one element is replaced
-pub get_set : {A : Type 0} (xs : List A) (i j : ℕ) (g : A → A) (d : A) → j < length xs
-    → get_or (set xs i (g (get_or xs i d))) j d ≡ (if i == j then g (get_or xs j d) else get_or xs j d)
-get_set xs i j g d within = go (i == j) refl
-  where
-    go : (b : Bool) → (i == j) ≡ b
-        → get_or (set xs i (g (get_or xs i d))) j d ≡ (if b then g (get_or xs j d) else get_or xs j d)
-    go true same =
-        subst (λ k. get_or (set xs k (g (get_or xs k d))) j d ≡ g (get_or xs j d)) (sym (eqb-true i j same))
-        (get_or-set_same xs j (g (get_or xs j d)) d within)
-    go false other = get_or-set_other xs i j (g (get_or xs i d)) d (λ (e : j ≡ i). eqb-false i j other (sym e))
 
 record ArePartsTold (fates : List Fate) (t : Tally) : Type 0 where
   pub rules : length t.by_rule ≡ 256
@@ -232,98 +163,6 @@ causes_more fates cause causes number at h = record {
       (subst (λ len. cause_place why < len) (sym h.all) (place_below why))
       ∙ rw (h.by_cause why, at) (sym (cause_more why fates (Refused cause)));
 }
-
--- ---- the groups
-
--- a frame of a group passes or is blocked
-abbrev is_in : Grouping → ℕ → Fate → Bool
-is_in grouping group (Passed frame) = group_of grouping frame.word == group
-is_in grouping group (Blocked frame) = group_of grouping frame.word == group
-is_in grouping group Silent = false
-is_in grouping group (Refused why) = false
-
-verdicts_more : (grouping : Grouping) (group : ℕ) (fates : List Fate) (f : Fate) → verdicts_of grouping group (fates ++ f ∷ [])
-    ≡ (if is_in grouping group f then verdicts_with f (verdicts_of grouping group fates) else verdicts_of grouping group fates)
-verdicts_more grouping group fates (Passed frame) =
-    rw (
-      count_more (is_passed_in grouping group) fates (Passed frame),
-      count_more (is_blocked_in grouping group) fates (Passed frame),
-    ) (go (group_of grouping frame.word == group))
-  where
-    go : (b : Bool) → (record {
-      passed = if b then up_to_most (count_of (is_passed_in grouping group) fates + 1)
-          else count_of (is_passed_in grouping group) fates;
-      blocked = count_of (is_blocked_in grouping group) fates;
-    }) ≡ (if b then verdicts_with (Passed frame) (verdicts_of grouping group fates) else verdicts_of grouping group fates)
-    go true = refl
-    go false = refl
-verdicts_more grouping group fates (Blocked frame) =
-    rw (
-      count_more (is_passed_in grouping group) fates (Blocked frame),
-      count_more (is_blocked_in grouping group) fates (Blocked frame),
-    ) (go (group_of grouping frame.word == group))
-  where
-    go : (b : Bool) → (record {
-      passed = count_of (is_passed_in grouping group) fates;
-      blocked = if b then up_to_most (count_of (is_blocked_in grouping group) fates + 1)
-          else count_of (is_blocked_in grouping group) fates;
-    }) ≡ (if b then verdicts_with (Blocked frame) (verdicts_of grouping group fates) else verdicts_of grouping group fates)
-    go true = refl
-    go false = refl
-verdicts_more grouping group fates Silent =
-    rw (count_more (is_passed_in grouping group) fates Silent, count_more (is_blocked_in grouping group) fates Silent) refl
-verdicts_more grouping group fates (Refused why) =
-    rw (
-      count_more (is_passed_in grouping group) fates (Refused why),
-      count_more (is_blocked_in grouping group) fates (Refused why),
-    ) refl
-
--- a frame more in its group
-group_more : (fates : List Fate) (f : Fate) (groups : Grouped) (group : ℕ)
-    → ((other : ℕ) → is_in groups.grouping other f ≡ (group == other)) → IsGrouped fates groups
-    → IsGrouped (fates ++ f ∷ []) (group_with group f groups)
-group_more fates f groups group there h =
-    let set_length = length-set groups.verdicts group (verdicts_with f (get_or groups.verdicts group no_verdicts)) in
-    record {
-      all = set_length ∙ h.all;
-      each = λ other less.
-          get_set groups.verdicts group other (verdicts_with f) no_verdicts (subst (λ len. other < len) (sym h.all) less)
-          ∙ rw (h.each other less, sym (there other)) (sym (verdicts_more groups.grouping other fates f));
-    }
-
--- a line more that says no frame
-groups_same : (fates : List Fate) (f : Fate) (groups : Grouped) → ((other : ℕ) → is_in groups.grouping other f ≡ false)
-    → IsGrouped fates groups → IsGrouped (fates ++ f ∷ []) groups
-groups_same fates f groups none h = record {
-  all = h.all;
-  each = λ other less. h.each other less ∙ sym (verdicts_more groups.grouping other fates f
-      ∙ ap (λ b. if b then verdicts_with f (verdicts_of groups.grouping other fates) else verdicts_of groups.grouping other fates)
-      (none other));
-}
-
-groups_more : (fates : List Fate) (f : Fate) (groups : Grouped) → IsGrouped fates groups
-    → IsGrouped (fates ++ f ∷ []) (groups_with f groups)
-groups_more fates (Passed frame) groups h =
-    group_more fates (Passed frame) groups (group_of groups.grouping frame.word) (λ other. refl) h
-groups_more fates (Blocked frame) groups h =
-    group_more fates (Blocked frame) groups (group_of groups.grouping frame.word) (λ other. refl) h
-groups_more fates Silent groups h = groups_same fates Silent groups (λ other. refl) h
-groups_more fates (Refused why) groups h = groups_same fates (Refused why) groups (λ other. refl) h
-
--- no line
-none_grouped : (grouping : Grouping) → IsGrouped [] (no_groups grouping)
-unfolding count_of
-none_grouped grouping = record {
-  all = length-replicate (group_count grouping) no_verdicts;
-  each = λ group less. get_or-replicate (group_count grouping) group no_verdicts no_verdicts less;
-}
-
--- frames are grouped as before
-same_grouping : (f : Fate) (groups : Grouped) → (groups_with f groups).grouping ≡ groups.grouping
-same_grouping (Passed frame) groups = refl
-same_grouping (Blocked frame) groups = refl
-same_grouping Silent groups = refl
-same_grouping (Refused why) groups = refl
 
 -- ---- all of it
 

@@ -1,6 +1,8 @@
 pub mod Gathering
 pub mod Lines
 pub mod PartLengths
+mod OneMore
+mod CountedGroups
 pub mod Counting
 pub mod PartByPart
 pub mod Streams
