@@ -24,6 +24,6 @@ pub mod Indexed
 pub mod Universes
 pub mod Searched
 pub mod Witnessed
-pub mod Placed
+pub mod PartsAt
 pub mod Listing
 pub mod Asked

@@ -9,8 +9,8 @@ use Rattle.std.specs.List.{Any}
 use Rattle.gw_table.specs.declared.difference.Difference.{Difference}
 use Rattle.gw_table.specs.Table.{Meaning, table_passes}
 use Rattle.gw_table.specs.Difference.{IsUnlike, DecidePair, IsDifference, AreDifferences, AreAlike, rank, pair_rank}
-use Rattle.gw_table.specs.Places.{part_at, place_of, IsBefore, DecideAt, IsOfPlaces, IsOfEarlier, AreListed}
-use Rattle.gw_table.proofs.Placed.{rank_fits, rank_ascends, place_fits, decides_there}
+use Rattle.gw_table.specs.PartIndices.{part_at, index_of, IsBefore, DecideAt, IsOfIndices, IsOfEarlier, AreListed}
+use Rattle.gw_table.proofs.PartsAt.{rank_fits, rank_ascends, index_fits, decides_there}
 
 any_kept : {A : Type 0} (P : A → Type 0) (xs : List A) (y : A) → Any P xs → Any P (xs ++ y ∷ [])
 any_kept P xs y (k, x, below, here, holds) =
@@ -28,12 +28,12 @@ this_or_before i j a b (inr second) =
 
 module _ (old new : Meaning) (few_old : length old.rules ≤ 256) (few_new : length new.rules ≤ 256) where
   ranked : (a b : ℕ) (x y : Difference) → a < length old.rules + 2 → b < length new.rules + 2
-      → IsOfEarlier old new a b x → IsOfPlaces old new a b y → pair_rank x < pair_rank y
-  ranked a b x y fits_a fits_b earlier places =
-      let e : rank x.old ≡ rank (part_at (length old.rules) earlier.i) = ap rank earlier.places.first in
-      let f : rank x.new ≡ rank (part_at (length new.rules) earlier.j) = ap rank earlier.places.second in
-      let g : rank y.old ≡ rank (part_at (length old.rules) a) = ap rank places.first in
-      let h : rank y.new ≡ rank (part_at (length new.rules) b) = ap rank places.second in
+      → IsOfEarlier old new a b x → IsOfIndices old new a b y → pair_rank x < pair_rank y
+  ranked a b x y fits_a fits_b earlier indices =
+      let e : rank x.old ≡ rank (part_at (length old.rules) earlier.i) = ap rank earlier.indices.first in
+      let f : rank x.new ≡ rank (part_at (length new.rules) earlier.j) = ap rank earlier.indices.second in
+      let g : rank y.old ≡ rank (part_at (length old.rules) a) = ap rank indices.first in
+      let h : rank y.new ≡ rank (part_at (length new.rules) b) = ap rank indices.second in
       let fits = rank_fits (length new.rules) earlier.j few_new in
       elim earlier.before [
         | inl first ↦ (let ascends = rank_ascends (length old.rules) earlier.i a few_old first fits_a in
@@ -48,7 +48,7 @@ module _ (old new : Meaning) (few_old : length old.rules ≤ 256) (few_new : len
       → All (IsOfEarlier old new a b) found → All (IsOfEarlier old new c d) found
   all_later a b c d found later earlier k e inside =
       let at = earlier k e inside in
-      record { i = at.i; j = at.j; before = later at.i at.j at.before; places = at.places }
+      record { i = at.i; j = at.j; before = later at.i at.j at.before; indices = at.indices }
 
   to_next : (i j a b : ℕ) → IsBefore i j a b → IsBefore i j a (b + 1)
   to_next i j a b (inl first) = inl first
@@ -66,10 +66,10 @@ module _ (old new : Meaning) (few_old : length old.rules ≤ 256) (few_new : len
       ]
   from_row i j a b fits (inr second) = absurd (omega (arith, second.1))
 
-  this_or_sooner : (octets : List ℕ) (port a b : ℕ) → IsBefore (place_of old octets port) (place_of new octets port) a (b + 1)
-      → IsBefore (place_of old octets port) (place_of new octets port) a b
-      ⊎ ((place_of old octets port ≡ a) × (place_of new octets port ≡ b))
-  this_or_sooner octets port a b = this_or_before (place_of old octets port) (place_of new octets port) a b
+  this_or_sooner : (octets : List ℕ) (port a b : ℕ) → IsBefore (index_of old octets port) (index_of new octets port) a (b + 1)
+      → IsBefore (index_of old octets port) (index_of new octets port) a b
+      ⊎ ((index_of old octets port ≡ a) × (index_of new octets port ≡ b))
+  this_or_sooner octets port a b = this_or_before (index_of old octets port) (index_of new octets port) a b
 
   module _ (a b : ℕ) (fits_a : a < length old.rules + 2) (fits_b : b < length new.rules + 2) (found : List Difference)
       (listed : AreListed old new a b found) where
@@ -92,32 +92,32 @@ module _ (old new : Meaning) (few_old : length old.rules ≤ 256) (few_new : len
     }
 
     -- a pair with one
-    pub pushed : (d : Difference) → IsDifference old new d → IsOfPlaces old new a b d
+    pub pushed : (d : Difference) → IsDifference old new d → IsOfIndices old new a b d
         → AreListed old new a (b + 1) (found ++ d ∷ [])
-    pushed d is places = record {
+    pushed d is indices = record {
       sound = All-push (IsDifference old new) found d listed.sound is;
       complete = λ octets port unlike before. elim (this_or_sooner octets port a b before) [
         | inl sooner ↦ any_kept (λ e. DecidePair old new octets port e.old e.new) found d
             (listed.complete octets port unlike sooner)
         | inr same ↦ Any-push (λ e. DecidePair old new octets port e.old e.new) found d
-            (subst (λ p. DecidePair old new octets port p d.new) (sym places.first)
-            (subst (λ p. DecidePair old new octets port (part_at (length old.rules) a) p) (sym places.second)
+            (subst (λ p. DecidePair old new octets port p d.new) (sym indices.first)
+            (subst (λ p. DecidePair old new octets port (part_at (length old.rules) a) p) (sym indices.second)
             (decides_there old octets port a same.0, decides_there new octets port b same.1)))
       ];
       ascending = all_pairs_push (λ x y. pair_rank x < pair_rank y) found d listed.ascending
-          (λ k e inside. ranked a b (get_or found k e) d fits_a fits_b (listed.earlier k e inside) places);
+          (λ k e inside. ranked a b (get_or found k e) d fits_a fits_b (listed.earlier k e inside) indices);
       earlier = All-push (IsOfEarlier old new a (b + 1)) found d
           (all_later a b a (b + 1) found (λ i j. to_next i j a b) listed.earlier)
-          (record { i = a; j = b; before = inr (refl, omega arith); places = places });
+          (record { i = a; j = b; before = inr (refl, omega arith); indices = indices });
     }
 
-  -- all pairs of a first place
+  -- all pairs of a first index
   pub row_done : (a b : ℕ) (found : List Difference) → length new.rules + 2 ≤ b → AreListed old new a b found
       → AreListed old new (a + 1) 0 found
   row_done a b found past listed = record {
     sound = listed.sound;
-    complete = λ octets port unlike before. (let fits = place_fits new octets port in
-        listed.complete octets port unlike (from_row (place_of old octets port) (place_of new octets port) a b
+    complete = λ octets port unlike before. (let fits = index_fits new octets port in
+        listed.complete octets port unlike (from_row (index_of old octets port) (index_of new octets port) a b
         (omega (arith, past, fits)) before));
     ascending = listed.ascending;
     earlier = all_later a b (a + 1) 0 found (λ i j. to_next_row i j a b) listed.earlier;
@@ -127,7 +127,7 @@ pub all_listed : (old new : Meaning) (a : ℕ) (found : List Difference) → len
     → AreDifferences old new found
 all_listed old new a found past listed = record {
   sound = listed.sound;
-  complete = λ octets port unlike. (let fits = place_fits old octets port in
+  complete = λ octets port unlike. (let fits = index_fits old octets port in
       listed.complete octets port unlike (inl (omega (arith, past, fits))));
   ascending = listed.ascending;
 }

@@ -1,4 +1,4 @@
--- What the search for a point that the rules at two places decide rests on.
+-- What the search for a point that the rules at two indices decide rests on.
 use Rattle.std.proofs.Common.{◌≡◌, ℕ, zero, suc, ◌+◌, ◌<◌, ◌≤◌, Bool, true, false, ◌&&◌, ◌||◌, List, [], ◌∷◌, ◌++◌, length}
 use Rattle.std.proofs.Common.{Some, None, Option, refl, sym, ap, subst, ◌∙◌, arith, get_or}
 use Rattle.std.proofs.lemmas.Bool.{false≢true, and_parts}
@@ -17,17 +17,17 @@ and_true : (x : Bool) → x ≡ (x && true)
 and_true true = refl
 and_true false = refl
 
--- the part of a universe where the rule at a place holds
+-- the part of a universe where the rule at an index holds
 
-pub there : (u : Universe) (rules : List Rule) (place : ℕ) (rule : Rule) → slice_get rules place ≡ Some rule
+pub there : (u : Universe) (rules : List Rule) (index : ℕ) (rule : Rule) → slice_get rules index ≡ Some rule
     → (all one both : Block) → all ≡ whole u → one ≡ block_of u.pdu1 rule
     → ((p : Point) → holds p both ≡ (holds p all && holds p one))
-    → (p : Point) → holds p both ≡ (holds p (whole u) && holds_if_there u rules place p)
-there u rules place rule here all one both is_all is_one is_both p = rw here (is_both p ∙ (rw (is_all, is_one) refl))
+    → (p : Point) → holds p both ≡ (holds p (whole u) && holds_if_there u rules index p)
+there u rules index rule here all one both is_all is_one is_both p = rw here (is_both p ∙ (rw (is_all, is_one) refl))
 
-pub not_there : (u : Universe) (rules : List Rule) (place : ℕ) → slice_get rules place ≡ None → (all : Block) → all ≡ whole u
-    → (p : Point) → holds p all ≡ (holds p (whole u) && holds_if_there u rules place p)
-not_there u rules place none all is p = rw none (ap (holds p) is ∙ and_true (holds p (whole u)))
+pub not_there : (u : Universe) (rules : List Rule) (index : ℕ) → slice_get rules index ≡ None → (all : Block) → all ≡ whole u
+    → (p : Point) → holds p all ≡ (holds p (whole u) && holds_if_there u rules index p)
+not_there u rules index none all is p = rw none (ap (holds p) is ∙ and_true (holds p (whole u)))
 
 -- one rule more: a box without a point of the part changes nothing for a point of the part
 
@@ -70,44 +70,44 @@ outside_both p block part both is inside outside =
 
 -- a rule is the first that passes a test where it passes it, and none before it does
 
-pub record IsFirst {A : Type 0} (test : A → Bool) (xs : List A) (place : ℕ) : Type 0 where
-  pub before : list_any test (take place xs) ≡ false
-  pub here : option_map_or test (slice_get xs place) true ≡ true
+pub record IsFirst {A : Type 0} (test : A → Bool) (xs : List A) (index : ℕ) : Type 0 where
+  pub before : list_any test (take index xs) ≡ false
+  pub here : option_map_or test (slice_get xs index) true ≡ true
 
-first_is : {A : Type 0} (test : A → Bool) (xs : List A) (place : ℕ) → position_or_len test xs ≡ place → IsFirst test xs place
+first_is : {A : Type 0} (test : A → Bool) (xs : List A) (index : ℕ) → position_or_len test xs ≡ index → IsFirst test xs index
 first_is test [] zero is = record { before = refl; here = refl }
-first_is test [] (suc place) is = record { before = refl; here = refl }
+first_is test [] (suc index) is = record { before = refl; here = refl }
 first_is test (x ∷ xs) zero is = by (test x) refl
   where
     by : (b : Bool) → test x ≡ b → IsFirst test (x ∷ xs) zero
     by true e = record { before = refl; here = e }
     by false e =
         let next : position_or_len test (x ∷ xs) ≡ 1 + position_or_len test xs = rw e refl in absurd (omega (arith, next, is))
-first_is test (x ∷ xs) (suc place) is = by (test x) refl (first_is test xs place)
+first_is test (x ∷ xs) (suc index) is = by (test x) refl (first_is test xs index)
   where
-    by : (b : Bool) → test x ≡ b → (position_or_len test xs ≡ place → IsFirst test xs place) → IsFirst test (x ∷ xs) (suc place)
+    by : (b : Bool) → test x ≡ b → (position_or_len test xs ≡ index → IsFirst test xs index) → IsFirst test (x ∷ xs) (suc index)
     by true e later = let first : position_or_len test (x ∷ xs) ≡ 0 = rw e refl in absurd (omega (arith, first, is))
     by false e later =
         let next : position_or_len test (x ∷ xs) ≡ 1 + position_or_len test xs = rw e refl in
         let found = later (omega (arith, next, is)) in
         record { before = rw e found.before; here = found.here }
 
-is_first : {A : Type 0} (test : A → Bool) (xs : List A) (place : ℕ) → place ≤ length xs → IsFirst test xs place
-    → position_or_len test xs ≡ place
+is_first : {A : Type 0} (test : A → Bool) (xs : List A) (index : ℕ) → index ≤ length xs → IsFirst test xs index
+    → position_or_len test xs ≡ index
 is_first test [] zero fits first = refl
-is_first test [] (suc place) fits first = absurd (omega (arith, fits))
+is_first test [] (suc index) fits first = absurd (omega (arith, fits))
 is_first test (x ∷ xs) zero fits first = let e : test x ≡ true = first.here in rw e refl
-is_first test (x ∷ xs) (suc place) fits first = by (test x) refl (is_first test xs place (omega (arith, fits)))
+is_first test (x ∷ xs) (suc index) fits first = by (test x) refl (is_first test xs index (omega (arith, fits)))
   where
-    by : (b : Bool) → test x ≡ b → (IsFirst test xs place → position_or_len test xs ≡ place)
-        → position_or_len test (x ∷ xs) ≡ suc place
+    by : (b : Bool) → test x ≡ b → (IsFirst test xs index → position_or_len test xs ≡ index)
+        → position_or_len test (x ∷ xs) ≡ suc index
     by true e later =
-        let some : list_any test (take (suc place) (x ∷ xs)) ≡ true = rw e refl in
+        let some : list_any test (take (suc index) (x ∷ xs)) ≡ true = rw e refl in
         absurd (false≢true (sym first.before ∙ some))
     by false e later =
         let next : position_or_len test (x ∷ xs) ≡ 1 + position_or_len test xs = rw e refl in
-        let none : list_any test (take place xs) ≡ false =
-        subst (λ b. (b || list_any test (take place xs)) ≡ false) e first.before in
+        let none : list_any test (take index xs) ≡ false =
+        subst (λ b. (b || list_any test (take index xs)) ≡ false) e first.before in
         let there = later (record { before = none; here = first.here }) in
         omega (arith, next, there)
 
@@ -131,7 +131,7 @@ module _ (u : Universe) (old : List Rule) (a : ℕ) (new : List Rule) (b : ℕ) 
   pub none_there : ((p : Point) → holds p part ≡ false) → (p : Point) → IsDecidedAt u old a new b p → ⊥
   none_there none p at = false≢true (sym (none p) ∙ in_part p at)
 
-  -- the others have the points of the part that lie in the boxes of the rules before the two places
+  -- the others have the points of the part that lie in the boxes of the rules before the two indices
   abbrev pub AreBefore : List Block → Type 0
   AreBefore others =
       (p : Point) → holds p part ≡ true

@@ -8,16 +8,16 @@ use Rattle.gw_table.specs.declared.table.Rule.{Rule}
 use Rattle.gw_table.specs.declared.universe.Universe.{Universe}
 use Rattle.gw_table.specs.Table.{matches}
 use Rattle.gw_table.specs.Universes.{block_of, universe, whole, universe_at, lies_in_rule, IsDecidedAt, IsFrameAt}
-use Rattle.gw_table.specs.Places.{HoldFirst}
+use Rattle.gw_table.specs.PartIndices.{HoldFirst}
 use Rattle.gw_table.proofs.Universes.{PointOf, point_of, inside_of}
 
--- two tests that agree on each element find the same place
-place_alike : {A : Type 0} (test other : A → Bool) → ((x : A) → test x ≡ other x) → (xs : List A)
+-- two tests that agree on each element find the same index
+index_alike : {A : Type 0} (test other : A → Bool) → ((x : A) → test x ≡ other x) → (xs : List A)
     → position_or_len test xs ≡ position_or_len other xs
-place_alike test other same [] = refl
-place_alike test other same (x ∷ xs) =
+index_alike test other same [] = refl
+index_alike test other same (x ∷ xs) =
     let here = same x in
-    let later = place_alike test other same xs in
+    let later = index_alike test other same xs in
     rw (here, later) refl
 
 -- a point's port is one of a gateway
@@ -32,8 +32,8 @@ module _ (old : List Rule) (a : ℕ) (new : List Rule) (b : ℕ) where
     carried = frame.carried;
     extended = frame.extended;
     port_fits = port_inside u p at.inside;
-    first = place_alike (matches octets p.port) (lies_in_rule u p) frame.same old ∙ at.first;
-    second = place_alike (matches octets p.port) (lies_in_rule u p) frame.same new ∙ at.second;
+    first = index_alike (matches octets p.port) (lies_in_rule u p) frame.same old ∙ at.first;
+    second = index_alike (matches octets p.port) (lies_in_rule u p) frame.same new ∙ at.second;
   }
 
   -- where no universe has a point that is decided there, there is no frame
@@ -50,8 +50,8 @@ module _ (old : List Rule) (a : ℕ) (new : List Rule) (b : ℕ) where
           none number (omega (arith, all, below)) point.point
           (subst (λ v. IsDecidedAt v old a new b point.point) (sym is) (record {
             inside = inside;
-            first = place_alike (lies_in_rule u point.point) (matches octets port) (λ rule. sym (same rule)) old ∙ at.first;
-            second = place_alike (lies_in_rule u point.point) (matches octets port) (λ rule. sym (same rule)) new ∙ at.second;
+            first = index_alike (lies_in_rule u point.point) (matches octets port) (λ rule. sym (same rule)) old ∙ at.first;
+            second = index_alike (lies_in_rule u point.point) (matches octets port) (λ rule. sym (same rule)) new ∙ at.second;
           }))
 
       by : (pdu1 : Bool) → holds point.point (universe pdu1 point.page) ≡ true

@@ -1,7 +1,7 @@
 -- What callers may rest on: what a table passes and what decides it (Table), which rules can never decide (Dead), what two
 -- tables differ in (Difference), what a table does to the frames of a question (Question), what a text says as a table and why
 -- it is none (TableText), and the program that a table is compiled to (Emission). What only the index speaks of inside: RuleSets,
--- Sections and Index. What only differences and questions do: Places and Universes.
+-- Sections and Index. What only differences and questions do: PartIndices and Universes.
 pub mod Table
 pub mod Dead
 pub mod Difference
@@ -11,5 +11,5 @@ pub mod Emission
 pub mod RuleSets
 pub mod Sections
 pub mod Index
-pub mod Places
+pub mod PartIndices
 pub mod Universes

@@ -76,7 +76,7 @@ lies_in_rule u p rule = holds p (block_of u.pdu1 rule)
 abbrev pub first_holding : Universe → Point → List Rule → ℕ
 first_holding u p rules = position_or_len (lies_in_rule u p) rules
 
--- a point of the universe is decided at these places of two lists of rules
+-- a point of the universe is decided at these indices of two lists of rules
 pub record IsDecidedAt (u : Universe) (old : List Rule) (a : ℕ) (new : List Rule) (b : ℕ) (p : Point) : Type 0 where
   pub inside : holds p (whole u) ≡ true
   pub first : first_holding u p old ≡ a

@@ -3,7 +3,7 @@
 ghost use Rattle.std.specs.Prelude.{◌≡◌, ◌≢◌, ℕ, ◌+◌, ◌*◌, ◌<◌, ◌≤◌, ◌↔◌, List, [], length, All, Some, IfOk, OnOk, MatchOption};
 ghost use Rattle.gw_table.specs.Table.{Meaning, IsWellFormed, IsRule, action_of};
 ghost use Rattle.gw_table.specs.Difference.{AreDifferences, AreAlike, IsDifference, IsUnlike};
-ghost use Rattle.gw_table.specs.Places.{part_at, place_of, HoldFirst, DecideAt, IsOfPlaces, AreListed};
+ghost use Rattle.gw_table.specs.PartIndices.{part_at, index_of, HoldFirst, DecideAt, IsOfIndices, AreListed};
 
 use crate::search::common_frame;
 use crate::table::{Action, Part, Table};
@@ -40,37 +40,37 @@ impl Table {
         ensures alike { IfOk result (λ list. (list.items ≡ []) ↔ AreAlike self.now other.now) }
     {
         let mut found = Vec::new(alloc);
-        for place in 0..self.places() {
-            push_row(alloc, &mut found, self, place, other)?;
+        for index in 0..self.part_count() {
+            push_row(alloc, &mut found, self, index, other)?;
         }
         Ok(found)
     }
 
     /// How many parts the table has.
-    pub(crate) fn places(&self) -> usize
+    pub(crate) fn part_count(&self) -> usize
         ensures count { result ≡ length self.now.rules + 2 }
         ensures table { IsWellFormed self.now }
     {
         self.rules().len() + 2
     }
 
-    pub(crate) fn part_at(&self, place: usize) -> Part
-        ensures { result ≡ part_at (length self.now.rules) place }
+    pub(crate) fn part_at(&self, index: usize) -> Part
+        ensures { result ≡ part_at (length self.now.rules) index }
     {
         let rules = self.rules().len();
-        if place < rules {
-            Part::Rule(place)
-        } else if place == rules {
+        if index < rules {
+            Part::Rule(index)
+        } else if index == rules {
             Part::Default
         } else {
             Part::Other
         }
     }
 
-    pub(crate) fn action_at(&self, place: usize) -> Action
-        ensures { action_of self.now (part_at (length self.now.rules) place) ≡ Some result }
+    pub(crate) fn action_at(&self, index: usize) -> Action
+        ensures { action_of self.now (part_at (length self.now.rules) index) ≡ Some result }
     {
-        match self.part_at(place) {
+        match self.part_at(index) {
             Part::Rule(rule) => self.rules()[rule].action,
             Part::Default => self.default(),
             Part::Other => self.other(),
@@ -78,28 +78,28 @@ impl Table {
     }
 }
 
-/// Puts the differences of the part at a place of the old table and each part of the new one behind those found.
+/// Puts the differences of the part at an index of the old table and each part of the new one behind those found.
 fn push_row(
     alloc: Global,
     found: &mut Vec<Difference>,
     old: &Table,
-    place: usize,
+    index: usize,
     new: &Table,
 ) -> Result<(), AllocError>
     requires table { IsWellFormed old.now }
-    requires place { place < length old.now.rules + 2 }
-    requires before { AreListed old.now new.now place 0 found.old.items }
-    ensures { OnOk result (AreListed old.now new.now (place + 1) 0 found.new.items) }
+    requires index { index < length old.now.rules + 2 }
+    requires before { AreListed old.now new.now index 0 found.old.items }
+    ensures { OnOk result (AreListed old.now new.now (index + 1) 0 found.new.items) }
 {
-    for with in 0..new.places() {
-        if let Some(difference) = difference_at(alloc, old, place, new, with)? {
+    for with in 0..new.part_count() {
+        if let Some(difference) = difference_at(alloc, old, index, new, with)? {
             found.push(difference)?;
         }
     }
     Ok(())
 }
 
-/// A difference of the parts at a place of each table.
+/// A difference of the parts at an index of each table.
 fn difference_at(
     alloc: Global,
     old: &Table,
@@ -111,7 +111,7 @@ fn difference_at(
     requires b { b < length new.now.rules + 2 }
     ensures { IfOk result (λ found. MatchOption found
         ((octets : List ℕ) (port : ℕ) → IsUnlike old.now new.now octets port → ¬ DecideAt old.now a new.now b octets port)
-        (λ d. IsDifference old.now new.now d × IsOfPlaces old.now new.now a b d)) }
+        (λ d. IsDifference old.now new.now d × IsOfIndices old.now new.now a b d)) }
 {
     if old.action_at(a) == new.action_at(b) {
         return Ok(None);
@@ -127,7 +127,7 @@ fn difference_at(
     }))
 }
 
-/// A frame that the parts at a place of each table decide.
+/// A frame that the parts at an index of each table decide.
 fn witness_at(
     alloc: Global,
     old: &Table,

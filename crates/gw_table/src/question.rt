@@ -4,7 +4,7 @@ ghost use Rattle.std.specs.Prelude.{◌≡◌, ◌≢◌, ℕ, ◌+◌, ◌<◌,
 ghost use Rattle.gw_ident.specs.Identifier.{is_extended_data};
 ghost use Rattle.gw_frame.specs.Record.{word_of};
 ghost use Rattle.gw_table.specs.Table.{lies_in, matches, table_passes, Fits, IsRule};
-ghost use Rattle.gw_table.specs.Places.{place_of};
+ghost use Rattle.gw_table.specs.PartIndices.{index_of};
 ghost use Rattle.gw_table.specs.Question.{lies_in_given, is_asked, IsAsked, IsSample, IsAnswer};
 
 use crate::difference::Witness;
@@ -68,11 +68,11 @@ impl Table {
             ((octets : List ℕ) (port : ℕ) → IsAsked question.now octets port → table_passes self.now octets port ≢ passes)
             (IsSample self.now question.now passes)) }
     {
-        for place in 0..self.places() {
-            if self.action_at(place).passes() == passes {
-                if let Some(witness) = asked_at(alloc, self, place, question)? {
+        for index in 0..self.part_count() {
+            if self.action_at(index).passes() == passes {
+                if let Some(witness) = asked_at(alloc, self, index, question)? {
                     return Ok(Some(Sample {
-                        by: self.part_at(place),
+                        by: self.part_at(index),
                         frame: witness.frame,
                         port: witness.port,
                     }));
@@ -83,23 +83,23 @@ impl Table {
     }
 }
 
-/// A frame that is asked for and that the part at a place decides.
+/// A frame that is asked for and that the part at an index decides.
 fn asked_at(
     alloc: Global,
     table: &Table,
-    place: usize,
+    index: usize,
     question: &Question,
 ) -> Result<Option<Witness>, AllocError>
-    requires { place < length table.now.rules + 2 }
+    requires { index < length table.now.rules + 2 }
     ensures { IfOk result (λ found. MatchOption found
-        ((octets : List ℕ) (port : ℕ) → IsAsked question.now octets port → place_of table.now octets port ≢ place)
-        (λ w. IsAsked question.now w.frame w.port × (place_of table.now w.frame w.port ≡ place))) }
+        ((octets : List ℕ) (port : ℕ) → IsAsked question.now octets port → index_of table.now octets port ≢ index)
+        (λ w. IsAsked question.now w.frame w.port × (index_of table.now w.frame w.port ≡ index))) }
 {
-    if place > table.rules().len() {
+    if index > table.rules().len() {
         return Ok(question.short_witness());
     }
     match question.rule() {
-        Some(rule) => common_frame(alloc, &[rule], 0, table.rules(), place),
+        Some(rule) => common_frame(alloc, &[rule], 0, table.rules(), index),
         None => Ok(None),
     }
 }

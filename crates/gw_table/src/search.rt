@@ -1,11 +1,11 @@
-//! A search for a frame that the rules at two places decide.
+//! A search for a frame that the rules at two indices decide.
 
 ghost use Rattle.std.specs.Prelude.{◌≡◌, ℕ, ◌<◌, ◌≤◌, true, ◌&&◌, ◌||◌, List, length, All, IfOk, OnOk, MatchOption};
 ghost use Rattle.std.specs.List.{list_any};
 ghost use Rattle.gw_boxes.specs.Boxes.{holds};
 ghost use Rattle.gw_table.specs.Table.{IsRule};
 ghost use Rattle.gw_table.specs.Universes.{whole, lies_in_rule, holds_if_there, IsDecidedAt};
-ghost use Rattle.gw_table.specs.Places.{HoldFirst};
+ghost use Rattle.gw_table.specs.PartIndices.{HoldFirst};
 
 use crate::difference::Witness;
 use crate::table::Rule;
@@ -13,7 +13,7 @@ use crate::universe::{UNIVERSES, Universe};
 use gw_boxes::{Block, Point, free_point};
 use std::alloc::{AllocError, Global};
 
-/// An extended data frame of which the rules at a place of each list are the first to hold. A place that is the number of
+/// An extended data frame of which the rules at an index of each list are the first to hold. An index that is the number of
 /// rules stands for none.
 pub fn common_frame(
     alloc: Global,
@@ -69,13 +69,13 @@ impl Universe {
         Ok(free_point(part, &others))
     }
 
-    /// The box of the points whose frames the rule at a place holds of, and all points where there is no rule.
-    fn part_at(self, rules: &[Rule], place: usize) -> Block
+    /// The box of the points whose frames the rule at an index holds of, and all points where there is no rule.
+    fn part_at(self, rules: &[Rule], index: usize) -> Block
         requires page { self.page < 4 }
         requires rules { All IsRule rules.now }
-        ensures { (p : Point) → holds p result ≡ (holds p (whole self) && holds_if_there self rules.now place p) }
+        ensures { (p : Point) → holds p result ≡ (holds p (whole self) && holds_if_there self rules.now index p) }
     {
-        match rules.get(place) {
+        match rules.get(index) {
             Some(rule) => self.block().within(&self.block_of(rule)),
             None => self.block(),
         }

@@ -1,6 +1,6 @@
 use Rattle.std.proofs.Common.{rules, ◌≡◌, ◌≢◌}
-use Rattle.gw_table.specs.Places.{DecideAt, IsOfPlaces}
-use Rattle.gw_table.proofs.Placed.{alike_there, unlike_there}
+use Rattle.gw_table.specs.PartIndices.{DecideAt, IsOfIndices}
+use Rattle.gw_table.proofs.PartsAt.{alike_there, unlike_there}
 use Rattle.gw_table.proofs.difference.difference_at.Goals as goal
 
 pub returns-then-eq : goal.returns-then-eq
@@ -14,7 +14,7 @@ returns c =
     let apart : c.action_at.result ≢ c.action_at-2.result = search rules in
     let taken : DecideAt c.args.old.now c.args.a c.args.new.now c.args.b c.in-Some.witness.frame c.in-Some.witness.port =
     search rules in
-    let places : IsOfPlaces c.args.old.now c.args.new.now c.args.a c.args.b (record {
+    let indices : IsOfIndices c.args.old.now c.args.new.now c.args.a c.args.b (record {
       old = c.part_at.result;
       new = c.part_at-2.result;
       frame = c.in-Some.witness.frame;
@@ -26,6 +26,6 @@ returns c =
             new = c.part_at-2.result;
             frame = c.in-Some.witness.frame;
             port = c.in-Some.witness.port;
-          }) taken places,
-      places,
+          }) taken indices,
+      indices,
     )

@@ -1,5 +1,5 @@
 use Rattle.std.proofs.Common.{rules, ap, sym, ◌∙◌, ◌≡◌, length, nat_lt}
-use Rattle.gw_table.proofs.Placed.{other_in_both}
+use Rattle.gw_table.proofs.PartsAt.{other_in_both}
 use Rattle.gw_table.proofs.difference.witness_at.Goals as goal
 
 pub returns-then-is_other-b : goal.returns-then-is_other-b

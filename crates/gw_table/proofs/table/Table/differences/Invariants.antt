@@ -1,5 +1,5 @@
-use Rattle.gw_table.specs.Places.{AreListed}
+use Rattle.gw_table.specs.PartIndices.{AreListed}
 use Rattle.gw_table.proofs.table.Table.differences.Given as goal
 
-abbrev pub invariant-loop-place : goal.invariant-loop-place
-invariant-loop-place l = AreListed l.self l.other l.place 0 l.found.items
+abbrev pub invariant-loop-index : goal.invariant-loop-index
+invariant-loop-index l = AreListed l.self l.other l.index 0 l.found.items

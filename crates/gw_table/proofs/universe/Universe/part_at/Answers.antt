@@ -7,12 +7,12 @@ pub returns-in-Some : goal.returns-in-Some
 returns-in-Some c =
     let rules = c.args.rules.now in
     let found = c.in-Some.ensures.lookup in
-    let here = slice_get_read rules _ c.args.place c.in-Some.rule.now refl found.3.0 found.1 in
-    there c.args.self rules c.args.place c.in-Some.rule.now here c.block.result c.block_of.result c.within.result c.block.ensures
+    let here = slice_get_read rules _ c.args.index c.in-Some.rule.now refl found.3.0 found.1 in
+    there c.args.self rules c.args.index c.in-Some.rule.now here c.block.result c.block_of.result c.within.result c.block.ensures
     c.block_of.ensures c.within.ensures
 
 pub returns-in-None : goal.returns-in-None
 returns-in-None c =
     let rules = c.args.rules.now in
-    let none = slice_get_past rules c.args.place (omega (arith, c.in-None.ensures.lookup)) in
-    not_there c.args.self rules c.args.place none c.block-in-None.result c.block-in-None.ensures
+    let none = slice_get_past rules c.args.index (omega (arith, c.in-None.ensures.lookup)) in
+    not_there c.args.self rules c.args.index none c.block-in-None.result c.block-in-None.ensures

@@ -1,4 +1,4 @@
--- Places of a table: the numbers of its rules, then that of `default`, then that of `other`.
+-- Indices of a table: the numbers of its rules, then that of `default`, then that of `other`.
 use Rattle.std.specs.Prelude.{◌≡◌, ℕ, ◌+◌, ◌<◌, ◌⊎◌, ◌==◌, true, nat_lt, if◌then◌else◌, List, length, All}
 use Rattle.std.specs.List.{Any, AllPairs, position_or_len}
 use Rattle.gw_ident.specs.Identifier.{is_extended_data}
@@ -11,15 +11,15 @@ use Rattle.gw_table.specs.Table.{Meaning, matches}
 use Rattle.gw_table.specs.Difference.{IsCarried, IsUnlike, DecidePair, IsDifference, pair_rank}
 
 abbrev pub part_at : ℕ → ℕ → Part
-part_at rules place =
-    if nat_lt place rules then part.Rule place else if place == rules then part.Default else part.Other
+part_at rules index =
+    if nat_lt index rules then part.Rule index else if index == rules then part.Default else part.Other
 
--- the place of the part that decides a frame
-abbrev pub place_of : Meaning → List ℕ → ℕ → ℕ
-place_of table octets port =
+-- the index of the part that decides a frame
+abbrev pub index_of : Meaning → List ℕ → ℕ → ℕ
+index_of table octets port =
     if is_extended_data (word_of octets) then position_or_len (matches octets port) table.rules else length table.rules + 1
 
--- an extended data frame that the rules at these places decide, or no rule where the place is the number of rules
+-- an extended data frame that the rules at these indices decide, or no rule where the index is the number of rules
 pub record HoldFirst (old : List Rule) (a : ℕ) (new : List Rule) (b : ℕ) (octets : List ℕ) (port : ℕ) : Type 0 where
   pub carried : IsRecord octets
   pub extended : is_extended_data (word_of octets) ≡ true
@@ -27,34 +27,34 @@ pub record HoldFirst (old : List Rule) (a : ℕ) (new : List Rule) (b : ℕ) (oc
   pub first : position_or_len (matches octets port) old ≡ a
   pub second : position_or_len (matches octets port) new ≡ b
 
--- a carried frame that the parts at these places decide
+-- a carried frame that the parts at these indices decide
 pub record DecideAt (old : Meaning) (a : ℕ) (new : Meaning) (b : ℕ) (octets : List ℕ) (port : ℕ) : Type 0 where
   pub carried : IsCarried octets
   pub port_fits : port < 16
-  pub first : place_of old octets port ≡ a
-  pub second : place_of new octets port ≡ b
+  pub first : index_of old octets port ≡ a
+  pub second : index_of new octets port ≡ b
 
--- pairs of places are in the order of their first places, and then of their second
+-- pairs of indices are in the order of their first indices, and then of their second
 abbrev pub IsBefore : ℕ → ℕ → ℕ → ℕ → Type 0
 IsBefore i j a b = (i < a) ⊎ ((i ≡ a) × (j < b))
 
--- a difference of the parts at two places
-pub record IsOfPlaces (old new : Meaning) (a b : ℕ) (found : Difference) : Type 0 where
+-- a difference of the parts at two indices
+pub record IsOfIndices (old new : Meaning) (a b : ℕ) (found : Difference) : Type 0 where
   pub first : found.old ≡ part_at (length old.rules) a
   pub second : found.new ≡ part_at (length new.rules) b
 
--- a difference of a pair of places before this one
+-- a difference of a pair of indices before this one
 pub record IsOfEarlier (old new : Meaning) (a b : ℕ) (found : Difference) : Type 0 where
   pub i : ℕ
   pub j : ℕ
   pub before : IsBefore i j a b
-  pub places : IsOfPlaces old new i j found
+  pub indices : IsOfIndices old new i j found
 
--- the differences of the pairs of places before this one, in ascending order
+-- the differences of the pairs of indices before this one, in ascending order
 pub record AreListed (old new : Meaning) (a b : ℕ) (found : List Difference) : Type 0 where
   pub sound : All (IsDifference old new) found
   pub complete : (octets : List ℕ) (port : ℕ) → IsUnlike old new octets port
-      → IsBefore (place_of old octets port) (place_of new octets port) a b
+      → IsBefore (index_of old octets port) (index_of new octets port) a b
       → Any (λ d. DecidePair old new octets port d.old d.new) found
   pub ascending : AllPairs (λ x y. pair_rank x < pair_rank y) found
   pub earlier : All (IsOfEarlier old new a b) found
