@@ -10,7 +10,7 @@ use crate::programs::{
 };
 use crate::runs::{make_threads, make_threads_from};
 use crate::tables::{
-    make_absorb, make_compile, make_differences, make_from_table, make_read_table,
+    make_absorb, make_answers, make_compile, make_differences, make_from_table, make_read_table,
 };
 use crate::traces::{make_feed, make_frames};
 use std::alloc::Global;
@@ -44,6 +44,8 @@ pub enum Call {
     Compile,
     /// `Table::differences`.
     Differences,
+    /// `Table::answers`.
+    Answers,
     /// `Policy::from_table`.
     FromTable,
     /// `PolicySet::absorb`, which copies an `Arc` and so takes no memory of the allocator.
@@ -76,7 +78,7 @@ pub enum Call {
 
 impl Call {
     /// Every call.
-    pub const ALL: [Call; 25] = [
+    pub const ALL: [Call; 26] = [
         Call::ReadListing,
         Call::ReadCutListing,
         Call::WriteListing,
@@ -88,6 +90,7 @@ impl Call {
         Call::ReadTable,
         Call::Compile,
         Call::Differences,
+        Call::Answers,
         Call::FromTable,
         Call::Absorb,
         Call::NewCore,
@@ -118,6 +121,7 @@ impl Call {
             Call::ReadTable => "read_table",
             Call::Compile => "compile",
             Call::Differences => "differences",
+            Call::Answers => "answers",
             Call::FromTable => "from_table",
             Call::Absorb => "absorb",
             Call::NewCore => "core_new",
@@ -159,6 +163,7 @@ impl Call {
             Call::ReadTable => make_read_table(alloc, output),
             Call::Compile => make_compile(alloc, output),
             Call::Differences => make_differences(alloc, output),
+            Call::Answers => make_answers(alloc, output),
             Call::FromTable => make_from_table(alloc, output),
             Call::Absorb => make_absorb(alloc, output),
             Call::NewCore => make_core(alloc, output),

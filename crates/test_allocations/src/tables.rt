@@ -5,7 +5,7 @@ use crate::fault::Fault;
 use crate::inputs::{ENGINE_SPEED, PASS, PORT, batch_of, say_ready};
 use gw_frame::Frame;
 use gw_policy::{Policy, PolicySet};
-use gw_table::{Table, compile};
+use gw_table::{Answer as Answered, Question, Span, Table, compile};
 use std::alloc::Global;
 use std::io::Write;
 
@@ -100,6 +100,33 @@ pub fn make_differences<W: Write>(alloc: Global, output: &mut W) -> Result<Answe
         Ok(found) => Answer::Count(found.len(), "differences"),
         Err(_) => Answer::OUT_OF_MEMORY,
     })
+}
+
+pub fn make_answers<W: Write>(alloc: Global, output: &mut W) -> Result<Answer, Fault> {
+    let table = Table::read(alloc, TABLE).map_err(|_| Fault::Unprepared)?;
+    let of_group = Question {
+        pgn: Some(Span {
+            low: 61184,
+            high: 61184,
+        }),
+        source: None,
+        destination: None,
+        from: None,
+    };
+    say_ready(output)?;
+    Ok(match table.answers(alloc, &of_group) {
+        Ok(found) => Answer::Count(samples_of(&found), "samples"),
+        Err(_) => Answer::OUT_OF_MEMORY,
+    })
+}
+
+/// How many frames an answer shows.
+fn samples_of(found: &Answered) -> usize {
+    match found {
+        Answered::SomePass { .. } => 2,
+        Answered::AllPass(_) | Answered::NonePass(_) => 1,
+        Answered::NoFrame => 0,
+    }
 }
 
 pub fn make_from_table<W: Write>(alloc: Global, output: &mut W) -> Result<Answer, Fault> {
