@@ -68,6 +68,13 @@ impl Core {
         }
     }
 
+    /// The limits that it was made with.
+    pub fn limits(&self) -> Limits
+        ensures { result ≡ self.now.limits }
+    {
+        self.limits
+    }
+
     /// Does one event, or refuses it (72 to 76, the first that holds) and changes nothing. It takes no memory. A refused
     /// batch is dropped. A frame that the event finishes was forwarded, and an instruction that it makes is a safe one.
     // Inlined, so that a caller that names the event builds none: an `Event` has room for a batch of sixteen pairs.
