@@ -24,14 +24,14 @@ use Rattle.gw_core.specs.Gateway.{Gateway, IsGateway, StandsAt, Stands, WorkerAt
 use Rattle.gw_core.proofs.Gateways.{get_set_same, get_set_other, length_set, same_some, accepts, refuses, set_same, with_worker}
 
 -- the history of a port after an event of it, and of another
-history_here : (p : ℕ) (done : List Event) → history_of p (Step p ∷ done) ≡ step_made ∷ history_of p done
+pub history_here : (p : ℕ) (done : List Event) → history_of p (Step p ∷ done) ≡ step_made ∷ history_of p done
 history_here p done = let e : eqb p p ≡ true = grind (arith, nat_tests) in rw e
 
-history_there : (p q : ℕ) (done : List Event) → p ≢ q → history_of p (Step q ∷ done) ≡ history_of p done
+pub history_there : (p q : ℕ) (done : List Event) → p ≢ q → history_of p (Step q ∷ done) ≡ history_of p done
 history_there p q done ne = let e : eqb p q ≡ false = grind (arith, nat_tests) in rw e
 
 -- a step of a port's worker sends nothing
-sent_same : (limits : Bounds) (p q r : ℕ) (done : List Event) → sent_after limits p q (Step r ∷ done) ≡ sent_after limits p q done
+pub sent_same : (limits : Bounds) (p q r : ℕ) (done : List Event) → sent_after limits p q (Step r ∷ done) ≡ sent_after limits p q done
 sent_same limits p q r done = go (eqb p r)
   where
     go : (b : Bool) → (lane_after (ingress_of limits p) q (cons_option (cond b (Some step_made) None) (history_of p done))).sent

@@ -24,13 +24,13 @@ use Rattle.gw_core.specs.Gateway.{Gateway, IsGateway, StandsAt, Stands, CoreAnsw
 use Rattle.gw_core.proofs.Gateways.{front_of, accepts, refuses, set_same, with_worker, batches_of_port, stands_at}
 
 -- a taking is an event of its own port alone, and sends nothing
-take_here : (p : ℕ) (frame : List ℕ) → at_port p (Take p frame) ≡ Some (frame_taken frame)
+pub take_here : (p : ℕ) (frame : List ℕ) → at_port p (Take p frame) ≡ Some (frame_taken frame)
 take_here p frame = let e : eqb p p ≡ true = grind (arith, nat_tests) in rw e
 
-take_there : (p q : ℕ) (frame : List ℕ) → q ≢ p → at_port q (Take p frame) ≡ None
+pub take_there : (p q : ℕ) (frame : List ℕ) → q ≢ p → at_port q (Take p frame) ≡ None
 take_there p q frame ne = let e : eqb q p ≡ false = grind (arith, nat_tests) in rw e
 
-take_sent : (limits : Bounds) (r q p : ℕ) (frame : List ℕ) (done : List Event)
+pub take_sent : (limits : Bounds) (r q p : ℕ) (frame : List ℕ) (done : List Event)
     → sent_after limits r q (Take p frame ∷ done) ≡ sent_after limits r q done
 take_sent limits r q p frame done = go (eqb r p)
   where
@@ -46,7 +46,7 @@ TakesAs w given w2 frame latest front = (all : List (List Pair)) (done : List Po
     → AnswersTake all w given w2 done frame
 
 -- the taking of a record at a port that is there is an event
-taken_event : (c : Gateway) (done : List Event) (p : ℕ) (frame : List ℕ) → StandsAt c done → p < c.limits.ports → IsRecord frame
+pub taken_event : (c : Gateway) (done : List Event) (p : ℕ) (frame : List ℕ) → StandsAt c done → p < c.limits.ports → IsRecord frame
     → IsEvent (Take p frame)
 taken_event c done p frame s within is_record = let most = s.limits.most_ports in (is_record, omega arith)
 

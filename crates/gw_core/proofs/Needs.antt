@@ -41,7 +41,7 @@ length-work ingress t = go t.local
     go false = length-work_of ingress t (offered_from ingress 0)
 
 -- what is left is as long as the need without the steps made
-left_in : (ingress : Ingress) (own : List PortEvent) (t : Taking) → last_taking own ≡ Some t
+pub left_in : (ingress : Ingress) (own : List PortEvent) (t : Taking) → last_taking own ≡ Some t
     → length (work_left ingress own) ≡ need ingress t - steps_since own
 left_in ingress own t e =
     let left : work_left ingress own ≡ drop (steps_since own) (work ingress t) = rw e refl in

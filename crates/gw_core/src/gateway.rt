@@ -5,6 +5,7 @@ ghost use Rattle.gw_core.specs.Gateway.{Stands, CoreAnswers};
 ghost use Rattle.gw_core.specs.Events.{accepted, ledger_after, waiting_after, sent_after};
 ghost use Rattle.gw_core.specs.Headline.{Forwards};
 ghost use Rattle.gw_core.specs.Safety.{StepsInside};
+ghost use Rattle.gw_core.specs.Forwarding.{CoreForwards, ForwardsFrame, forwarded};
 ghost use Rattle.gw_core.specs.declared.event.Event.{Event};
 
 use crate::active::{PairIndex, PairIndices};
@@ -13,7 +14,7 @@ use crate::laws::{finished_frames_were_forwarded, steps_are_safe};
 use crate::refusal::OutOfMemory;
 use crate::worker::Worker;
 use gw_frame::Frame;
-use gw_ledger::{InLedger, Limits, MAX_PORTS, OutLedger};
+use gw_ledger::{InLedger, Limits, MAX_PORTS, OutLedger, Outcome};
 use gw_policy::Batch;
 use std::alloc::{AllocError, Global};
 use std::marker::Model;
@@ -125,6 +126,30 @@ impl Core {
         let _record = frame.bytes();
         let front = self.batches.len() as u32;
         self.workers[usize::from(port)].take(frame, &self.latest, front)
+    }
+
+    /// Takes a frame and makes all of its steps: what `event` does by `Take` and by `Step` until the frame is finished. It is
+    /// refused as the taking is, and changes nothing then. It takes no memory.
+    pub fn forward(&mut self, port: u8, frame: Frame) -> Result<Outcome, EventRefusal>
+        ensures answers { (history : List Event) → Stands self.old history
+            → CoreForwards self.old history port frame result self.new }
+        ensures headline { (history : List Event) → Stands self.old history
+            → IfOk result (λ outcome. ForwardsFrame self.old.limits history port frame outcome) }
+        ensures safe { (history : List Event) (n : ℕ) → Stands self.old history
+            → StepsInside self.old.limits (forwarded n port frame history) (Event.Step port) }
+        ensures refused { OnErr result (self.new ≡ self.old) }
+        ensures limits { self.new.limits ≡ self.old.limits }
+    {
+        // `headline` and `safe` rest on these laws, which do nothing when run.
+        finished_frames_were_forwarded();
+        steps_are_safe();
+        // A frame's octets are a record.
+        let _record = frame.bytes();
+        if u32::from(port) >= self.limits.ports() {
+            return Err(EventRefusal::NoSuchPort);
+        }
+        let front = self.batches.len() as u32;
+        self.workers[usize::from(port)].forward(&self.batches, frame, &self.latest, front)
     }
 
     fn send(&mut self, to: u8, from: u8) -> Result<Answer, EventRefusal>

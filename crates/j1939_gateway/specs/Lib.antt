@@ -4,6 +4,7 @@ pub use Rattle.gw_board.specs.Lists
 pub use Rattle.gw_board.specs.Refusals as BoardRefusals
 pub use Rattle.gw_claims.specs.Holders
 pub use Rattle.gw_core.specs.Events as CoreEvents
+pub use Rattle.gw_core.specs.Forwarding as CoreForwarding
 pub use Rattle.gw_core.specs.Headline
 pub use Rattle.gw_core.specs.Runs as CoreRuns
 pub use Rattle.gw_core.specs.Safety

@@ -1,0 +1,87 @@
+-- What becomes of a frame that is taken and makes all of its steps in one call. A history has the newest event first.
+use Rattle.std.specs.Prelude.{◌≡◌, ℕ, zero, suc, ◌<◌, true, false, List, [], ◌∷◌, ◌++◌, replicate, length}
+use Rattle.std.specs.Prelude.{Option, Some, None, Result, Ok, Err}
+use Rattle.gw_policy.specs.Batches.{Pair}
+use Rattle.gw_ledger.specs.Bounds.{Bounds}
+use Rattle.gw_ledger.specs.declared.outcome.Outcome.{Outcome}
+use Rattle.gw_core.specs.PortHistory.{PortEvent, frame_taken, step_made, batches, Ingress, ingress_of, is_unfinished}
+use Rattle.gw_core.specs.Events.{history_of, accepted, reply, take_refusal, take_answer, step_answer}
+use Rattle.gw_core.specs.Standing.{Worker, WorkerStands, AreFound, ingress}
+use Rattle.gw_core.specs.Gateway.{Gateway, Stands}
+use Rattle.gw_core.specs.Headline.{WasForwarded}
+use Rattle.gw_core.specs.declared.active.PairIndex.{PairIndex}
+use Rattle.gw_core.specs.declared.event.Event.{Event}
+use Rattle.gw_core.specs.declared.event.Event.TheVariants.{Take, Step}
+use Rattle.gw_core.specs.declared.event.Answer.{Answer}
+use Rattle.gw_core.specs.declared.event.Answer.TheVariants.{Taken, Finished}
+use Rattle.gw_core.specs.declared.event.EventRefusal.{EventRefusal}
+
+-- a history once a frame was taken at a port, and so many steps were made there
+abbrev pub forwarded : ℕ → ℕ → List ℕ → List Event → List Event
+forwarded n p frame history = replicate n (Step p) ++ Take p frame ∷ history
+
+-- the last of so many steps tells what became of the frame; a frame that needs none is local, and goes nowhere
+abbrev pub LastTells : Bounds → List Event → ℕ → List ℕ → ℕ → Outcome → Type 0
+LastTells limits history p frame zero o = (o.local ≡ true) × (o.allowed ≡ []) × (o.placed ≡ [])
+LastTells limits history p frame (suc n) o = reply limits (forwarded n p frame history) (Step p) ≡ Ok (Finished o)
+
+-- A frame is taken at a port after a history, and makes so many steps, which are accepted: as many as it needs and no more, since
+-- it is unfinished before each of them and finished after them. The taking and the last step tell its outcome.
+pub record IsForwarded (limits : Bounds) (history : List Event) (p : ℕ) (frame : List ℕ) (n : ℕ) (o : Outcome) : Type 0 where
+  pub taken : reply limits history (Take p frame) ≡ Ok (Taken o.number o.front o.local)
+  pub events : accepted limits (forwarded n p frame history) ≡ forwarded n p frame (accepted limits history)
+  pub unfinished : (k : ℕ) → k < n
+      → is_unfinished (ingress_of limits p) (history_of p (forwarded k p frame (accepted limits history))) ≡ true
+  pub finished : is_unfinished (ingress_of limits p) (history_of p (forwarded n p frame (accepted limits history))) ≡ false
+  pub told : LastTells limits history p frame n o
+
+-- a frame that may not be taken after a history is refused as its taking is; another makes all of its steps
+abbrev pub CoreForwards : Gateway → List Event → ℕ → List ℕ → Result Outcome EventRefusal → Gateway → Type 0
+CoreForwards old history p frame (Err why) new = reply old.limits history (Take p frame) ≡ Err why
+CoreForwards old history p frame (Ok o) new =
+    (n : ℕ) × IsForwarded old.limits history p frame n o × Stands new (forwarded n p frame history)
+
+-- a frame that is not local was forwarded by its last step
+abbrev pub ForwardsFrame : Bounds → List Event → ℕ → List ℕ → Outcome → Type 0
+ForwardsFrame limits history p frame o =
+    o.local ≡ false → (n : ℕ) × WasForwarded limits (forwarded n p frame (accepted limits history)) p o
+
+-- the same of one port: its history once it took a frame and made so many steps
+abbrev pub port_forwarded : ℕ → List ℕ → List PortEvent → List PortEvent
+port_forwarded n frame done = replicate n step_made ++ frame_taken frame ∷ done
+
+abbrev pub LastAnswers : Ingress → List PortEvent → List ℕ → ℕ → Outcome → Type 0
+LastAnswers ingress done frame zero o = (o.local ≡ true) × (o.allowed ≡ []) × (o.placed ≡ [])
+LastAnswers ingress done frame (suc n) o = step_answer ingress (port_forwarded n frame done) ≡ Finished o
+
+pub record PortForwards (ingress : Ingress) (done : List PortEvent) (frame : List ℕ) (n : ℕ) (o : Outcome) : Type 0 where
+  pub taken : take_answer done frame ≡ Taken o.number o.front o.local
+  pub unfinished : (k : ℕ) → k < n → is_unfinished ingress (port_forwarded k frame done) ≡ true
+  pub finished : is_unfinished ingress (port_forwarded n frame done) ≡ false
+  pub told : LastAnswers ingress done frame n o
+
+-- what a worker makes of a frame in one call, after a history of its port
+abbrev pub AnswersForward : List (List Pair) → Worker → Result Outcome EventRefusal → Worker → List PortEvent → List ℕ → Type 0
+AnswersForward all old (Err why) new done frame = (take_refusal old.limits (ingress old) done ≡ Some why) × (new ≡ old)
+AnswersForward all old (Ok o) new done frame =
+    (take_refusal old.limits (ingress old) done ≡ None)
+    × ((n : ℕ) × PortForwards (ingress old) done frame n o × WorkerStands all new (port_forwarded n frame done))
+
+-- some history leads to the worker, after which the policies in force are found where the indices say, and so many batches are
+-- published
+pub record CanForward (all : List (List Pair)) (w : Worker) (indices : List (Option PairIndex)) (front : ℕ) : Type 0 where
+  pub done : List PortEvent
+  pub stands : WorkerStands all w done
+  pub found : AreFound all indices (batches done)
+  pub published : front ≡ length (batches done)
+
+-- the frame that a worker holds after a history makes so many steps and one more, which is its last
+pub record FinishesBy (all : List (List Pair)) (old : Worker) (o : Outcome) (new : Worker) (done : List PortEvent) (n : ℕ) : Type 0
+  where
+    pub unfinished : (k : ℕ) → k < suc n → is_unfinished (ingress old) (replicate k step_made ++ done) ≡ true
+    pub told : step_answer (ingress old) (replicate n step_made ++ done) ≡ Finished o
+    pub stands : WorkerStands all new (replicate (suc n) step_made ++ done)
+
+-- the answer tells of no finished frame
+abbrev pub TellsNoEnd : Result Answer EventRefusal → Type 0
+TellsNoEnd answer = (o : Outcome) → answer ≡ Ok (Finished o) → ⊥
