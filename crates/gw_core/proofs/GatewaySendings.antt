@@ -106,7 +106,7 @@ stands_sent c done to from w w2 o o2 copy s at out lt own is first counts =
         (old.0, λ r. old.1 r ∙ ap (λ n. min n (2 ^ 64 - 1)) (sym (sent_there c.limits to from r q done (λ z. other))))
 
 -- a sending is not refused
-send_allowed : (limits : Bounds) (done : List Event) (to from : ℕ) → to < limits.ports → from < limits.ports → to ≢ from
+pub send_allowed : (limits : Bounds) (done : List Event) (to from : ℕ) → to < limits.ports → from < limits.ports → to ≢ from
     → refusal limits done (Send to from) ≡ None
 send_allowed limits done to from lt own other =
     let a : leb limits.ports to ≡ false = grind (arith, nat_tests) in

@@ -1,11 +1,12 @@
 //! The event machine.
 
-ghost use Rattle.std.specs.Prelude.{◌≡◌, ℕ, ◌<◌, ◌≤◌, List, [], ◌∷◌, length, IfOk, IfErr, OnErr, slice_index};
+ghost use Rattle.std.specs.Prelude.{◌≡◌, ℕ, ◌<◌, ◌≤◌, List, [], ◌∷◌, length, IfOk, IfErr, OnErr, IfSome, slice_index, replicate, IsTrue, ◌↔◌};
 ghost use Rattle.gw_core.specs.Gateway.{Stands, CoreAnswers};
 ghost use Rattle.gw_core.specs.Events.{accepted, ledger_after, waiting_after, sent_after};
 ghost use Rattle.gw_core.specs.Headline.{Forwards};
 ghost use Rattle.gw_core.specs.Safety.{StepsInside};
 ghost use Rattle.gw_core.specs.Forwarding.{CoreForwards, ForwardsFrame, forwarded};
+ghost use Rattle.gw_core.specs.Circle.{SendsNext, PeeksNext, FindsSource, FindsFirst, Waits};
 ghost use Rattle.gw_core.specs.declared.event.Event.{Event};
 
 use crate::active::{PairIndex, PairIndices};
@@ -14,7 +15,7 @@ use crate::laws::{finished_frames_were_forwarded, steps_are_safe};
 use crate::refusal::OutOfMemory;
 use crate::worker::Worker;
 use gw_frame::Frame;
-use gw_ledger::{InLedger, Limits, MAX_PORTS, OutLedger, Outcome};
+use gw_ledger::{FrameCopy, InLedger, Limits, MAX_PORTS, OutLedger, Outcome};
 use gw_policy::Batch;
 use std::alloc::{AllocError, Global};
 use std::marker::Model;
@@ -29,6 +30,8 @@ pub struct Core {
     latest: PairIndices,
     workers: Vec<Worker>,
     outs: Vec<OutLedger>,
+    // for each egress port the ingress port that `next` looks at first
+    turns: [u8; MAX_PORTS],
 }
 
 impl Model for Core {
@@ -44,6 +47,7 @@ impl Model for Core {
       latest = c.latest;
       workers = c.workers.items;
       outs = c.outs.items;
+      turns = c.turns;
     } };
 
     ghost invariant = { λ c. (c.limits.versions ≤ vec_capacity c.batches)
@@ -53,6 +57,7 @@ impl Model for Core {
           latest = c.latest;
           workers = c.workers.items;
           outs = c.outs.items;
+          turns = c.turns;
         }) };
 }
 
@@ -62,6 +67,7 @@ impl Core {
     pub fn new(alloc: Global, limits: Limits) -> Result<Core, OutOfMemory>
         ensures limits { IfOk result (λ core. core.limits ≡ limits) }
         ensures stands { IfOk result (λ core. Stands core []) }
+        ensures turns { IfOk result (λ core. core.turns ≡ replicate 16 0) }
     {
         match parts(alloc, limits) {
             Ok(core) => Ok(core),
@@ -88,6 +94,7 @@ impl Core {
         ensures safe { (history : List Event) → Stands self.old history → StepsInside self.old.limits history event }
         ensures refused { OnErr result (self.new ≡ self.old) }
         ensures limits { self.new.limits ≡ self.old.limits }
+        ensures turns { self.new.turns ≡ self.old.turns }
     {
         // `headline` and `safe` rest on these laws, which do nothing when run.
         finished_frames_were_forwarded();
@@ -106,6 +113,7 @@ impl Core {
             → CoreAnswers self.old (Event.Step port) result self.new history }
         ensures refused { OnErr result (self.new ≡ self.old) }
         ensures limits { self.new.limits ≡ self.old.limits }
+        ensures turns { self.new.turns ≡ self.old.turns }
     {
         if u32::from(port) >= self.limits.ports() {
             return Err(EventRefusal::NoSuchPort);
@@ -118,6 +126,7 @@ impl Core {
             → CoreAnswers self.old (Event.Take port frame) result self.new history }
         ensures refused { OnErr result (self.new ≡ self.old) }
         ensures limits { self.new.limits ≡ self.old.limits }
+        ensures turns { self.new.turns ≡ self.old.turns }
     {
         if u32::from(port) >= self.limits.ports() {
             return Err(EventRefusal::NoSuchPort);
@@ -139,6 +148,7 @@ impl Core {
             → StepsInside self.old.limits (forwarded n port frame history) (Event.Step port) }
         ensures refused { OnErr result (self.new ≡ self.old) }
         ensures limits { self.new.limits ≡ self.old.limits }
+        ensures turns { self.new.turns ≡ self.old.turns }
     {
         // `headline` and `safe` rest on these laws, which do nothing when run.
         finished_frames_were_forwarded();
@@ -157,6 +167,7 @@ impl Core {
             → CoreAnswers self.old (Event.Send to from) result self.new history }
         ensures refused { OnErr result (self.new ≡ self.old) }
         ensures limits { self.new.limits ≡ self.old.limits }
+        ensures turns { self.new.turns ≡ self.old.turns }
     {
         let ports = self.limits.ports();
         if u32::from(to) >= ports || u32::from(from) >= ports || to == from {
@@ -171,11 +182,87 @@ impl Core {
         }
     }
 
+    /// Sends the next copy that waits for a port, if one does: `Send` from the first port at which one waits, counted round from
+    /// behind the port whose copy `next` sent last, at first from port 0. 72 refuses a port that is not there.
+    pub fn next(&mut self, to: u8) -> Result<Option<FrameCopy>, EventRefusal>
+        ensures answers { (history : List Event) → Stands self.old history → SendsNext self.old history to result self.new }
+        ensures refused { OnErr result (self.new ≡ self.old) }
+        ensures limits { self.new.limits ≡ self.old.limits }
+    {
+        if u32::from(to) >= self.limits.ports() {
+            return Err(EventRefusal::NoSuchPort);
+        }
+        let Some(from) = self.source(to) else {
+            return Ok(None);
+        };
+        match self.send(to, from)? {
+            Answer::Sent(copy) => {
+                self.turns[usize::from(to)] = from + 1;
+                Ok(Some(copy))
+            }
+            _ => Ok(None),
+        }
+    }
+
+    /// The copy that `next` would send, which stays where it waits.
+    pub fn peek(&self, to: u8) -> Result<Option<FrameCopy>, EventRefusal>
+        ensures { (history : List Event) → Stands self.now history → PeeksNext self.now history to result }
+    {
+        if u32::from(to) >= self.limits.ports() {
+            return Err(EventRefusal::NoSuchPort);
+        }
+        let Some(from) = self.source(to) else {
+            return Ok(None);
+        };
+        Ok(self.workers[usize::from(from)].first(to))
+    }
+
+    /// The port whose copy for a port is the next.
+    fn source(&self, to: u8) -> Option<u8>
+        requires { to < self.now.limits.ports }
+        ensures found { (history : List Event) → Stands self.now history → FindsSource self.now history to result }
+        ensures there { IfSome result (λ from. from < self.now.limits.ports) }
+    {
+        let ports = self.limits.ports() as u8;
+        let turn = self.turns[usize::from(to)];
+        match self.first_from(turn, ports, to) {
+            Some(from) => Some(from),
+            None => self.first_from(0, ports.min(turn), to),
+        }
+    }
+
+    /// The first of the ports from one up to another at which a copy waits for a port.
+    fn first_from(&self, begin: u8, end: u8, to: u8) -> Option<u8>
+        requires to { to < self.now.limits.ports }
+        requires end { end ≤ self.now.limits.ports }
+        ensures found { (history : List Event) → Stands self.now history
+            → FindsFirst self.now.limits (accepted self.now.limits history) to begin end result }
+        ensures there { IfSome result (λ from. from < end) }
+    {
+        for from in begin..end {
+            if self.waits(from, to) {
+                return Some(from);
+            }
+        }
+        None
+    }
+
+    /// Whether a copy waits at one port for another.
+    fn waits(&self, from: u8, to: u8) -> bool
+        requires from { from < self.now.limits.ports }
+        requires to { to < self.now.limits.ports }
+        ensures { (history : List Event) → Stands self.now history
+            → IsTrue result ↔ Waits self.now.limits (accepted self.now.limits history) to from }
+    {
+        from != to && self.waiting(from, to) > 0
+    }
+
     fn publish(&mut self, batch: Batch) -> Result<Answer, EventRefusal>
         ensures answers { (history : List Event) → Stands self.old history
             → CoreAnswers self.old (Event.Publish batch) result self.new history }
         ensures refused { OnErr result (self.new ≡ self.old) }
         ensures limits { self.new.limits ≡ self.old.limits }
+        ensures turns { self.new.turns ≡ self.old.turns }
     {
         let front = self.batches.len();
         let Some(latest) = indices_with(&batch, self.limits.ports(), front, self.latest) else {
@@ -240,6 +327,7 @@ impl Core {
         ensures handed_back { IfErr result (λ back. back.items ≡ events.items) }
         ensures unchanged { OnErr result (self.new ≡ self.old) }
         ensures limits { self.new.limits ≡ self.old.limits }
+        ensures turns { self.new.turns ≡ self.old.turns }
     {
         finished_frames_were_forwarded();
         steps_are_safe();
@@ -285,6 +373,7 @@ impl Core {
 fn parts(alloc: Global, limits: Limits) -> Result<Core, AllocError>
     ensures limits { IfOk result (λ core. core.limits ≡ limits) }
     ensures stands { IfOk result (λ core. Stands core []) }
+    ensures turns { IfOk result (λ core. core.turns ≡ replicate 16 0) }
 {
     let batches = Vec::with_capacity(alloc, limits.versions() as usize)?;
     let ports = limits.ports() as u8;
@@ -300,5 +389,6 @@ fn parts(alloc: Global, limits: Limits) -> Result<Core, AllocError>
         latest: [None; MAX_PORTS],
         workers,
         outs,
+        turns: [0; MAX_PORTS],
     })
 }

@@ -3,6 +3,7 @@ pub use Rattle.gw_board.specs.Ends as BoardEnds
 pub use Rattle.gw_board.specs.Lists
 pub use Rattle.gw_board.specs.Refusals as BoardRefusals
 pub use Rattle.gw_claims.specs.Holders
+pub use Rattle.gw_core.specs.Circle as CoreCircle
 pub use Rattle.gw_core.specs.Events as CoreEvents
 pub use Rattle.gw_core.specs.Forwarding as CoreForwarding
 pub use Rattle.gw_core.specs.Headline

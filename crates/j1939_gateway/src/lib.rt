@@ -5,7 +5,7 @@
 //! - Tables: `Table`, `IndexedTable`, `compile`, and `table` from octets. `Table::differences` and `Difference` compare two.
 //! - Policies: `Policy`, `Batch`, `PolicySet`; `program_policy` and `table_policy` from octets.
 //! - A gateway: `Limits`, `gateway`, its ends `Operator`, `PortIn` and `PortOut`, `close`; or `run_from`, with its own threads.
-//! - The model of every order of events: `Core`, `Event`, `Answer`.
+//! - The model of every order of events: `Core`, `Event`, `Answer`. In one thread `Core::forward` and `Core::next` suffice.
 //! - Traces: `frames`, `Trace`, `Checked`. Scripts: `replay`.
 #![tactic(auto)]
 

@@ -19,6 +19,7 @@ loop-event-preserved c =
       rest = let was = at.invariant.rest in let gone = c.in-Some.ensures.steps.1 in let short = ap length steps in omega arith;
       count = let k = at.invariant.count in omega (arith, c.push_reserved.ensures.len, length-append at.yielded (x ∷ []));
       limits = c.event.ensures.limits ∙ at.invariant.limits;
+      turns = c.event.ensures.turns ∙ at.invariant.turns;
       runs = λ history s. one_more c.args.self.now at.self c.event.new.self history at.yielded x at.answers.items
           c.push_reserved.new.self.items c.event.result at.invariant.limits c.push_reserved.ensures.items
           c.event.ensures.answers (at.invariant.runs history s);

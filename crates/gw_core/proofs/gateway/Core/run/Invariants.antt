@@ -13,5 +13,6 @@ invariant-loop-event l = record {
   rest : into_iter_len l.event-iterator ≡ length (into_iter_items l.event-iterator);
   count : vec_len l.answers ≡ length l.yielded;
   limits : l.self.limits ≡ l.fn.self.limits;
+  turns : l.self.turns ≡ l.fn.self.turns;
   runs : (history : List Event) → Stands l.fn.self history → RunsTo l.fn.self history l.yielded l.answers.items l.self;
 }

@@ -1,0 +1,10 @@
+use Rattle.std.proofs.Common.{List}
+use Rattle.gw_core.specs.Events.{accepted}
+use Rattle.gw_core.specs.Gateway.{Stands}
+use Rattle.gw_core.specs.Circle.{NoneWaits}
+use Rattle.gw_core.specs.declared.event.Event.{Event}
+use Rattle.gw_core.proofs.gateway.Core.first_from.Given as goal
+
+abbrev pub invariant-loop-from : goal.invariant-loop-from
+invariant-loop-from l = (history : List Event) → Stands l.self history
+    → NoneWaits l.self.limits (accepted l.self.limits history) l.to l.begin l.from
