@@ -2,7 +2,8 @@
 
 ghost use Rattle.std.specs.Prelude.{◌≡◌, IfOk};
 
-use crate::made::{ENGINE_SPEED, batch, returning};
+use crate::made::{ENGINE_SPEED, batch, bits, returning};
+use crate::ports::{CIRCLE, Use, circles, told};
 use gw_core::{Answer, Core, Event, EventRefusal, OutOfMemory};
 use gw_frame::Frame;
 use gw_ledger::{FrameCopy, InLedger, Limits, Outcome, PortSet};
@@ -183,6 +184,158 @@ const REPLACEMENT: [Row; 13] = [
 fn a_replacement_while_a_frame_is_unfinished(rt: HostRuntime) -> Result<(), Fail> {
     let core = ran(&rt, rt.alloc(), Limits::new(3, 4, 2, 10)?, &REPLACEMENT)?;
     assert!(rt; core.waiting(0, 2) == 1);
+    Ok(())
+}
+
+/// The same frames, each in one call, which answers what the last step of the frame says above.
+const FULL_LANE_IN_CALLS: [Row; 7] = [
+    (Does::Publish(&[1], 1), Says::Published(1)),
+    (Does::Take(0), Says::Finished(0, 1, 0b10, 0b10)),
+    (Does::Take(0), Says::Finished(1, 1, 0b10, 0)),
+    (Does::Send(1, 0), Says::Sent(0)),
+    (Does::Take(0), Says::Finished(2, 1, 0b10, 0b10)),
+    (Does::Send(1, 0), Says::Sent(2)),
+    (Does::Send(1, 0), Says::Empty),
+];
+
+const REPLACEMENT_IN_CALLS: [Row; 6] = [
+    (Does::Publish(&[1, 2], 1), Says::Published(1)),
+    (Does::Take(0), Says::Finished(0, 1, 0b110, 0b110)),
+    (Does::Publish(&[1, 2], 0), Says::Published(2)),
+    (Does::Take(0), Says::Finished(1, 2, 0, 0)),
+    (
+        Does::Publish(&[], 0),
+        Says::Refused(EventRefusal::VersionsSpent),
+    ),
+    (Does::Take(5), Says::Refused(EventRefusal::NoSuchPort)),
+];
+
+/// What an event is answered, and a frame in one call.
+fn called(core: &mut Core, event: Event) -> Given {
+    match event {
+        Event::Take(port, frame) => match core.forward(port, frame) {
+            Ok(outcome) => Ok(Answer::Finished(outcome)),
+            Err(why) => Err(why),
+        },
+        Event::Publish(batch) => core.event(Event::Publish(batch)),
+        Event::Step(port) => core.event(Event::Step(port)),
+        Event::Send { to, from } => core.event(Event::Send { to, from }),
+    }
+}
+
+fn assert_called(rt: &impl Abort, alloc: Global, limits: Limits, rows: &[Row]) {
+    let frame = Frame::read(&ENGINE_SPEED).expect(rt, "a frame");
+    let mut core = Core::new(alloc, limits).expect(rt, "a core");
+    for (index, (does, says)) in rows.iter().enumerate() {
+        let given = called(&mut core, event_of(rt, alloc, frame, *does));
+        assert!(rt; given == answer_of(frame, *says), "event {index}");
+    }
+    assert!(rt; core.limits() == limits);
+}
+
+#[test]
+fn frames_in_one_call(rt: HostRuntime) -> Result<(), Fail> {
+    assert_called(
+        &rt,
+        rt.alloc(),
+        Limits::new(3, 1, 4, 10)?,
+        &FULL_LANE_IN_CALLS,
+    );
+    assert_called(
+        &rt,
+        rt.alloc(),
+        Limits::new(3, 4, 2, 10)?,
+        &REPLACEMENT_IN_CALLS,
+    );
+    Ok(())
+}
+
+/// A claim of address 128, and a frame to it.
+const CLAIM: [u8; 16] = [0x98, 0xEE, 0xFF, 0x80, 8, 0, 0, 0, 5, 0, 0, 0, 0, 0, 0, 0];
+
+const TO_THE_CLAIMED: [u8; 16] = [
+    0x98, 0xEF, 0x80, 0x34, 8, 0, 0, 0, 255, 255, 255, 255, 255, 255, 255, 255,
+];
+
+/// A frame of port 0 in one call: its number, and whether it is local and went to port 1.
+fn local_at_0(core: &mut Core, frame: Frame) -> Option<(u32, bool, bool)>
+    ensures { core.new.limits ≡ core.old.limits }
+{
+    let outcome = core.forward(0, frame).ok()?;
+    Some((outcome.number, outcome.local, outcome.placed.has(1)))
+}
+
+#[test]
+fn a_local_frame_in_one_call(rt: HostRuntime) -> Result<(), Fail> {
+    let mut core = Core::new(rt.alloc(), Limits::new(2, 4, 4, 10)?)?;
+    let batch = batch(&rt, rt.alloc(), &[1], &returning(1));
+    assert!(rt; core.event(Event::Publish(batch)).is_ok());
+    assert!(rt; local_at_0(&mut core, Frame::read(&CLAIM)?) == Some((0, false, true)));
+    let local = Frame::read(&TO_THE_CLAIMED)?;
+    assert!(rt; local_at_0(&mut core, local) == Some((1, true, false)));
+    assert!(rt; core.forward(2, local) == Err(EventRefusal::NoSuchPort));
+    let ledger = InLedger {
+        taken: 2,
+        local: 1,
+        allowed: 1,
+        placed: 1,
+        lost: 0,
+    };
+    assert!(rt; *core.ledger(0) == ledger);
+    Ok(())
+}
+
+/// The number, the front, and the allowed and placed ports of a frame in one call.
+fn forwarded(core: &mut Core, port: usize, frame: Frame) -> Option<(u32, u32, u32, u32)> {
+    let outcome = core.forward(u8::try_from(port).ok()?, frame).ok()?;
+    Some((
+        outcome.number,
+        outcome.front,
+        bits(outcome.allowed),
+        bits(outcome.placed),
+    ))
+}
+
+/// The source and the number of the next copy, which `peek` must show before, or of that of one source.
+fn sent(rt: &impl Abort, core: &mut Core, to: usize, from: Option<u8>) -> Option<(u8, u32)> {
+    let to = u8::try_from(to).ok()?;
+    if let Some(from) = from {
+        let Ok(Answer::Sent(copy)) = core.event(Event::Send { to, from }) else {
+            return None;
+        };
+        return told(Some(copy));
+    }
+    let shown = core.peek(to);
+    let copy = core.next(to);
+    assert!(rt; shown == copy);
+    told(copy.ok()?)
+}
+
+/// A core must do what the ends of a gateway in threads do.
+fn assert_same_circle(rt: &impl Abort, alloc: Global, limits: Limits, port: u8, uses: &[Use]) {
+    let frame = Frame::read(&ENGINE_SPEED).expect(rt, "a frame");
+    let mut core = Core::new(alloc, limits).expect(rt, "a core");
+    let batch = batch(rt, alloc, &[port], &returning(1));
+    assert!(rt; core.event(Event::Publish(batch)).is_ok());
+    for (index, using) in uses.iter().enumerate() {
+        let met = match *using {
+            Use::Offer(port, expected) => forwarded(&mut core, port, frame) == expected.ok(),
+            Use::Next(to, from, expected) => sent(rt, &mut core, to, from) == expected,
+        };
+        assert!(rt; met, "use {index}");
+    }
+}
+
+#[test]
+fn the_circle_of_sources_in_one_thread(rt: HostRuntime) -> Result<(), Fail> {
+    let alloc = rt.alloc();
+    assert_same_circle(&rt, alloc, Limits::new(3, 1, 1, 3)?, 2, &CIRCLE);
+    let uses = circles(alloc)?;
+    assert_same_circle(&rt, alloc, Limits::new(16, 1, 1, 16)?, 0, &uses);
+    let mut core = Core::new(alloc, Limits::new(2, 1, 1, 1)?)?;
+    assert!(rt; core.next(2) == Err(EventRefusal::NoSuchPort));
+    assert!(rt; core.peek(2) == Err(EventRefusal::NoSuchPort));
+    assert!(rt; core.next(1) == Ok(None));
     Ok(())
 }
 

@@ -37,7 +37,7 @@ fn publish<R: Wait>(rt: &R, parts: &mut Parts, batch: Batch) -> Option<u32>
 }
 
 /// The number, the front, and the allowed and placed ports, as the bits of numbers, of a frame that was offered.
-type Offered = Result<(u32, u32, u32, u32), OfferRefusal>;
+pub type Offered = Result<(u32, u32, u32, u32), OfferRefusal>;
 
 fn offer(from: &mut PortIn, frame: Frame) -> Offered
     ensures { end_in from.new ≡ end_in from.old }
@@ -52,7 +52,7 @@ fn offer(from: &mut PortIn, frame: Frame) -> Offered
 }
 
 /// The source and the number of a copy.
-fn told(copy: Option<FrameCopy>) -> Option<(u8, u32)> {
+pub fn told(copy: Option<FrameCopy>) -> Option<(u8, u32)> {
     match copy {
         Some(copy) => Some((copy.from, copy.number)),
         None => None,
@@ -93,7 +93,7 @@ fn next_at(parts: &mut Parts, port: usize, from: Option<u8>) -> Option<(u8, u32)
 
 /// A use of a gateway's end, and what comes of it.
 #[derive(Clone, Copy)]
-enum Use {
+pub enum Use {
     /// The frame is offered at a port.
     Offer(usize, Offered),
     /// The next copy is taken at a port, or that of one source.
@@ -133,7 +133,7 @@ fn ready<R: Wait + Abort>(rt: &R, alloc: Global, limits: Limits, port: u8, rows:
 }
 
 /// Lanes of one copy: room again, and the circle of sources at port 2.
-const CIRCLE: [Use; 12] = [
+pub const CIRCLE: [Use; 12] = [
     Use::Offer(0, Ok((0, 1, 0b100, 0b100))),
     Use::Offer(0, Ok((1, 1, 0b100, 0))),
     Use::Offer(1, Ok((0, 1, 0b100, 0b100))),
@@ -197,7 +197,7 @@ fn circle_behind(uses: &mut Vec<Use>, round: u8) -> Result<(), AllocError> {
 }
 
 /// The rounds of 15 ports.
-fn circles(alloc: Global) -> Result<Vec<Use>, AllocError> {
+pub fn circles(alloc: Global) -> Result<Vec<Use>, AllocError> {
     let mut uses = Vec::new(alloc);
     for round in 1..16 {
         circle_behind(&mut uses, round)?;
