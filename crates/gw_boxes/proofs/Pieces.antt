@@ -1,10 +1,10 @@
 -- The pieces of a box outside another hold its points outside the other, and no others.
 use Rattle.std.proofs.Common.{◌≡◌, ℕ, ◌+◌, ◌<◌, ◌≤◌, min, max, nat_lt, nat_le, Bool, true, false, ◌&&◌, ◌||◌, not, List}
-use Rattle.std.proofs.Common.{[], ◌∷◌, ◌++◌, length, get_or, refl, sym, ap, ◌∙◌, arith}
+use Rattle.std.proofs.Common.{length, get_or, refl, sym, ap, ◌∙◌, arith}
 use Rattle.std.specs.Prelude.{take}
 use Rattle.std.proofs.lemmas.Bool.{false≢true}
 use Rattle.std.proofs.lemmas.List.{take_all}
-use Rattle.std.proofs.lemmas.List.Folds.{list_any_at, list_any_more, list_any-append}
+use Rattle.std.proofs.lemmas.List.Folds.{list_any_at, list_any_more}
 use Rattle.std.proofs.lemmas.Bool.Decides.{nat_tests}
 use Rattle.std.specs.List.{list_any}
 use Rattle.gw_boxes.specs.declared.boxes.Range.{Range}
@@ -135,24 +135,44 @@ or_either : (x y : Bool) → (x || y) ≡ true → (z : Bool) → (x ≡ true �
 or_either true y is z one two = one refl
 or_either false y is z one two = two is
 
-or_true : (x : Bool) → (x || (true || false)) ≡ true
-or_true true = refl
-or_true false = refl
+or_assoc : (a b c : Bool) → (a || b) || c ≡ a || (b || c)
+or_assoc true b c = refl
+or_assoc false b c = refl
 
-module _ (part last : Block) (rest items : List Block) (is : items ≡ pieces part last) where
-  last_fails : (p : Point) → list_any (holds p) rest ≡ false → holds p last ≡ false
-      → list_any (holds p) (rest ++ last ∷ []) ≡ false
-  last_fails p e f = list_any-append (holds p) rest (last ∷ []) ∙ (rw (e, f) refl)
+or_false : (a : Bool) → a ≡ (a || false)
+or_false true = refl
+or_false false = refl
 
+-- one more of the others: the first or one of them holds the point
+
+module _ (p : Point) (first : Block) (others : List Block) (i : ℕ) (d : Block) (below : i < length others) where
+  pub one_other : (x y : Bool) → x ≡ (holds p first || list_any (holds p) (take i others)) → y ≡ (x || holds p (get_or others i d))
+      → y ≡ (holds p first || list_any (holds p) (take (i + 1) others))
+  one_other x y so_far is =
+      let more = list_any_more (holds p) others i d below in
+      is ∙ (rw (so_far, more) (or_assoc (holds p first) (list_any (holds p) (take i others)) (holds p (get_or others i d))))
+
+  -- a box that shares no point with the part has none of its points
+  pub no_other : (x : Bool) → x ≡ (holds p first || list_any (holds p) (take i others)) → (part both : Block)
+      → holds p both ≡ (holds p part && holds p (get_or others i d)) → holds p part ≡ true → holds p both ≡ false
+      → x ≡ (holds p first || list_any (holds p) (take (i + 1) others))
+  no_other x so_far part both is inside outside =
+      let none : holds p (get_or others i d) ≡ false =
+      sym (ap (λ b. b && holds p (get_or others i d)) inside) ∙ sym is ∙ outside in
+      one_other x x so_far (or_false x ∙ ap (λ b. x || b) (sym none))
+
+module _ (part largest : Block) (others rest items : List Block) (is : items ≡ pieces part largest)
+    (same : (p : Point) → holds p part ≡ true → (holds p largest || list_any (holds p) rest) ≡ list_any (holds p) others) where
   -- a point of a piece that lies in none of the rest
-  pub free_in_piece : (i : ℕ) (d : Block) (p : Point) → i < 8 → IsFree (get_or items i d) rest p
-      → IsFree part (rest ++ last ∷ []) p
+  pub free_in_piece : (i : ℕ) (d : Block) (p : Point) → i < 8 → IsFree (get_or items i d) rest p → IsFree part others p
   free_in_piece i d p below free =
       let len : length items ≡ 8 = ap length is in
       let some : list_any (holds p) items ≡ true = list_any_at (holds p) items i d (omega (arith, len, below)) free.inside in
-      let both = from_both (holds p part) (holds p last) (sym (pieces_hold p part last) ∙ ap (list_any (holds p)) (sym is) ∙ some)
-      in
-      record { inside = both.0; free = last_fails p free.free both.1 }
+      let both = from_both (holds p part) (holds p largest)
+      (sym (pieces_hold p part largest) ∙ ap (list_any (holds p)) (sym is) ∙ some) in
+      let e = both.1 in
+      let f = free.free in
+      record { inside = both.0; free = sym (same p both.0) ∙ (rw (e, f) refl) }
 
   -- the points of the first pieces lie in the rest
   abbrev pub Settled : ℕ → Type 0
@@ -164,14 +184,15 @@ module _ (part last : Block) (rest items : List Block) (is : items ≡ pieces pa
       or_either (list_any (holds p) (take i items)) (holds p (get_or items i d))
       (sym (list_any_more (holds p) items i d (omega (arith, len, below))) ∙ found) (list_any (holds p) rest) (settled p) (none p)
 
-  pub none_left : (i : ℕ) → 8 ≤ i → Settled i → HasNoFree part (rest ++ last ∷ [])
-  none_left i past settled p inside = by (holds p last) refl
+  pub none_left : (i : ℕ) → 8 ≤ i → Settled i → HasNoFree part others
+  none_left i past settled p inside = by (holds p largest) refl
     where
-      by : (in_last : Bool) → holds p last ≡ in_last → list_any (holds p) (rest ++ last ∷ []) ≡ true
-      by true e = list_any-append (holds p) rest (last ∷ []) ∙ (rw e (or_true (list_any (holds p) rest)))
+      by : (in_largest : Bool) → holds p largest ≡ in_largest → list_any (holds p) others ≡ true
+      by true e = sym (same p inside) ∙ (rw e refl)
       by false e =
           let len : length items ≡ 8 = ap length is in
           let all = take_all i items (omega (arith, len, past)) in
           let some : list_any (holds p) (take i items) ≡ true =
-          ap (list_any (holds p)) (all ∙ is) ∙ pieces_hold p part last ∙ (rw (inside, e) refl) in
-          list_any-append (holds p) rest (last ∷ []) ∙ (rw (e, settled p some) refl)
+          ap (list_any (holds p)) (all ∙ is) ∙ pieces_hold p part largest ∙ (rw (inside, e) refl) in
+          let f = settled p some in
+          sym (same p inside) ∙ (rw (e, f) refl)

@@ -55,6 +55,15 @@ impl Block {
         })
     }
 
+    /// How many points lie in the box, or the greatest number where there are more.
+    pub(crate) fn size(&self) -> u64 {
+        self.group
+            .size()
+            .saturating_mul(self.source.size())
+            .saturating_mul(self.destination.size())
+            .saturating_mul(self.port.size())
+    }
+
     /// The box of the points that lie in both.
     pub fn within(&self, other: &Block) -> Block
         ensures { (p : Point) → holds p result ≡ (holds p self.now && holds p other.now) }
@@ -73,6 +82,10 @@ impl Range {
         ensures { result ≡ is_empty self }
     {
         self.end <= self.low
+    }
+
+    fn size(self) -> u64 {
+        u64::from(self.end.saturating_sub(self.low))
     }
 
     /// The numbers of the range below `end`.

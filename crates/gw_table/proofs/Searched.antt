@@ -1,9 +1,9 @@
 -- What the search for a point that the rules at two indices decide rests on.
 use Rattle.std.proofs.Common.{◌≡◌, ℕ, zero, suc, ◌+◌, ◌<◌, ◌≤◌, Bool, true, false, ◌&&◌, ◌||◌, List, [], ◌∷◌, ◌++◌, length}
-use Rattle.std.proofs.Common.{Some, None, Option, refl, sym, ap, subst, ◌∙◌, arith, get_or}
+use Rattle.std.proofs.Common.{Some, None, Option, Result, Ok, Err, refl, sym, ap, subst, ◌∙◌, arith, get_or}
 use Rattle.std.proofs.lemmas.Bool.{false≢true, and_parts}
 use Rattle.std.proofs.lemmas.List.Folds.{list_any-append, list_any_more}
-use Rattle.std.specs.Prelude.{take, MatchOption}
+use Rattle.std.specs.Prelude.{take, IfOk, MatchOption}
 use Rattle.std.specs.List.{slice_get, list_any, position_or_len}
 use Rattle.std.specs.Option.{option_map_or}
 use Rattle.gw_boxes.specs.declared.boxes.Block.{Block}
@@ -170,8 +170,10 @@ module _ (u : Universe) (old : List Rule) (a : ℕ) (new : List Rule) (b : ℕ) 
       let e = first p inside in
       second p inside ∙ (rw (e, none_there) refl)
 
-  pub searched : (others : List Block) → AreBefore others → a ≤ length old → b ≤ length new → (found : Option Point)
-      → MatchOption found (HasNoFree part others) (IsFree part others)
-      → MatchOption found ((p : Point) → ¬ IsDecidedAt u old a new b p) (IsDecidedAt u old a new b)
-  searched others are fits_a fits_b None none = none_is_decided others are none
-  searched others are fits_a fits_b (Some p) free = free_is_decided others are fits_a fits_b p free
+  pub searched : (others : List Block) → AreBefore others → a ≤ length old → b ≤ length new → {E : Type 0}
+      (result : Result (Option Point) E)
+      → IfOk result (λ found. MatchOption found (HasNoFree part others) (IsFree part others))
+      → IfOk result (λ found. MatchOption found ((p : Point) → ¬ IsDecidedAt u old a new b p) (IsDecidedAt u old a new b))
+  searched others are fits_a fits_b (Err e) found = found
+  searched others are fits_a fits_b (Ok None) none = none_is_decided others are none
+  searched others are fits_a fits_b (Ok (Some p)) free = free_is_decided others are fits_a fits_b p free

@@ -66,7 +66,7 @@ impl Universe {
         let mut others = Vec::new(alloc);
         self.push_meeting(&mut others, &part, &old[..a])?;
         self.push_meeting(&mut others, &part, &new[..b])?;
-        Ok(free_point(part, &others))
+        free_point(alloc, part, &others)
     }
 
     /// The box of the points whose frames the rule at an index holds of, and all points where there is no rule.

@@ -10,4 +10,4 @@ decreases-free_point l = length l.others.now
 
 abbrev pub invariant-loop-piece : goal.invariant-loop-piece
 invariant-loop-piece l =
-    (p : Point) → list_any (holds p) (take l.piece-index l.piece-items) ≡ true → list_any (holds p) l.rest ≡ true
+    (p : Point) → list_any (holds p) (take l.piece-index l.piece-items) ≡ true → list_any (holds p) l.meeting.rest.items ≡ true
