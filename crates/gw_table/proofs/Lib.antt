@@ -26,4 +26,6 @@ pub mod Searched
 pub mod Witnessed
 pub mod PartsAt
 pub mod Listing
+pub mod Guarded
+pub mod Crossed
 pub mod Asked

@@ -8,7 +8,9 @@ use Rattle.gw_table.specs.declared.table.Part.{Part}
 use Rattle.gw_table.specs.declared.table.Part.TheVariants as part
 use Rattle.gw_table.specs.declared.difference.Difference.{Difference}
 use Rattle.gw_table.specs.Table.{Meaning, matches}
+use Rattle.gw_table.specs.declared.ingress.Ingress.{Ingress}
 use Rattle.gw_table.specs.Difference.{IsCarried, IsUnlike, DecidePair, IsDifference, pair_rank}
+use Rattle.gw_table.specs.Ingress.{IsIngress}
 
 abbrev pub part_at : ℕ → ℕ → Part
 part_at rules index =
@@ -50,11 +52,22 @@ pub record IsOfEarlier (old new : Meaning) (a b : ℕ) (found : Difference) : Ty
   pub before : IsBefore i j a b
   pub indices : IsOfIndices old new i j found
 
+-- a difference at one of these ports
+abbrev pub IsDifferenceAt : Ingress → Meaning → Meaning → Difference → Type 0
+IsDifferenceAt ingress old new found = IsDifference old new found × IsIngress ingress found.port
+
 -- the differences of the pairs of indices before this one, in ascending order
-pub record AreListed (old new : Meaning) (a b : ℕ) (found : List Difference) : Type 0 where
-  pub sound : All (IsDifference old new) found
-  pub complete : (octets : List ℕ) (port : ℕ) → IsUnlike old new octets port
+pub record AreListed (ingress : Ingress) (old new : Meaning) (a b : ℕ) (found : List Difference) : Type 0 where
+  pub sound : All (IsDifferenceAt ingress old new) found
+  pub complete : (octets : List ℕ) (port : ℕ) → IsUnlike old new octets port → IsIngress ingress port
       → IsBefore (index_of old octets port) (index_of new octets port) a b
       → Any (λ d. DecidePair old new octets port d.old d.new) found
   pub ascending : AllPairs (λ x y. pair_rank x < pair_rank y) found
   pub earlier : All (IsOfEarlier old new a b) found
+
+-- each pair of parts that decide some frame unlike at one of these ports, once, in ascending order
+pub record AreDifferencesAt (ingress : Ingress) (old new : Meaning) (found : List Difference) : Type 0 where
+  pub sound : All (IsDifferenceAt ingress old new) found
+  pub complete : (octets : List ℕ) (port : ℕ) → IsUnlike old new octets port → IsIngress ingress port
+      → Any (λ d. DecidePair old new octets port d.old d.new) found
+  pub ascending : AllPairs (λ x y. pair_rank x < pair_rank y) found

@@ -2,11 +2,13 @@
 #![tactic(auto)]
 
 mod compiler;
+mod crossing;
 mod dead;
 mod difference;
 mod explanation;
 mod faults;
 mod index;
+mod ingress;
 mod nearest;
 mod question;
 mod reading;
@@ -21,6 +23,7 @@ mod values;
 mod verdict;
 
 pub use compiler::compile;
+pub use crossing::{Change, Crossing, crossings};
 pub use dead::WhyDead;
 pub use difference::Difference;
 pub use index::IndexedTable;

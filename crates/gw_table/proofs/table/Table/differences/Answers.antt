@@ -1,12 +1,11 @@
-use Rattle.std.proofs.Common.{arith}
-use Rattle.gw_table.proofs.Listing.{all_listed, none_where_alike}
+use Rattle.gw_table.proofs.Listing.{of_all_ports, none_where_alike_of}
 use Rattle.gw_table.proofs.table.Table.differences.Goals as goal
 
 pub returns-clause-differences : goal.returns-clause-differences
 returns-clause-differences c =
-    all_listed c.args.self.now c.args.other.now c.loop-index.index c.loop-index.found.items
-    (omega (arith, c.part_count-index-end.ensures.count, c.loop-index-test.false)) c.loop-index.invariant
+    of_all_ports c.all.result c.all.ensures c.args.self.now c.args.other.now (λ list. list.items) c.differences_at.result
+    c.differences_at.ensures
 
 pub returns-clause-alike : goal.returns-clause-alike
 returns-clause-alike c =
-    none_where_alike c.args.self.now c.args.other.now c.loop-index.found.items (returns-clause-differences c)
+    none_where_alike_of c.args.self.now c.args.other.now (λ list. list.items) c.differences_at.result (returns-clause-differences c)
