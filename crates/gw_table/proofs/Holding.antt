@@ -3,7 +3,7 @@ use Rattle.std.proofs.Common.{◌≡◌, ◌≢◌, ℕ, zero, suc, ◌+◌, ◌
 use Rattle.std.proofs.Common.{if◌then◌else◌, List, [], ◌∷◌, length, get_or, Option, Some, None, refl, sym, ap, ◌∙◌}
 use Rattle.std.proofs.Common.{inl, inr, arith}
 use Rattle.std.specs.Prelude.{slice_get}
-use Rattle.std.specs.List.{find}
+use Rattle.std.specs.List.{position_or_len}
 use Rattle.std.specs.Option.{option_map_or}
 use Rattle.std.specs.Int.{bit_at}
 use Rattle.std.proofs.lemmas.Bool.{lt-ltb, le-ltb, cases_lt}
@@ -100,18 +100,24 @@ false_if_zero : (b : Bool) → one_if b ≡ 0 → b ≡ false
 false_if_zero true none = absurd (omega (arith, none))
 false_if_zero false none = refl
 
-pub find_none : (p : Rule → Bool) (rules : List Rule) → ((number : ℕ) → mark p rules number ≡ 0) → find p rules ≡ None
-find_none p [] none = refl
-find_none p (rule ∷ rules) none =
-    let e = false_if_zero (p rule) (none 0) in rw e (find_none p rules (λ number. none (suc number)))
+one_more : (a b : ℕ) → a ≡ b → 1 + a ≡ suc b
+one_more a b same = omega (arith, same)
 
-pub find_first : (p : Rule → Bool) (rules : List Rule) (number : ℕ) → mark p rules number ≡ 1
-    → ((earlier : ℕ) → earlier < number → mark p rules earlier ≡ 0) → find p rules ≡ slice_get rules number
-find_first p [] number here before = refl
-find_first p (rule ∷ rules) zero here before = let e = true_if_one (p rule) here in rw e refl
-find_first p (rule ∷ rules) (suc number) here before =
+pub position_past : (p : Rule → Bool) (rules : List Rule) → ((number : ℕ) → mark p rules number ≡ 0)
+    → position_or_len p rules ≡ length rules
+position_past p [] none = refl
+position_past p (rule ∷ rules) none =
+    let e = false_if_zero (p rule) (none 0) in
+    rw e (one_more _ _ (position_past p rules (λ number. none (suc number))))
+
+pub position_first : (p : Rule → Bool) (rules : List Rule) (number : ℕ) → mark p rules number ≡ 1
+    → ((earlier : ℕ) → earlier < number → mark p rules earlier ≡ 0) → position_or_len p rules ≡ number
+position_first p [] number here before = absurd (omega (arith, here))
+position_first p (rule ∷ rules) zero here before = let e = true_if_one (p rule) here in rw e refl
+position_first p (rule ∷ rules) (suc number) here before =
     let e = false_if_zero (p rule) (before 0 (omega arith)) in
-    rw e (find_first p rules number here (λ earlier below. before (suc earlier) (omega arith)))
+    let behind = position_first p rules number here (λ earlier below. before (suc earlier) (omega arith)) in
+    rw e (one_more _ _ behind)
 
 pub mark_there : (p : Rule → Bool) (rules : List Rule) (number : ℕ) → mark p rules number ≡ 1 → number < length rules
 mark_there p rules number one =
@@ -142,13 +148,13 @@ common_marks rules pgn source destination from a b c d is_a is_b is_c is_d numbe
     ∙ mark_both (λ t. p t && q t && r t) s rules number
 
 module _ (p : Rule → Bool) (rules : List Rule) (marked : ℕ → ℕ) (same : (number : ℕ) → marked number ≡ mark p rules number) where
-  pub first_passes : (number : ℕ) → IsLowest marked number → find p rules ≡ slice_get rules number
-  first_passes number lowest =
-      find_first p rules number (sym (same number) ∙ lowest.here)
+  pub first_position : (number : ℕ) → IsLowest marked number → position_or_len p rules ≡ number
+  first_position number lowest =
+      position_first p rules number (sym (same number) ∙ lowest.here)
       (λ earlier below. sym (same earlier) ∙ lowest.not_before earlier below)
 
-  pub none_passes : ((number : ℕ) → marked number ≡ 0) → find p rules ≡ None
-  none_passes none = find_none p rules (λ number. sym (same number) ∙ none number)
+  pub no_position : ((number : ℕ) → marked number ≡ 0) → position_or_len p rules ≡ length rules
+  no_position none = position_past p rules (λ number. sym (same number) ∙ none number)
 
   pub lowest_there : (number : ℕ) → IsLowest marked number → number < length rules
   lowest_there number lowest = mark_there p rules number (sym (same number) ∙ lowest.here)

@@ -1,7 +1,7 @@
 -- What the sets of an index say of a table's rules.
 use Rattle.std.proofs.Common.{◌≡◌, ℕ, zero, suc, ◌+◌, ◌-◌, ◌*◌, ◌/◌, ◌%◌, ◌<◌, ◌≤◌, Bool, true, false, List}
-use Rattle.std.proofs.Common.{[], ◌∷◌, length, get_or, None, refl, ap, subst, inl, inr, arith, zero-add}
-use Rattle.std.specs.List.{find}
+use Rattle.std.proofs.Common.{[], ◌∷◌, length, get_or, Some, None, refl, ap, subst, inl, inr, arith, zero-add}
+use Rattle.std.specs.List.{position}
 use Rattle.std.specs.Prelude.{slice_get, option_map, unwrap_or}
 use Rattle.std.proofs.lemmas.Bool.{lt-ltb, le-ltb, cases_lt}
 use Rattle.gw_table.specs.declared.refusal.Field.TheVariants.{Pgn, Source, Destination, From}
@@ -14,7 +14,7 @@ use Rattle.gw_table.specs.Table.{is_pass}
 use Rattle.gw_table.specs.RuleSets.{marks, IsLowest}
 use Rattle.gw_table.specs.Sections.{start_property, pdu2_page, row_of_page}
 use Rattle.gw_table.specs.Index.{IsGroup, position_in, group_position, shared, HasSetOf, Indexes}
-use Rattle.gw_table.proofs.Holding.{one_if, mark, all_lie, common_marks, first_passes, none_passes, lowest_there}
+use Rattle.gw_table.proofs.Holding.{one_if, mark, all_lie, common_marks, first_position, no_position, lowest_there}
 use Rattle.gw_table.proofs.Rows.{page_property, row_of_groups}
 
 module _ (rules : List Rule) (index : Index) (indexed : Indexes rules index) where
@@ -85,18 +85,22 @@ module _ (rules : List Rule) (index : Index) (indexed : Indexes rules index) whe
   -- the first rule whose ranges hold the four values, by what the sets share
   module _ (pgn source destination from : ℕ) (group : IsGroup pgn) (fits_source : source < 256)
       (fits_destination : destination < 256) (fits_from : from < 256) where
-    pub find_none_shared : ((rule : ℕ) → shared index pgn source destination from rule ≡ 0)
-        → find (all_lie pgn source destination from) rules ≡ None
-    find_none_shared =
-        none_passes (all_lie pgn source destination from) rules _
-        (shared_marks pgn source destination from group fits_source fits_destination fits_from)
+    pub none_shared : ((rule : ℕ) → shared index pgn source destination from rule ≡ 0)
+        → position (all_lie pgn source destination from) rules ≡ None
+    none_shared none =
+        let e = no_position (all_lie pgn source destination from) rules _
+        (shared_marks pgn source destination from group fits_source fits_destination fits_from) none in
+        let f = le-ltb (length rules) (length rules) (omega arith) in
+        rw (e, f) refl
 
-    pub find_shared : (number : ℕ) → IsLowest (shared index pgn source destination from) number
-        → (number < length rules) × (find (all_lie pgn source destination from) rules ≡ slice_get rules number)
-    find_shared number lowest =
+    pub first_shared : (number : ℕ) → IsLowest (shared index pgn source destination from) number
+        → position (all_lie pgn source destination from) rules ≡ Some number
+    first_shared number lowest =
         let lies = all_lie pgn source destination from in
         let same = shared_marks pgn source destination from group fits_source fits_destination fits_from in
-        (lowest_there lies rules _ same number lowest, first_passes lies rules _ same number lowest)
+        let e = first_position lies rules _ same number lowest in
+        let f = lt-ltb number (length rules) (lowest_there lies rules _ same number lowest) in
+        rw (e, f) refl
 
 -- a rule's action by its mark among those that pass
 pub action_by_mark : (rules : List Rule) (number : ℕ) (passes : Bool) (otherwise : Action)

@@ -1,10 +1,10 @@
 //! Tables with an index of their rules (T. V. Lakshman and D. Stiliadis, 1998).
 
-ghost use Rattle.std.specs.Prelude.{◌≡◌, ℕ, ◌+◌, ◌-◌, ◌<◌, ◌≤◌, ◌&&◌, length, get_or, find};
-ghost use Rattle.std.specs.Prelude.{option_map, unwrap_or};
+ghost use Rattle.std.specs.Prelude.{◌≡◌, ℕ, ◌+◌, ◌-◌, ◌<◌, ◌≤◌, ◌&&◌, length, get_or, find, position};
+ghost use Rattle.std.specs.Prelude.{option_map, unwrap_or, Some};
 ghost use Rattle.std.specs.Prelude.{IfOk, IfErr, IfSome, IfNone};
 ghost use Rattle.std.specs.List.{list_any};
-ghost use Rattle.gw_table.specs.Table.{lies_in, is_pass, table_passes};
+ghost use Rattle.gw_table.specs.Table.{lies_in, is_pass, table_passes, action_for, action_of, Decides};
 ghost use Rattle.gw_table.specs.RuleSets.{span_of, IsLowest};
 ghost use Rattle.gw_table.specs.Index.{IsGroup, splits, position_in, group_position, shared, Stands, Indexes};
 
@@ -15,7 +15,7 @@ use crate::section::{
     ANY_PORT, DESTINATIONS, MOST_ROWS, NUMBERS, PAGES, PASSING, PORTS, ROWS, SOURCES, Section,
     row_at, row_of_page,
 };
-use crate::table::{GREATEST_OCTET, PDU2, Rule, Span, Table};
+use crate::table::{GREATEST_OCTET, PDU2, Part, Rule, Span, Table};
 use gw_frame::Frame;
 use std::alloc::{AllocError, Global};
 use std::marker::Model;
@@ -80,6 +80,25 @@ impl IndexedTable {
             None => self.table.verdict(frame, from),
         }
     }
+
+    /// The part of the table that decides a frame which was taken at the port `from`, as `Table::decides` gives it. It takes
+    /// about as long for 256 rules as for 16.
+    pub fn decides(&self, frame: &Frame, from: u8) -> Part
+        ensures part { Decides self.now frame.now from result }
+        ensures action { action_of self.now result ≡ Some (action_for self.now frame.now from) }
+    {
+        match &self.index {
+            Some(index) => index.decides(&self.table, frame, from),
+            None => self.table.decides(frame, from),
+        }
+    }
+
+    /// The table.
+    pub fn table(&self) -> &Table
+        ensures { result.now ≡ self.now }
+    {
+        &self.table
+    }
 }
 
 impl Index {
@@ -114,6 +133,39 @@ impl Index {
         self.passes(table, id.pgn(), id.source(), destination, from)
     }
 
+    fn decides(&self, table: &Table, frame: &Frame, from: u8) -> Part
+        requires { Indexes table.now.rules self.now }
+        ensures part { Decides table.now frame.now from result }
+        ensures action { action_of table.now result ≡ Some (action_for table.now frame.now from) }
+    {
+        let id = frame.id();
+        // Extended data frames alone have a destination.
+        let Some(destination) = id.destination() else {
+            return Part::Other;
+        };
+        match self.first_holding(table.rules(), id.pgn(), id.source(), destination, from) {
+            Some(rule) => Part::Rule(rule),
+            None => Part::Default,
+        }
+    }
+
+    /// The number of the first of the rules that holds of these values.
+    fn first_holding(
+        &self,
+        rules: &[Rule],
+        pgn: u32,
+        source: u8,
+        destination: u8,
+        from: u8,
+    ) -> Option<usize>
+        requires indexed { Indexes rules.now self.now }
+        requires group { IsGroup pgn }
+        ensures { result ≡ position (λ rule. lies_in pgn rule.pgn
+            && lies_in source rule.source && lies_in destination rule.destination && lies_in from rule.from) rules.now }
+    {
+        self.lowest_shared(pgn, source, destination, from)
+    }
+
     /// Whether the table passes an extended data frame with these values that was taken at the port `from`.
     fn passes(&self, table: &Table, pgn: u32, source: u8, destination: u8, from: u8) -> bool
         requires indexed { Indexes table.now.rules self.now }
@@ -122,7 +174,7 @@ impl Index {
             && lies_in source rule.source && lies_in destination rule.destination && lies_in from rule.from)
             table.now.rules)) table.now.otherwise) }
     {
-        match self.lowest_shared(pgn, source, destination, from) {
+        match self.first_holding(table.rules(), pgn, source, destination, from) {
             Some(rule) => is_member(self.sets.at(PASSING), rule),
             None => table.default().passes(),
         }
