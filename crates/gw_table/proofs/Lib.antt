@@ -14,6 +14,7 @@ pub mod TreesFit
 mod TreesExamples
 mod IndexExamples
 mod DifferenceExamples
+mod PairFrameExamples
 pub mod NeverDecides
 pub mod Causes
 pub mod RuleBits
@@ -29,3 +30,4 @@ pub mod Listing
 pub mod Guarded
 pub mod Crossed
 pub mod Asked
+pub mod PairFrames

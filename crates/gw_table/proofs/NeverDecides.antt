@@ -126,7 +126,7 @@ all_parts true true false d is = absurd (false≢true is)
 all_parts true false c d is = absurd (false≢true is)
 all_parts false b c d is = absurd (false≢true is)
 
-all_from : (a b c d : Bool) → a ≡ true → b ≡ true → c ≡ true → d ≡ true → (a && b && c && d) ≡ true
+pub all_from : (a b c d : Bool) → a ≡ true → b ≡ true → c ≡ true → d ≡ true → (a && b && c && d) ≡ true
 all_from a b c d p q r s = rw (p, q, r, s) refl
 
 covered_holds : (octets : List ℕ) (port : ℕ) (earlier later : Rule) → covers earlier later ≡ true

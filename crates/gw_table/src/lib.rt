@@ -10,6 +10,7 @@ mod faults;
 mod index;
 mod ingress;
 mod nearest;
+mod pair_frames;
 mod question;
 mod reading;
 mod refusal;
