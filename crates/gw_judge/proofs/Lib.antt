@@ -4,6 +4,7 @@ pub mod PartLengths
 mod OneMore
 mod CountedGroups
 pub mod Counting
+pub mod JudgedLines
 pub mod PartByPart
 pub mod Streams
 mod JudgeExamples

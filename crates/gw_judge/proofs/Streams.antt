@@ -18,7 +18,8 @@ use Rattle.gw_judge.specs.LineParts.{Ahead, IsNextPart, GivesPart}
 use Rattle.gw_judge.specs.UnderWay.{Puts, HasJudged, Fails, Reaches, Closes, Ends, IsUnderWay}
 use Rattle.gw_judge.proofs.Gathering.{appended_nothing, part_behind, front_part}
 use Rattle.gw_judge.proofs.Lines.{written_more}
-use Rattle.gw_judge.proofs.PartByPart.{begins, judged_nothing, held_more}
+use Rattle.gw_judge.proofs.JudgedLines.{held_more}
+use Rattle.gw_judge.proofs.PartByPart.{begins, judged_nothing}
 
 -- ---- judging ends
 

@@ -6,7 +6,7 @@ ghost use Rattle.gw_judge.specs.Fates.{fate_of};
 ghost use Rattle.gw_judge.specs.Judged.{line_text};
 ghost use Rattle.gw_judge.specs.Counting.{no_tally, tally_with};
 ghost use Rattle.gw_judge.specs.LineParts.{ends_line};
-ghost use Rattle.gw_judge.specs.UnderWay.{Refuses};
+ghost use Rattle.gw_judge.specs.UnderWay.{Judges, Refuses};
 
 use crate::decider::Decider;
 use crate::fate::{Fate, line_fate};
@@ -46,7 +46,7 @@ pub struct Judging {
 
 impl Judging {
     ghost use Rattle.gw_judge.specs.LineParts.{IsLinePart};
-    ghost use Rattle.gw_judge.specs.UnderWay.{HasJudged, Judges, Reaches, Closes, Ends};
+    ghost use Rattle.gw_judge.specs.UnderWay.{HasJudged, Reaches, Closes, Ends};
 
     /// Starts before the first octet.
     pub fn new(groups: Groups) -> Judging
@@ -79,8 +79,13 @@ impl Judging {
         ensures whole { OnOk result (has_failed writer.new ≡ false) }
         ensures grouping { self.new.tally.groups.grouping ≡ self.old.tally.groups.grouping }
     {
+        let is_ended = ends_line(part);
+        if is_ended && self.kept.is_empty() && part.len() <= MAX_KEPT {
+            // A whole line, as most are, is judged where it stands.
+            return judge_line(asked, part, &mut self.gathered, &mut self.tally, writer);
+        }
         self.keep(part);
-        if !ends_line(part) {
+        if !is_ended {
             return Ok(());
         }
         let judged = self.judge_kept(asked, writer);
@@ -166,7 +171,6 @@ impl Judging {
     }
 
     /// Judges the line that is kept.
-    #[tactic(auto, using(crate::proofs::Counting::grouping_stays))]
     fn judge_kept<D: Decider, P: Report, W: Write>(
         &mut self,
         asked: &Asked<D, P>,
@@ -183,22 +187,43 @@ impl Judging {
             self.old.gathered.held.items result self.new.gathered.held.items }
         ensures grouping { self.new.tally.groups.grouping ≡ self.old.tally.groups.grouping }
     {
-        let fate = line_fate(asked.decider, asked.from, self.kept.as_slice());
-        self.tally.count(fate);
-        match fate {
-            Fate::Refused(why) => {
-                let line = self.tally.lines;
-                refuse(
-                    asked.strict,
-                    RefusedLine { line, why },
-                    &mut self.gathered,
-                    writer,
-                )
-            }
-            Fate::Passed(_) | Fate::Blocked(_) | Fate::Silent => {
-                let front = asked.report.front(fate);
-                self.gathered.put_line(front, self.kept.as_slice(), writer)
-            }
+        judge_line(
+            asked,
+            self.kept.as_slice(),
+            &mut self.gathered,
+            &mut self.tally,
+            writer,
+        )
+    }
+}
+
+/// Judges a line: it is counted, and put behind its front where it is asked for.
+#[tactic(auto, using(crate::proofs::Counting::grouping_stays))]
+fn judge_line<D: Decider, P: Report, W: Write>(
+    asked: &Asked<D, P>,
+    line: &[u8],
+    gathered: &mut Gathered,
+    tally: &mut Tally,
+    writer: &mut Tried<W>,
+) -> Result<(), JudgeFault>
+    requires { has_failed writer.old ≡ false }
+    ensures tally { tally.new ≡ tally_with (fate_of (D.fate_by asked.now.decider.now asked.now.from) line.now) tally.old }
+    ensures judged { Judges (fate_of (D.fate_by asked.now.decider.now asked.now.from) line.now)
+        (line_text (P.front_of asked.now.report.now)
+        (fate_of (D.fate_by asked.now.decider.now asked.now.from) line.now) line.now) asked.now.strict tally.new.lines
+        (W.contents (inner_of writer.old)) (W.contents (inner_of writer.new)) (has_failed writer.new)
+        gathered.old.held.items result gathered.new.held.items }
+    ensures grouping { tally.new.groups.grouping ≡ tally.old.groups.grouping }
+{
+    let fate = line_fate(asked.decider, asked.from, line);
+    tally.count(fate);
+    match fate {
+        Fate::Refused(why) => {
+            let line = tally.lines;
+            refuse(asked.strict, RefusedLine { line, why }, gathered, writer)
+        }
+        Fate::Passed(_) | Fate::Blocked(_) | Fate::Silent => {
+            gathered.put_line(asked.report.front(fate), line, writer)
         }
     }
 }
