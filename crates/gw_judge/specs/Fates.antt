@@ -35,6 +35,18 @@ table_fate table port octets =
     verdict_fate (table_passes table octets port)
     (record { part = Some (deciding_part table octets port); word = word_of octets })
 
+-- nothing is said of a record that two tables both pass, or both block
+abbrev pub where_unlike : Bool → Bool → Fate → Fate
+where_unlike true true fate = Silent
+where_unlike false false fate = Silent
+where_unlike true false fate = fate
+where_unlike false true fate = fate
+
+-- what a new table does to a record that an old one treats otherwise
+abbrev pub changed_fate : Meaning → Meaning → ℕ → List ℕ → Fate
+changed_fate old new port octets =
+    where_unlike (table_passes old octets port) (table_passes new octets port) (table_fate new port octets)
+
 -- what becomes of a line, where this becomes of the record that it says
 abbrev pub said_fate : (List ℕ → Fate) → Reading → Fate
 said_fate by (Err why) = Refused why

@@ -1,6 +1,7 @@
 //! Logs, judged: which of their lines say a frame that a policy passes, and which rule of a table decides each.
 #![tactic(auto)]
 
+mod changed;
 mod counts;
 mod decider;
 mod fate;
@@ -14,6 +15,7 @@ mod report;
 mod tally;
 mod whole;
 
+pub use changed::Changed;
 pub use counts::Counts;
 pub use decider::Decider;
 pub use fate::{Decided, Fate, line_fate};
