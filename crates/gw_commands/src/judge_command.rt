@@ -2,9 +2,9 @@
 
 ghost use Rattle.std.specs.Prelude.{◌≡◌, true, false};
 ghost use Rattle.gw_io.specs.Tries.{inner_of, has_failed};
-ghost use Rattle.gw_judge.specs.Fates.{fate_of};
+ghost use Rattle.gw_judge.specs.Fates.{fate_of, table_fate};
 ghost use Rattle.gw_judge.specs.Grouped.{no_groups};
-ghost use Rattle.gw_commands.specs.LogCounts.{told_counts};
+ghost use Rattle.gw_commands.specs.LogCounts.{table_counts, told_counts};
 ghost use Rattle.gw_commands.specs.Judgings.{
   EndsLog,
   JudgesGroups,
@@ -27,6 +27,7 @@ use gw_input::{Line, refused};
 use gw_io::Tried;
 use gw_judge::{Asked, Grouping, Groups, Head, JudgeFault, Tally, Wanted, judge};
 use gw_policy::Policy;
+use gw_table::{IndexedTable, Table};
 use std::alloc::{AllocError, Global};
 use std::io::{Read, Write};
 use std::rt::Files;
@@ -108,7 +109,7 @@ pub fn judge_log<I: Read, W: Write, F: Write>(
 {
     match query.kind {
         PolicyKind::Table => match read_table(alloc, text) {
-            Ok(table) => judge_by(alloc, query, &table, input, output, faults),
+            Ok(table) => judge_table(alloc, query, table, input, output, faults),
             Err(refusal) => respond(&Err(refusal), output, faults),
         },
         PolicyKind::Listing => match program(alloc, text) {
@@ -118,6 +119,27 @@ pub fn judge_log<I: Read, W: Write, F: Write>(
             }
             Err(refusal) => respond(&Err(refusal), output, faults),
         },
+    }
+}
+
+/// Judges each line of a log by a table: by its index, unless memory for that is wanting.
+fn judge_table<I: Read, W: Write, F: Write>(
+    alloc: Global,
+    query: LogQuery,
+    table: Table,
+    input: &mut Tried<I>,
+    output: &mut Tried<W>,
+    faults: &mut Tried<F>,
+) -> u8
+    requires input { has_failed input.old ≡ false }
+    requires output { has_failed output.old ≡ false }
+    ensures { JudgesGroups (fate_of (table_fate table query.port)) (table_counts table) query.by query.shown query.strict
+        (I.remaining (inner_of input.old)) (I.remaining (inner_of input.new)) (has_failed input.new)
+        (W.contents (inner_of output.old)) (W.contents (inner_of output.new)) (has_failed output.new) result }
+{
+    match IndexedTable::new(alloc, table) {
+        Ok(indexed) => judge_by(alloc, query, &indexed, input, output, faults),
+        Err(table) => judge_by(alloc, query, &table, input, output, faults),
     }
 }
 
@@ -217,7 +239,7 @@ fn tell_counts<D: TellsParts, W: Write, F: Write>(
 }
 
 /// Tells why a log ended early, on the output only where counts are asked for.
-fn tell_end<W: Write, F: Write>(
+pub(crate) fn tell_end<W: Write, F: Write>(
     shown: Shown,
     fault: JudgeFault,
     output: &mut Tried<W>,

@@ -22,7 +22,7 @@ ghost use Rattle.gw_commands.specs.LogCounts.{
 
 use gw_judge::{Decider, Grouping, Groups, Tally, Verdicts};
 use gw_policy::Policy;
-use gw_table::{Action, Field, Rule, Span, Table};
+use gw_table::{Action, Field, IndexedTable, Rule, Span, Table};
 use std::alloc::{AllocError, Global};
 
 /// What decides the frames of a log, and tells how many each of its parts decided.
@@ -55,6 +55,14 @@ impl TellsParts for Table {
         push_part(&mut text, "other", self.other(), tally.by_other)?;
         push_totals(&mut text, tally)?;
         Ok(text)
+    }
+}
+
+impl TellsParts for IndexedTable {
+    ghost counts_by = { table_counts };
+
+    fn counts_text(&self, alloc: Global, tally: &Tally) -> Result<String, AllocError> {
+        self.table().counts_text(alloc, tally)
     }
 }
 
