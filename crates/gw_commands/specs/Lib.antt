@@ -7,6 +7,7 @@ pub mod Commands
 pub mod Differences
 pub mod Judgings
 pub mod LogCounts
+pub mod LogDifferences
 pub mod Policies
 pub mod Queries
 pub mod Refusals

@@ -85,7 +85,7 @@ pub fn diff_texts<W: Write, F: Write>(
 }
 
 /// What a file holds. A person is told which file is refused.
-fn told_file<R: Files, F: Write>(
+pub(crate) fn told_file<R: Files, F: Write>(
     rt: &R,
     alloc: Global,
     file: &str,
@@ -103,7 +103,7 @@ fn told_file<R: Files, F: Write>(
 }
 
 /// The table of a file's text. A person is told which file is refused.
-fn told_table<F: Write>(
+pub(crate) fn told_table<F: Write>(
     alloc: Global,
     file: &str,
     text: &[u8],
