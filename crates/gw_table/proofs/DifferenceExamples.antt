@@ -32,14 +32,14 @@ abbrev new : Meaning
 new = record { otherwise = Block; other = Block; rules = engine ∷ tool ∷ [] }
 
 -- 18EA00F9, a request of the tool to the engine, and 18EAFFF9, one to all; the payload is E5FE00
-abbrev request : List ℕ
+abbrev pub request : List ℕ
 request = 0x98 ∷ 0xea ∷ 0x00 ∷ 0xf9 ∷ 3 ∷ 0 ∷ 0 ∷ 0 ∷ 0xe5 ∷ 0xfe ∷ 0 ∷ []
 
-abbrev to_all : List ℕ
+abbrev pub to_all : List ℕ
 to_all = 0x98 ∷ 0xea ∷ 0xff ∷ 0xf9 ∷ 3 ∷ 0 ∷ 0 ∷ 0 ∷ 0xe5 ∷ 0xfe ∷ 0 ∷ []
 
 -- an identifier of 11 bits
-abbrev short : List ℕ
+abbrev pub short : List ℕ
 short = 0 ∷ 0 ∷ 1 ∷ 0x23 ∷ 0 ∷ 0 ∷ 0 ∷ 0 ∷ []
 
 request_is_unlike : DecidePair old new request 1 (part.Rule 0) (part.Rule 0)

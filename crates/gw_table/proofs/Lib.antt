@@ -15,6 +15,7 @@ mod TreesExamples
 mod IndexExamples
 mod DifferenceExamples
 mod PairFrameExamples
+mod QuestionExamples
 pub mod NeverDecides
 pub mod Causes
 pub mod RuleBits
@@ -31,3 +32,4 @@ pub mod Guarded
 pub mod Crossed
 pub mod Asked
 pub mod PairFrames
+pub mod NoFrame

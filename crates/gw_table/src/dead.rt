@@ -127,7 +127,7 @@ impl Span {
     }
 
     /// Whether a parameter group lies in the range.
-    fn has_group(self) -> bool
+    pub(crate) fn has_group(self) -> bool
         requires { Fits greatest_group self }
         ensures { MatchBool result ((word : ℕ) × (lies_in (parameter_group word) self ≡ true))
             ((word : ℕ) → lies_in (parameter_group word) self ≡ false) }

@@ -8,6 +8,7 @@ ghost use Rattle.gw_table.specs.PartIndices.{index_of};
 ghost use Rattle.gw_table.specs.Question.{lies_in_given, is_asked, IsAsked, IsSample, IsAnswer};
 
 use crate::difference::Witness;
+use crate::no_frame::WhyNoFrame;
 use crate::search::common_frame;
 use crate::table::{Action, GREATEST_GROUP, GREATEST_OCTET, Part, Rule, Span, Table};
 use crate::universe::empty_frame;
@@ -38,8 +39,8 @@ pub enum Answer {
     AllPass(Sample),
     NonePass(Sample),
     SomePass { passing: Sample, blocked: Sample },
-    /// The box holds no frame.
-    NoFrame,
+    /// The box holds no frame, for the first cause in the order of `WhyNoFrame`.
+    NoFrame(WhyNoFrame),
 }
 
 impl Table {
@@ -53,7 +54,7 @@ impl Table {
             (Some(passing), Some(blocked)) => Answer::SomePass { passing, blocked },
             (Some(passing), None) => Answer::AllPass(passing),
             (None, Some(blocked)) => Answer::NonePass(blocked),
-            (None, None) => Answer::NoFrame,
+            (None, None) => Answer::NoFrame(question.why_no_frame()),
         })
     }
 
@@ -140,7 +141,7 @@ impl Question {
 }
 
 /// The numbers of a range up to the greatest of its field, and all of them where it is left out.
-fn cut(span: Option<Span>, greatest: u32) -> Option<Span>
+pub fn cut(span: Option<Span>, greatest: u32) -> Option<Span>
     ensures { MatchOption result ((n : ℕ) → n ≤ greatest → lies_in_given n span ≡ false)
         (λ cut. Fits greatest cut × ((n : ℕ) → n ≤ greatest → lies_in n cut ≡ lies_in_given n span)) }
 {

@@ -125,7 +125,7 @@ fn samples_of(found: &Answered) -> usize {
     match found {
         Answered::SomePass { .. } => 2,
         Answered::AllPass(_) | Answered::NonePass(_) => 1,
-        Answered::NoFrame => 0,
+        Answered::NoFrame(_) => 0,
     }
 }
 

@@ -1,6 +1,7 @@
 //! What a table passes of the frames that a question asks for.
 
 use gw_table::{Answer, Part, Question, Span, Table};
+use std::alloc::Global;
 use std::test::Fail;
 
 /// Requests (PGN 59904) of the tool at 249 are blocked, and those of others to the engine at 0 pass. So do engine hours.
@@ -77,11 +78,55 @@ fn none_passes(rt: HostRuntime) -> Result<(), Fail> {
     Ok(())
 }
 
-/// 59905 is in the range of PDU1 groups, whose last octet is 0: no frame has it.
+/// Why a question asks for no frame, in words.
+fn cause_in_words(alloc: Global, question: &Question) -> Result<String, Fail> {
+    let table = Table::read(alloc, TABLE)?;
+    let Answer::NoFrame(why) = table.answers(alloc, question)? else {
+        return Err(Fail::from("another answer"));
+    };
+    Ok(format!(in alloc; "{why}")?)
+}
+
+/// 59905 is in the range of PDU1 groups, whose last octet is 0, and addresses end at 255. The first cause is told.
 #[test]
-fn no_frame(rt: HostRuntime) -> Result<(), Fail> {
-    let table = Table::read(rt.alloc(), TABLE)?;
-    let answer = table.answers(rt.alloc(), &of_group(59905))?;
-    assert!(rt; matches!(answer, Answer::NoFrame));
+fn no_group_and_no_source(rt: HostRuntime) -> Result<(), Fail> {
+    let of_source = Question {
+        source: one(256),
+        ..of_group(59904)
+    };
+    let of_neither = Question {
+        pgn: one(59905),
+        ..of_source
+    };
+    assert!(rt;
+        cause_in_words(rt.alloc(), &of_neither)?.as_str()
+            == "`pgn` has no parameter group: below PDU format 240 the last octet of a PGN is 0, and the destination \
+                is no part of it"
+    );
+    assert!(rt;
+        cause_in_words(rt.alloc(), &of_source)?.as_str()
+            == "`source` has no address: addresses are 0 to 255"
+    );
+    Ok(())
+}
+
+/// 65253 is a PDU2 group, which goes to 255 alone, and ports end at 15.
+#[test]
+fn no_port_and_no_destination(rt: HostRuntime) -> Result<(), Fail> {
+    let to_engine = Question {
+        destination: one(0),
+        ..of_group(65253)
+    };
+    let of_neither = Question {
+        from: one(16),
+        ..to_engine
+    };
+    assert!(rt;
+        cause_in_words(rt.alloc(), &of_neither)?.as_str() == "`from` has no port: ports are 0 to 15"
+    );
+    assert!(rt;
+        cause_in_words(rt.alloc(), &to_engine)?.as_str()
+            == "`destination` has no address that these groups go to: addresses are 0 to 255, and PDU2 groups go to 255 alone"
+    );
     Ok(())
 }
