@@ -1,5 +1,6 @@
 //! The arguments of the command line.
 
+use crate::ask_arguments::{ask_arguments, asked_question};
 use crate::diff_arguments::diff_arguments;
 use crate::judge_arguments::judge_arguments;
 use crate::run_arguments::{run_arguments, wrong};
@@ -163,6 +164,7 @@ fn commands<'a>(alloc: Global) -> Result<Command<'a>, AllocError> {
     let program = bare_program(alloc).subcommand(verdict_command(alloc)?)?;
     with_plain(alloc, program)?
         .subcommand(table_command(alloc)?)?
+        .subcommand(ask_arguments(alloc)?)?
         .subcommand(diff_arguments(alloc)?)?
         .subcommand(judge_arguments(alloc)?)?
         .subcommand(run_arguments(alloc)?)
@@ -182,6 +184,7 @@ pub fn read_arguments<'a, S: AsStr>(alloc: Global, words: &'a [S]) -> Result<Req
         Some(("run", _)) => Err(wrong(alloc, "`run` must be the first word")),
         Some(("judge", _)) => Err(wrong(alloc, "`judge` must be the first word")),
         Some(("diff", _)) => Err(wrong(alloc, "`diff` must be the first word")),
+        Some(("ask", found)) => Ok(Request::Query(Query::Ask(asked_question(alloc, found)?))),
         Some((name, found)) => Ok(Request::Query(named_query(name, found))),
         None => Ok(Request::Query(Query::Check)),
     }

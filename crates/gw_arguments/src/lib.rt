@@ -2,6 +2,7 @@
 //! The arguments of the command line of the program `gw`: what `clap` reads of them, and shows as help.
 
 mod arguments;
+mod ask_arguments;
 mod diff_arguments;
 mod judge_arguments;
 mod run_arguments;

@@ -225,9 +225,14 @@ fn told(alloc: Global, word: &str, ports: usize, fault: WordFault) -> Result<Str
     }
 }
 
-/// `clap`'s error with this text, and the usage.
+/// `clap`'s error with this text, and the usage of `run`.
 pub fn wrong(alloc: Global, text: &str) -> Error {
-    match run_arguments(alloc) {
+    wrong_in(run_arguments(alloc), text)
+}
+
+/// `clap`'s error with this text, and the usage of a command.
+pub fn wrong_in(command: Result<Command, AllocError>, text: &str) -> Error {
+    match command {
         Ok(mut command) => match command.error(ErrorKind::ValueValidation, text) {
             Ok(error) => error,
             Err(AllocError) => Error::from(AllocError),

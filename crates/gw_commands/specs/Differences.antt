@@ -24,11 +24,15 @@ part_name Other = codes "other"
 abbrev pub side_text : Part → Bool → List ℕ
 side_text part passes = part_name part ++ (if passes then codes " passes" else codes " blocks")
 
+-- a frame and its port, at the end of a line
+abbrev pub place_text : List ℕ → ℕ → List ℕ
+place_text frame port = text_of frame ++ codes " at port " ++ decimal port ++ codes "\n"
+
 -- the line of a difference: the old table's side, the new one's, the frame and its port
 abbrev pub difference_line : Meaning → Meaning → Difference → List ℕ
 difference_line old new d =
     side_text d.old (table_passes old d.frame d.port) ++ codes ", " ++ side_text d.new (table_passes new d.frame d.port)
-    ++ codes ": " ++ text_of d.frame ++ codes " at port " ++ decimal d.port ++ codes "\n"
+    ++ codes ": " ++ place_text d.frame d.port
 
 unfoldable pub difference_lines : Meaning → Meaning → List Difference → List ℕ
 difference_lines old new found = flat_map (difference_line old new) found

@@ -10,6 +10,7 @@ pub mod LogCounts
 pub mod LogDifferences
 pub mod Policies
 pub mod Queries
+pub mod Questions
 pub mod Refusals
 pub mod Replays
 pub mod Tables

@@ -4,11 +4,12 @@ use Rattle.gw_commands.specs.declared.answer.Answer.{Answer}
 use Rattle.gw_commands.specs.declared.refusal.Refusal.{Refusal}
 use Rattle.gw_commands.specs.declared.query.Query.{Query}
 use Rattle.gw_commands.specs.declared.query.Query.TheVariants as query
-use Rattle.gw_commands.specs.declared.query.Query.TheVariants.{Verdict, Check, Asm, Claims, Table}
+use Rattle.gw_commands.specs.declared.query.Query.TheVariants.{Verdict, Check, Asm, Claims, Table, Ask}
 use Rattle.gw_commands.specs.Assemblies.{AnswersAsm, RefusesAsm, AnswersList, RefusesList}
 use Rattle.gw_commands.specs.Checks.{AnswersCheck, RefusesCheck}
 use Rattle.gw_commands.specs.ClaimLines.{AnswersClaims, RefusesClaims}
-use Rattle.gw_commands.specs.Tables.{AnswersTable, RefusesTable}
+use Rattle.gw_commands.specs.Questions.{AnswersAsk}
+use Rattle.gw_commands.specs.Tables.{AnswersTable, RefusesTable, RefusesText}
 use Rattle.gw_commands.specs.Verdicts.{AnswersVerdict, RefusesVerdict}
 
 abbrev pub AnswersQuery : Query → List ℕ → Answer → Type 0
@@ -18,6 +19,7 @@ AnswersQuery Asm input answer = AnswersAsm input answer
 AnswersQuery query.List input answer = AnswersList input answer
 AnswersQuery Claims input answer = AnswersClaims input answer
 AnswersQuery (Table port frame why) input answer = AnswersTable (option_copied frame) port input answer
+AnswersQuery (Ask question) input answer = AnswersAsk question input answer
 
 abbrev pub RefusesQuery : Query → List ℕ → Refusal → Type 0
 RefusesQuery (Verdict port word) input refusal = RefusesVerdict (option_copied word) input refusal
@@ -26,3 +28,4 @@ RefusesQuery Asm input refusal = RefusesAsm input refusal
 RefusesQuery query.List input refusal = RefusesList input refusal
 RefusesQuery Claims input refusal = RefusesClaims input refusal
 RefusesQuery (Table port frame why) input refusal = RefusesTable (option_copied frame) input refusal
+RefusesQuery (Ask question) input refusal = RefusesText input refusal

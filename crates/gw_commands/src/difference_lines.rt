@@ -6,9 +6,11 @@ ghost use Rattle.gw_commands.specs.Differences.{
   difference_line,
   difference_lines,
   differences_text,
+  place_text,
   side_text,
 };
 
+use gw_frame::Frame;
 use gw_input::Line;
 use gw_log::frame_text;
 use gw_table::{Difference, Part, Table};
@@ -59,15 +61,22 @@ fn push_line(
     let (frame, port) = (&difference.frame, difference.port);
     let sides = with_side(Line::new(), difference.old, old.verdict(frame, port)).text(", ");
     let sides = with_side(sides, difference.new, new.verdict(frame, port)).text(": ");
-    let place = Line::new().text(" at port ").port(port).text("\n");
     text.extend_from_slice(sides.as_bytes())?;
+    push_place(text, frame, port)
+}
+
+/// A frame and its port, at the end of a line.
+pub fn push_place(text: &mut Vec<u8>, frame: &Frame, port: u8) -> Result<(), AllocError>
+    ensures { OnOk result (text.new.items ≡ text.old.items ++ place_text frame.now port) }
+{
+    let place = Line::new().text(" at port ").port(port).text("\n");
     text.extend_from_slice(frame_text(frame).as_bytes())?;
     text.extend_from_slice(place.as_bytes())?;
     Ok(())
 }
 
 /// A line with what decides a frame in a table, and what it does, behind it.
-fn with_side(line: Line, part: Part, passes: bool) -> Line
+pub fn with_side(line: Line, part: Part, passes: bool) -> Line
     requires { length line + 32 ≤ 192 }
     ensures octets { result ≡ line ++ side_text part passes }
     ensures len { length result ≤ length line + 32 }

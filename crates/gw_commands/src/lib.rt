@@ -2,6 +2,8 @@
 //! The commands of the program `gw`, each over a reader and two writers, without the arguments of the command line.
 
 mod answer;
+mod answer_lines;
+mod ask_command;
 mod asm_command;
 mod check_command;
 mod claims_command;

@@ -6,6 +6,7 @@ ghost use Rattle.gw_commands.specs.Commands.{Does, IsFound};
 ghost use Rattle.gw_commands.specs.Queries.{AnswersQuery, RefusesQuery};
 
 use crate::answer::Answer;
+use crate::ask_command::ask;
 use crate::asm_command::asm;
 use crate::check_command::check;
 use crate::claims_command::claims;
@@ -16,6 +17,7 @@ use crate::streams::read_input;
 use crate::table_command::table;
 use crate::verdict_command::verdict;
 use gw_io::Tried;
+use gw_table::Question;
 use std::alloc::Global;
 use std::io::{Read, Write};
 
@@ -43,6 +45,8 @@ pub enum Query<'a> {
         frame: Option<&'a str>,
         why: bool,
     },
+    /// What a table does to the frames that are asked for.
+    Ask(Question),
 }
 
 /// Reads the input, and writes the answer to it or its first refusal. The status is 0 for an answer, and 1 for a refusal or where
@@ -98,5 +102,6 @@ fn answer_on<F: Write>(
         Query::Table { port, frame, why } => {
             table(alloc, port, frame, why, octets.as_slice(), faults)
         }
+        Query::Ask(question) => ask(alloc, &question, octets.as_slice()),
     }
 }

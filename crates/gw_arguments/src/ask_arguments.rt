@@ -1,0 +1,165 @@
+//! The arguments of `gw ask`.
+
+ghost use Rattle.std.specs.Prelude.{◌≤◌, IfOk};
+ghost use Rattle.gw_table.specs.Table.{Fits};
+
+use crate::arguments::{described, valued};
+use crate::run_arguments::wrong_in;
+use clap::{ArgMatches, Command, Error};
+use gw_ledger::MAX_PORTS;
+use gw_table::{Question, Span};
+use std::alloc::{AllocError, Global};
+
+/// The greatest parameter group number, of 18 bits (SAE J1939-21).
+const GREATEST_GROUP: u32 = 262143;
+
+/// The greatest address.
+const GREATEST_ADDRESS: u32 = 255;
+
+/// The greatest number of a port.
+const GREATEST_PORT: u32 = MAX_PORTS as u32 - 1;
+
+/// The command `ask`, as `clap` reads it and shows its help.
+pub fn ask_arguments<'a>(alloc: Global) -> Result<Command<'a>, AllocError> {
+    described(
+        alloc,
+        "ask",
+        "Tells whether a policy table passes all frames that are asked for, or none, or shows a frame of each kind",
+        "gw ask [--pgn A[-B]] [--source A[-B]] [--destination A[-B]] [--from P[-Q]] < TABLE",
+        "Example: gw ask --pgn 0 --destination 0 --from 1 < examples/engine-control.toml",
+    )
+    .arg(valued(
+        alloc,
+        "pgn",
+        "A[-B]",
+        "The parameter groups asked for, a number or a range, 0 to 262143 or 0x3FFFF [default: every frame, with a group or not]",
+    ))?
+    .arg(valued(
+        alloc,
+        "source",
+        "A[-B]",
+        "The source addresses asked for, 0 to 255",
+    ))?
+    .arg(valued(
+        alloc,
+        "destination",
+        "A[-B]",
+        "The destinations asked for, 0 to 255; frames of PDU format 240 and above go to 255 alone",
+    ))?
+    .arg(valued(
+        alloc,
+        "from",
+        "P[-Q]",
+        "The ports asked for at which the frame was taken, 0 to 15 [default: each]",
+    ))
+}
+
+/// What the arguments behind `ask` ask of a table.
+pub fn asked_question(alloc: Global, found: &ArgMatches) -> Result<Question, Error> {
+    Ok(Question {
+        pgn: asked_span(alloc, found, "pgn", GREATEST_GROUP)?,
+        source: asked_span(alloc, found, "source", GREATEST_ADDRESS)?,
+        destination: asked_span(alloc, found, "destination", GREATEST_ADDRESS)?,
+        from: asked_span(alloc, found, "from", GREATEST_PORT)?,
+    })
+}
+
+/// The range of an option, if it is given.
+fn asked_span(
+    alloc: Global,
+    found: &ArgMatches,
+    option: &str,
+    greatest: u32,
+) -> Result<Option<Span>, Error> {
+    let Some(word) = found.get_str(option) else {
+        return Ok(None);
+    };
+    match named_span(word, greatest) {
+        Ok(span) => Ok(Some(span)),
+        Err(fault) => {
+            let text = told(alloc, option, word, greatest, fault)?;
+            Err(wrong_in(ask_arguments(alloc), text.as_str()))
+        }
+    }
+}
+
+/// Why a word names no range.
+#[derive(Clone, Copy)]
+enum SpanFault {
+    NoNumber,
+    /// A number is above the greatest of its field.
+    TooGreat,
+    /// The first number is above the second.
+    Descending(Span),
+}
+
+/// The range that a word names: a number, or the least and the greatest with `-` between them.
+fn named_span(word: &str, greatest: u32) -> Result<Span, SpanFault>
+    ensures { IfOk result (Fits greatest) }
+{
+    let (low, high) = match word.split_once('-') {
+        Some((low, high)) => (number(low), number(high)),
+        None => (number(word), number(word)),
+    };
+    let (Some(low), Some(high)) = (low, high) else {
+        return Err(SpanFault::NoNumber);
+    };
+    if low > greatest || high > greatest {
+        Err(SpanFault::TooGreat)
+    } else if low > high {
+        Err(SpanFault::Descending(Span { low, high }))
+    } else {
+        Ok(Span { low, high })
+    }
+}
+
+/// The number that a word is, as tables write them: decimal, or hexadecimal behind `0x`, octal behind `0o`, binary behind `0b`.
+fn number(word: &str) -> Option<u32> {
+    let (base, digits) = match word.split_at_checked(2) {
+        Some(("0x", digits)) => (16, digits),
+        Some(("0o", digits)) => (8, digits),
+        Some(("0b", digits)) => (2, digits),
+        _ => (10, word),
+    };
+    digits_value(digits, base)
+}
+
+/// The number that digits say, of which two may have one `_` between them.
+fn digits_value(digits: &str, base: u32) -> Option<u32>
+    requires least { 2 ≤ base }
+    requires most { base ≤ 36 }
+{
+    let mut value: u32 = 0;
+    let mut is_behind_digit = false;
+    for c in digits.chars() {
+        if c == '_' && is_behind_digit {
+            is_behind_digit = false;
+        } else {
+            value = value.checked_mul(base)?.checked_add(c.to_digit(base)?)?;
+            is_behind_digit = true;
+        }
+    }
+    is_behind_digit.then_some(value)
+}
+
+/// What is told of a word that names no range of an option.
+fn told(
+    alloc: Global,
+    option: &str,
+    word: &str,
+    greatest: u32,
+    fault: SpanFault,
+) -> Result<String, AllocError> {
+    match fault {
+        SpanFault::NoNumber => format!(in alloc;
+            "invalid value '{word}' for '--{option}': write a number, or two with `-` between them, from 0 to {greatest}; \
+            hexadecimal digits stand behind `0x`"
+        ),
+        SpanFault::TooGreat => format!(in alloc;
+            "invalid value '{word}' for '--{option}': the greatest number is {greatest}"
+        ),
+        SpanFault::Descending(Span { low, high }) => format!(in alloc;
+            "invalid value '{word}' for '--{option}': the smaller number stands first, `{high}-{low}`"
+        ),
+    }
+}

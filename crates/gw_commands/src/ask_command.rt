@@ -1,0 +1,35 @@
+//! The command `ask`: what a table does to the frames of a question.
+
+ghost use Rattle.std.specs.Prelude.{IfOk, IfErr};
+ghost use Rattle.gw_commands.specs.Questions.{AnswersAsk, TellsAnswer};
+ghost use Rattle.gw_commands.specs.Tables.{RefusesText};
+
+use crate::answer::Answer;
+use crate::answer_lines::table_answer_text;
+use crate::refusal::Refusal;
+use crate::texts::read_table;
+use gw_table::{Question, Table};
+use std::alloc::{AllocError, Global};
+
+/// What a text's table does to the frames that are asked for. The text is refused as by the command `table`.
+pub fn ask(alloc: Global, question: &Question, input: &[u8]) -> Result<Answer, Refusal>
+    ensures answered { IfOk result (AnswersAsk question.now input.now) }
+    ensures refused { IfErr result (RefusesText input.now) }
+{
+    let table = match read_table(alloc, input) {
+        Ok(table) => table,
+        Err(refusal) => return Err(refusal),
+    };
+    match told_answer(alloc, &table, question) {
+        Ok(text) => Ok(Answer::Text(text)),
+        Err(AllocError) => Err(Refusal::OutOfMemory),
+    }
+}
+
+/// The text of a table's answer.
+fn told_answer(alloc: Global, table: &Table, question: &Question) -> Result<Vec<u8>, AllocError>
+    ensures { IfOk result (λ text. TellsAnswer table.now question.now text.items) }
+{
+    let answer = table.answers(alloc, question)?;
+    table_answer_text(alloc, &answer)
+}
