@@ -21,6 +21,8 @@ mod differences;
 #[cfg(test)]
 mod events;
 #[cfg(test)]
+mod every_frame;
+#[cfg(test)]
 mod frame;
 #[cfg(test)]
 mod ident;
