@@ -191,6 +191,8 @@ static bool time_part(const char *part, const char *name, const uint8_t (*record
     static char text[LONGEST_TEXT];
     if (strcmp(part, "programs") == 0)
         return time_programs(records);
+    if (strcmp(part, "differences") == 0)
+        return time_differences();
     size_t length = read_text(name, text);
     if (length == 0)
         return is_refused(name, "no text");
@@ -213,11 +215,13 @@ int main(int argc, char **argv)
 {
     static uint8_t records[RECORDS][16];
     if (argc != 2 && argc != 3) {
-        fprintf(stderr, "usage: bench TABLE.toml [programs|tables|events|texts|traces|scripts|runs]\n");
+        fprintf(stderr, "usage: bench TABLE.toml [programs|tables|differences|events|texts|traces|scripts|runs]\n");
         return 2;
     }
     write_records(records);
     if (argc == 3)
         return time_part(argv[2], argv[1], records) ? 0 : 1;
-    return time_programs(records) && time_rules(argv[1], records) && time_texts() && time_traces(records) ? 0 : 1;
+    return time_programs(records) && time_rules(argv[1], records) && time_differences() && time_texts() && time_traces(records)
+               ? 0
+               : 1;
 }

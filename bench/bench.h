@@ -21,6 +21,9 @@ uint64_t gw_bench_cold(const char *text, size_t length, const uint8_t (*records)
                        size_t words, uint32_t rounds, uint32_t way);
 size_t gw_bench_compile(const char *text, size_t length, struct bpf_insn *code, size_t room);
 
+/* How many pairs of parts of two tables decide some frame unlike, or SIZE_MAX. */
+size_t gw_bench_differences(const char *old, size_t old_length, const char *new, size_t new_length);
+
 /* How many instructions an assembler text has, or 0. */
 size_t gw_bench_assemble(const char *text, size_t length);
 
@@ -79,6 +82,9 @@ bool time_traces(const uint8_t (*records)[16]);
  * emptied.
  */
 bool time_tables(const char *text, size_t length, const uint8_t (*records)[16]);
+
+/* Times what two tables differ in. */
+bool time_differences(void);
 
 /* The first records of a vehicle's bus. */
 void write_records(uint8_t (*records)[16]);

@@ -7,6 +7,7 @@ ghost use Rattle.std.specs.Bool.{OnFalse, OnTrue};
 ghost use Rattle.bench_calls.specs.Calls.{IsCompiled, IsJudged, IsRun};
 
 mod cold;
+mod differences;
 mod events;
 mod indexed;
 mod interchange;
@@ -16,6 +17,7 @@ mod texts;
 mod traces;
 
 pub use cold::pass_cold;
+pub use differences::count_differences;
 pub use events::{count_events, count_steps};
 use gw_table::compile;
 use indexed::index_rounds;

@@ -6,8 +6,9 @@ ghost use Rattle.std.specs.Bool.{OnFalse, OnTrue};
 ghost use Rattle.bench_calls.specs.Calls.{IsAssembled, IsCompiled, IsJudged, IsRun, IsWhole};
 
 use bench_calls::{
-    BpfInsn, Record, Tally, count_assembled, count_events, count_steps, judge_by_index,
-    judge_by_rules, pass_cold, run_code, tally_pieces, tally_shares, write_compiled,
+    BpfInsn, Record, Tally, count_assembled, count_differences, count_events, count_steps,
+    judge_by_index, judge_by_rules, pass_cold, run_code, tally_pieces, tally_shares,
+    write_compiled,
 };
 use std::alloc::Global;
 
@@ -129,4 +130,10 @@ pub extern "C" fn gw_bench_cold(
     way: u32,
 ) -> u64 {
     pass_cold(alloc, text, records, walk, rounds, way).unwrap_or(0)
+}
+
+/// `count_differences`, or the greatest number.
+#[unsafe(no_mangle)]
+pub extern "C" fn gw_bench_differences(alloc: Global, old: &[u8], new: &[u8]) -> usize {
+    count_differences(alloc, old, new).unwrap_or(usize::MAX)
 }
