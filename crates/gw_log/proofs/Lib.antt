@@ -2,6 +2,7 @@ pub mod DigitValues
 pub mod Parts
 pub mod DigitTexts
 pub mod RoundTrip
+pub mod ReadBack
 pub mod WordByWord
 pub mod ShownOctets
 mod FrameExamples

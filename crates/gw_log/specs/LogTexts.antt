@@ -50,3 +50,9 @@ said_record octets = record_of (said_word (word_of octets)) (said_payload (word_
 -- what was written reads back as what a log says in the record's place
 abbrev pub WritesAndReads : Type 0
 WritesAndReads = (octets : List ℕ) → IsRecord octets → frame_of (text_of octets) ≡ Ok (said_record octets)
+
+-- what was read is what a log says: written, it reads back as itself
+abbrev pub ReadsAndWrites : Type 0
+ReadsAndWrites =
+    (text octets : List ℕ) → frame_of text ≡ Ok octets
+    → (said_record octets ≡ octets) × (frame_of (text_of octets) ≡ Ok octets)

@@ -11,7 +11,7 @@ mod refusal;
 mod words;
 mod writing;
 
-pub use law::reads_back;
+pub use law::{reads_back, writes_back};
 pub use line::{LogLine, MAX_LINE, read_line};
 pub use reading::read_frame;
 pub use refusal::{FRAME_FORM, LogRefusal};
