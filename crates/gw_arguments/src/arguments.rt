@@ -4,8 +4,8 @@ use crate::ask_arguments::{ask_arguments, asked_question};
 use crate::diff_arguments::diff_arguments;
 use crate::judge_arguments::judge_arguments;
 use crate::run_arguments::{run_arguments, wrong};
-use clap::{Arg, ArgAction, ArgMatches, Command, Error, value_parser};
-use gw_commands::Query;
+use clap::{Arg, ArgAction, ArgGroup, ArgMatches, Command, Error, value_parser};
+use gw_commands::{FrameWord, Query};
 use gw_ledger::MAX_PORTS;
 use std::alloc::{AllocError, Global};
 use std::convert::AsStr;
@@ -21,6 +21,9 @@ pub enum Request<'a> {
 
 /// The version that `--version` tells.
 const VERSION: &str = "0.1.0";
+
+/// The group of the arguments that say a frame, of which one at most is given.
+const SAID: &str = "said";
 
 /// A command with what its help shows: what it is about, how it is written, and an example.
 pub fn described<'a>(
@@ -63,19 +66,35 @@ pub fn ingress_port<'a>(alloc: Global) -> Arg<'a> {
     .value_parser(value_parser!(u8).range(0..=MAX_PORTS as i64 - 1))
 }
 
+/// The command with the option that says a frame in candump's form, in place of the argument of this name.
+fn with_can<'a>(
+    alloc: Global,
+    command: Command<'a>,
+    record: &'a str,
+) -> Result<Command<'a>, AllocError> {
+    let group = ArgGroup::new(alloc, SAID).arg(record)?.arg("can")?;
+    command.group(group)?.arg(valued(
+        alloc,
+        "can",
+        "FRAME",
+        "The frame in candump's form in place of the record: 18FEF100#0102030405060708, or 123#R3 for a remote one",
+    ))
+}
+
 fn verdict_command<'a>(alloc: Global) -> Result<Command<'a>, AllocError> {
     let record = Arg::new(alloc, "record").value_name("HEX").help(
         "The record in hexadecimal digits; without it, the first line of the input is the record",
     );
-    described(
+    let command = described(
         alloc,
         "verdict",
         "Runs a program's listing on a record: `pass <answer>` or `block`",
-        "gw verdict [--port P] [HEX] < LISTING",
+        "gw verdict [--port P] [HEX | --can FRAME] < LISTING",
         "Example: gw verdict 98FEF10008000000FFFFFFFFFFFFFFFF <<< '4,48 0 0 1,21 0 1 254,6 0 0 1,6 0 0 0,'",
     )
     .arg(ingress_port(alloc))?
-    .arg(record)
+    .arg(record)?;
+    with_can(alloc, command, "record")
 }
 
 fn table_command<'a>(alloc: Global) -> Result<Command<'a>, AllocError> {
@@ -90,16 +109,16 @@ fn table_command<'a>(alloc: Global) -> Result<Command<'a>, AllocError> {
         "why",
         "Tells on stderr which rule decides the frame, counted from 0",
     );
-    described(
+    let command = described(
         alloc,
         "table",
         "Compiles a policy table to a program's listing, or tells `pass` or `block` for a frame",
-        "gw table [--frame HEX [--why]] [--port P] < TABLE",
+        "gw table [(--frame HEX | --can FRAME) [--why]] [--port P] < TABLE",
         "Example: gw table --port 1 --frame 98EA00F903000000EBFE000000000000 < examples/diagnostics-port.toml",
     )
     .arg(ingress_port(alloc))?
-    .arg(frame)?
-    .arg(why.requires_arg("frame")?)
+    .arg(frame)?;
+    with_can(alloc, command, "frame")?.arg(why.requires_arg(SAID)?)
 }
 
 // A function has few commands in hand: each `?` behind them pays for letting them go.
@@ -195,16 +214,25 @@ fn named_query<'a>(name: &str, found: &ArgMatches<'a>) -> Query<'a> {
     match name {
         "verdict" => Query::Verdict {
             port: found.get_one::<u8>("port").unwrap_or(0),
-            record: found.get_str("record"),
+            frame: said_frame(found, "record"),
         },
         "asm" => Query::Asm,
         "list" => Query::List,
         "claims" => Query::Claims,
         "table" => Query::Table {
             port: found.get_one::<u8>("port").unwrap_or(0),
-            frame: found.get_str("frame"),
+            frame: said_frame(found, "frame"),
             why: found.get_flag("why"),
         },
         _ => Query::Check,
+    }
+}
+
+/// The word that says a frame: the argument of this name, or candump's form.
+fn said_frame<'a>(found: &ArgMatches<'a>, record: &str) -> Option<FrameWord<'a>> {
+    match (found.get_str(record), found.get_str("can")) {
+        (Some(text), _) => Some(FrameWord::Record(text)),
+        (None, Some(text)) => Some(FrameWord::Candump(text)),
+        (None, None) => None,
     }
 }

@@ -42,7 +42,7 @@ pub fn command<S: AsStr, R: Read, W: Write, F: Write>(
     if words.is_empty() {
         let first = Query::Verdict {
             port: 0,
-            record: None,
+            frame: None,
         };
         return answer_query(alloc, first, input, output, faults);
     }

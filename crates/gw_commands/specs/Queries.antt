@@ -1,5 +1,5 @@
 -- What answers the input of a command that reads it whole, and which refusal is its first.
-use Rattle.std.specs.Prelude.{ℕ, List, option_copied}
+use Rattle.std.specs.Prelude.{ℕ, List}
 use Rattle.gw_commands.specs.declared.answer.Answer.{Answer}
 use Rattle.gw_commands.specs.declared.refusal.Refusal.{Refusal}
 use Rattle.gw_commands.specs.declared.query.Query.{Query}
@@ -13,19 +13,19 @@ use Rattle.gw_commands.specs.Tables.{AnswersTable, RefusesTable, RefusesText}
 use Rattle.gw_commands.specs.Verdicts.{AnswersVerdict, RefusesVerdict}
 
 abbrev pub AnswersQuery : Query → List ℕ → Answer → Type 0
-AnswersQuery (Verdict port word) input answer = AnswersVerdict (option_copied word) port input answer
+AnswersQuery (Verdict port word) input answer = AnswersVerdict word port input answer
 AnswersQuery Check input answer = AnswersCheck input answer
 AnswersQuery Asm input answer = AnswersAsm input answer
 AnswersQuery query.List input answer = AnswersList input answer
 AnswersQuery Claims input answer = AnswersClaims input answer
-AnswersQuery (Table port frame why) input answer = AnswersTable (option_copied frame) port input answer
+AnswersQuery (Table port frame why) input answer = AnswersTable frame port input answer
 AnswersQuery (Ask question) input answer = AnswersAsk question input answer
 
 abbrev pub RefusesQuery : Query → List ℕ → Refusal → Type 0
-RefusesQuery (Verdict port word) input refusal = RefusesVerdict (option_copied word) input refusal
+RefusesQuery (Verdict port word) input refusal = RefusesVerdict word input refusal
 RefusesQuery Check input refusal = RefusesCheck input refusal
 RefusesQuery Asm input refusal = RefusesAsm input refusal
 RefusesQuery query.List input refusal = RefusesList input refusal
 RefusesQuery Claims input refusal = RefusesClaims input refusal
-RefusesQuery (Table port frame why) input refusal = RefusesTable (option_copied frame) input refusal
+RefusesQuery (Table port frame why) input refusal = RefusesTable frame input refusal
 RefusesQuery (Ask question) input refusal = RefusesText input refusal

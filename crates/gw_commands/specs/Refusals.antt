@@ -1,12 +1,13 @@
 -- The lines of refusals.
 use Rattle.std.specs.Prelude.{ℕ, Option, Some, None, List, [], ◌∷◌}
 use Rattle.gw_insn.specs.Listing as listing
+use Rattle.gw_log.specs.LogFrames as log
 use Rattle.gw_verify.specs.Cause.{cause_number}
 use Rattle.gw_text.specs.Assembly as asm
 use Rattle.gw_table.specs.TableText as table
 use Rattle.gw_commands.specs.declared.refusal.Refusal.{Refusal}
 use Rattle.gw_commands.specs.declared.refusal.Refusal.TheVariants as refusal
-use Rattle.gw_commands.specs.declared.refusal.Refusal.TheVariants.{Record, RecordOnLine, Listing, Program, Explained, Assembler}
+use Rattle.gw_commands.specs.declared.refusal.Refusal.TheVariants.{Record, RecordOnLine, Candump, Listing, Program, Explained, Assembler}
 use Rattle.gw_commands.specs.declared.refusal.Refusal.TheVariants.{Table, ReadFault, TooMuchInput, NotUtf8}
 use Rattle.gw_input.specs.Records.{record_number}
 use Rattle.gw_input.specs.Refused.{listing_details, cause_details, table_details}
@@ -15,6 +16,7 @@ use Rattle.gw_input.specs.Refused.{refused_line}
 abbrev pub number_of : Refusal → ℕ
 number_of (Record fault) = record_number fault
 number_of (RecordOnLine line fault) = record_number fault
+number_of (Candump why) = log.refusal_number why
 number_of (Listing why) = listing.refusal_number why
 number_of (Program refused path) = cause_number refused.why
 number_of (Explained refused path lines) = cause_number refused.why

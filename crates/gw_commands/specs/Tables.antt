@@ -11,18 +11,18 @@ use Rattle.gw_commands.specs.declared.answer.Answer.{Answer}
 use Rattle.gw_commands.specs.declared.answer.Answer.TheVariants.{Passes, Text}
 use Rattle.gw_commands.specs.declared.refusal.Refusal.{Refusal}
 use Rattle.gw_commands.specs.declared.refusal.Refusal.TheVariants.{NotUtf8, Table, OutOfMemory}
-use Rattle.gw_input.specs.Records.{NamesRecord}
-use Rattle.gw_commands.specs.Verdicts.{RefusesRecord}
+use Rattle.gw_commands.specs.declared.frames.FrameWord.{FrameWord}
+use Rattle.gw_commands.specs.Frames.{MeansFrame, RefusesFrame}
 
 -- the listing of a table's program, and a line feed
 abbrev pub compiled_line : Meaning → List ℕ
 compiled_line table = plain_listing (map raw_of (emission table)) ++ 10 ∷ []
 
--- the program's listing, or with the text of a frame whether the table passes it
-abbrev pub AnswersTable : Option (List ℕ) → ℕ → List ℕ → Answer → Type 0
+-- the program's listing, or with a word for a frame whether the table passes it
+abbrev pub AnswersTable : Option FrameWord → ℕ → List ℕ → Answer → Type 0
 AnswersTable None port input (Text line) = (table : Meaning) × IsTable input table × (line.items ≡ compiled_line table)
-AnswersTable (Some frame) port input (Passes passes) =
-    (table : Meaning) × (octets : List ℕ) × NamesRecord frame octets × IsTable input table
+AnswersTable (Some word) port input (Passes passes) =
+    (table : Meaning) × (octets : List ℕ) × MeansFrame word octets × IsTable input table
     × (passes ≡ table_passes table octets port)
 AnswersTable _ port input _ = ⊥
 
@@ -34,8 +34,7 @@ RefusesText input OutOfMemory = (table : Meaning) × IsTable input table
 RefusesText input _ = ⊥
 
 -- the first refusal: the frame's, or with a frame the table's
-abbrev pub RefusesTable : Option (List ℕ) → List ℕ → Refusal → Type 0
+abbrev pub RefusesTable : Option FrameWord → List ℕ → Refusal → Type 0
 RefusesTable None input refusal = RefusesText input refusal
-RefusesTable (Some frame) input refusal =
-    RefusesRecord frame refusal
-    ⊎ ((octets : List ℕ) × NamesRecord frame octets × RefusesText input refusal)
+RefusesTable (Some word) input refusal =
+    RefusesFrame word refusal ⊎ ((octets : List ℕ) × MeansFrame word octets × RefusesText input refusal)

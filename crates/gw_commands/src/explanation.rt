@@ -1,6 +1,7 @@
 //! What a refusal says to a person.
 
 use crate::refusal::Refusal;
+use gw_input::RecordFault;
 use gw_text::Explained;
 use gw_verify::{Cause, Path, Refused};
 use std::error::Error;
@@ -10,7 +11,12 @@ use std::fmt::{Display, Formatter};
 impl Display for Refusal {
     fn fmt<W: fmt::Write>(&self, f: &mut Formatter<W>) -> fmt::Result {
         match self {
+            Refusal::Record(fault @ RecordFault::NoDigit { octet: b'#', .. }) => write!(
+                f,
+                "{fault}; `gw verdict --can` and `gw table --can` read candump's form"
+            ),
             Refusal::Record(fault) => write!(f, "{fault}"),
+            Refusal::Candump(why) => write!(f, "{why}"),
             Refusal::RecordOnLine { line, fault } => write!(f, "line {line}: {fault}"),
             Refusal::Listing(why) => write!(f, "{why}"),
             Refusal::Program {

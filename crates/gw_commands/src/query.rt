@@ -10,6 +10,7 @@ use crate::ask_command::ask;
 use crate::asm_command::asm;
 use crate::check_command::check;
 use crate::claims_command::claims;
+use crate::frames::FrameWord;
 use crate::list_command::list;
 use crate::refusal::Refusal;
 use crate::responding::respond;
@@ -24,11 +25,11 @@ use std::io::{Read, Write};
 /// A command that reads its input whole, with what its arguments name.
 #[derive(Clone, Copy)]
 pub enum Query<'a> {
-    /// The verdict of a listing's program on a record that was taken at a port. Without an argument, the record stands on the
-    /// first line of the input.
+    /// The verdict of a listing's program on a frame that was taken at a port. Without a word for the frame, its record stands on
+    /// the first line of the input.
     Verdict {
         port: u8,
-        record: Option<&'a str>,
+        frame: Option<FrameWord<'a>>,
     },
     /// How many instructions a listing's accepted program has. A path to the read of an unset word stands before its refusal.
     Check,
@@ -42,7 +43,7 @@ pub enum Query<'a> {
     /// which rule decides the frame.
     Table {
         port: u8,
-        frame: Option<&'a str>,
+        frame: Option<FrameWord<'a>>,
         why: bool,
     },
     /// What a table does to the frames that are asked for.
@@ -94,7 +95,7 @@ fn answer_on<F: Write>(
     ensures refused { IfErr result (RefusesQuery query.entry octets.items) }
 {
     match query {
-        Query::Verdict { port, record } => verdict(alloc, port, record, octets.as_slice(), faults),
+        Query::Verdict { port, frame } => verdict(alloc, port, frame, octets.as_slice(), faults),
         Query::Check => check(alloc, octets.as_slice()),
         Query::Asm => asm(alloc, octets),
         Query::List => list(alloc, octets.as_slice()),

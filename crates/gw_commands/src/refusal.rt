@@ -8,6 +8,7 @@ ghost use Rattle.gw_commands.specs.Refusals.{line_details};
 use gw_input::{Line, RecordFault, refused, refused_code};
 use gw_insn::ListRefusal;
 use gw_io::ReadFault;
+use gw_log::LogRefusal;
 use gw_table::TableRefusal;
 use gw_text::AsmRefusal;
 use gw_verify::{Path, Refused};
@@ -23,6 +24,8 @@ pub enum Refusal {
         line: usize,
         fault: RecordFault,
     },
+    /// 101, 103 and 106 to 112: a text that is no frame in candump's form.
+    Candump(LogRefusal),
     /// 10 to 13: a text that is no listing.
     Listing(ListRefusal),
     /// 20 to 30: code that is not accepted. For a scratch word that may be unset there is a path that leaves it unset,
@@ -64,6 +67,7 @@ impl Refusal {
         match self {
             Refusal::Record(fault) => fault.number(),
             Refusal::RecordOnLine { fault, .. } => fault.number(),
+            Refusal::Candump(why) => why.number(),
             Refusal::Listing(why) => why.number(),
             Refusal::Program { refused, .. } | Refusal::Explained { refused, .. } => refused
                 .why

@@ -1,13 +1,14 @@
 //! The command `table`: policy tables, their programs and their verdicts.
 
-ghost use Rattle.std.specs.Prelude.{◌≡◌, ◌≤◌, ℕ, Some, None, length, map, IfOk, IfErr, option_copied};
+ghost use Rattle.std.specs.Prelude.{◌≡◌, ◌≤◌, ℕ, Some, None, length, map, IfOk, IfErr};
 ghost use Rattle.gw_insn.specs.Table.{raw_of};
 ghost use Rattle.gw_commands.specs.Tables.{AnswersTable, RefusesTable, compiled_line};
 
 use crate::answer::Answer;
+use crate::frames::{FrameWord, word_frame};
 use crate::notes::{note_dead_rules, note_decision};
 use crate::refusal::Refusal;
-use crate::texts::{noted_record, read_table};
+use crate::texts::read_table;
 use gw_insn::{Raw, encode, write_listing};
 use gw_io::Tried;
 use gw_table::{Table, compile};
@@ -19,33 +20,33 @@ use std::io::Write;
 pub fn table<F: Write>(
     alloc: Global,
     port: u8,
-    frame: Option<&str>,
+    frame: Option<FrameWord>,
     why: bool,
     input: &[u8],
     faults: &mut Tried<F>,
 ) -> Result<Answer, Refusal>
-    ensures answered { IfOk result (AnswersTable (option_copied frame.entry) port input.now) }
-    ensures refused { IfErr result (RefusesTable (option_copied frame.entry) input.now) }
+    ensures answered { IfOk result (AnswersTable frame.entry port input.now) }
+    ensures refused { IfErr result (RefusesTable frame.entry input.now) }
 {
     match frame {
-        Some(text) => judged(alloc, port, text, why, input, faults),
+        Some(word) => judged(alloc, port, word, why, input, faults),
         None => compiled(alloc, input, faults),
     }
 }
 
-/// The verdict of a table on a frame, whose text is judged before the table.
+/// The verdict of a table on a frame, whose word is judged before the table.
 fn judged<F: Write>(
     alloc: Global,
     port: u8,
-    text: &str,
+    word: FrameWord,
     why: bool,
     input: &[u8],
     faults: &mut Tried<F>,
 ) -> Result<Answer, Refusal>
-    ensures answered { IfOk result (AnswersTable (Some text.now) port input.now) }
-    ensures refused { IfErr result (RefusesTable (Some text.now) input.now) }
+    ensures answered { IfOk result (AnswersTable (Some word.entry) port input.now) }
+    ensures refused { IfErr result (RefusesTable (Some word.entry) input.now) }
 {
-    let frame = match noted_record(text.as_bytes(), faults) {
+    let frame = match word_frame(word, faults) {
         Ok(frame) => frame,
         Err(refusal) => return Err(refusal),
     };

@@ -1,8 +1,9 @@
 //! What a text means, or why it is refused: a record, the program of a listing, and the table of a table's text.
 
 ghost use Rattle.std.specs.Prelude.{IfOk, IfErr};
+ghost use Rattle.gw_commands.specs.Frames.{RefusesRecord};
 ghost use Rattle.gw_commands.specs.Tables.{RefusesText};
-ghost use Rattle.gw_commands.specs.Verdicts.{IsProgramRefusal, RefusesRecord};
+ghost use Rattle.gw_commands.specs.Verdicts.{IsProgramRefusal};
 ghost use Rattle.gw_input.specs.Programs.{NamesProgram};
 ghost use Rattle.gw_input.specs.Records.{NamesRecord};
 ghost use Rattle.gw_input.specs.Tables.{IsTable};
