@@ -39,7 +39,7 @@ fn main(rt: HostRuntime) -> ExitCode {
         Some(first) if first.as_str() == "diff" => {
             diff_command(&rt, alloc, &words, &mut output, &mut faults)
         }
-        _ => command(alloc, &words, &mut input, &mut output, &mut faults),
+        _ => command(&rt, alloc, &words, &mut input, &mut output, &mut faults),
     };
     ExitCode::from(status)
 }

@@ -15,6 +15,8 @@ use std::convert::AsStr;
 pub enum Request<'a> {
     /// An answer to the whole input.
     Query(Query<'a>),
+    /// An answer to what a file of this name holds.
+    Named(Query<'a>, &'a str),
     /// `replay`.
     Replay,
 }
@@ -24,6 +26,9 @@ const VERSION: &str = "0.1.0";
 
 /// The group of the arguments that say a frame, of which one at most is given.
 const SAID: &str = "said";
+
+/// The argument that names a file in place of the standard input.
+const FILE: &str = "file";
 
 /// A command with what its help shows: what it is about, how it is written, and an example.
 pub fn described<'a>(
@@ -66,6 +71,33 @@ pub fn ingress_port<'a>(alloc: Global) -> Arg<'a> {
     .value_parser(value_parser!(u8).range(0..=MAX_PORTS as i64 - 1))
 }
 
+/// The file that is read in place of the standard input.
+fn input_file<'a>(alloc: Global) -> Arg<'a> {
+    Arg::new(alloc, FILE).value_name("FILE").help(
+        "The file that is read in place of the standard input; `-` is the standard input",
+    )
+}
+
+/// A command that reads a file or the standard input, with what its help shows.
+pub fn reading<'a>(
+    alloc: Global,
+    name: &'a str,
+    about: &'a str,
+    usage: &'a str,
+    example: &'a str,
+) -> Result<Command<'a>, AllocError> {
+    described(alloc, name, about, usage, example).arg(input_file(alloc))
+}
+
+/// The option that has the exit status tell that a frame is blocked.
+fn exit_code<'a>(alloc: Global) -> Arg<'a> {
+    flag(
+        alloc,
+        "exit-code",
+        "Ends with status 3 where the frame is blocked; without it with 0, as where it passes",
+    )
+}
+
 /// The command with the option that says a frame in candump's form, in place of the argument of this name.
 fn with_can<'a>(
     alloc: Global,
@@ -89,12 +121,16 @@ fn verdict_command<'a>(alloc: Global) -> Result<Command<'a>, AllocError> {
         alloc,
         "verdict",
         "Runs a program's listing on a record: `pass <answer>` or `block`",
-        "gw verdict [--port P] [HEX | --can FRAME] < LISTING",
+        "gw verdict [(HEX | --can FRAME) [--listing FILE]] [--port P] [--exit-code]",
         "Example: gw verdict 98FEF10008000000FFFFFFFFFFFFFFFF <<< '4,48 0 0 1,21 0 1 254,6 0 0 1,6 0 0 0,'",
     )
     .arg(ingress_port(alloc))?
-    .arg(record)?;
-    with_can(alloc, command, "record")
+    .arg(record)?
+    .arg(exit_code(alloc))?;
+    let listing = input_file(alloc).long("listing").help(
+        "The file with the listing, in place of the standard input",
+    );
+    with_can(alloc, command, "record")?.arg(listing.requires_arg(SAID)?)
 }
 
 fn table_command<'a>(alloc: Global) -> Result<Command<'a>, AllocError> {
@@ -113,12 +149,15 @@ fn table_command<'a>(alloc: Global) -> Result<Command<'a>, AllocError> {
         alloc,
         "table",
         "Compiles a policy table to a program's listing, or tells `pass` or `block` for a frame",
-        "gw table [(--frame HEX | --can FRAME) [--why]] [--port P] < TABLE",
-        "Example: gw table --port 1 --frame 98EA00F903000000EBFE000000000000 < examples/diagnostics-port.toml",
+        "gw table [FILE] [(--frame HEX | --can FRAME) [--why] [--exit-code]] [--port P]",
+        "Example: gw table examples/diagnostics-port.toml --port 1 --can 18EA00F9#EBFE00",
     )
     .arg(ingress_port(alloc))?
-    .arg(frame)?;
-    with_can(alloc, command, "frame")?.arg(why.requires_arg(SAID)?)
+    .arg(frame)?
+    .arg(input_file(alloc))?;
+    with_can(alloc, command, "frame")?
+        .arg(why.requires_arg(SAID)?)?
+        .arg(exit_code(alloc).requires_arg(SAID)?)
 }
 
 // A function has few commands in hand: each `?` behind them pays for letting them go.
@@ -130,7 +169,7 @@ fn bare_program<'a>(alloc: Global) -> Command<'a> {
         "gw",
         "A gateway for SAE J1939 vehicle networks: forwarding filters that cannot go wrong",
         "gw [COMMAND] < FILE",
-        "Each command but diff reads the standard input. Without a command the first line of the input is a record and a listing \
+        "Each command but diff reads the standard input, or the file that it is given. Without a command the first line of the input is a record and a listing \
         follows.\nA record is written 98FEF100 08 000000 and the payload, without spaces.",
     )
     .version(VERSION)
@@ -138,37 +177,37 @@ fn bare_program<'a>(alloc: Global) -> Command<'a> {
     .subcommand_required(true)
 }
 
-/// The program with the commands that take no arguments behind those that it has.
+/// The program with the commands that take a file alone, or nothing, behind those that it has.
 fn with_plain<'a>(alloc: Global, program: Command<'a>) -> Result<Command<'a>, AllocError> {
     program
-        .subcommand(described(
+        .subcommand(reading(
             alloc,
             "check",
             "Checks a program's listing: `accepted <count>`, or why it is refused",
-            "gw check < LISTING",
+            "gw check [FILE]",
             "Example: gw check <<< '2,48 0 0 1,22 0 0 0,'",
-        ))?
-        .subcommand(described(
+        )?)?
+        .subcommand(reading(
             alloc,
             "asm",
             "Assembles a program's text to its listing",
-            "gw asm < TEXT",
-            "Example: gw asm < examples/speed-limit.asm",
-        ))?
-        .subcommand(described(
+            "gw asm [FILE]",
+            "Example: gw asm examples/speed-limit.asm",
+        )?)?
+        .subcommand(reading(
             alloc,
             "list",
             "Writes the text of a listing's program, which `asm` reads back",
-            "gw list < LISTING",
+            "gw list [FILE]",
             "Example: gw list <<< '2,48 0 0 1,22 0 0 0,'",
-        ))?
-        .subcommand(described(
+        )?)?
+        .subcommand(reading(
             alloc,
             "claims",
             "Tells who holds which address after the records heard, one in hexadecimal digits a line",
-            "gw claims < RECORDS",
+            "gw claims [FILE]",
             "Example: gw claims <<< 98EEFF80080000000500000000000000",
-        ))?
+        )?)?
         .subcommand(described(
             alloc,
             "replay",
@@ -203,9 +242,20 @@ pub fn read_arguments<'a, S: AsStr>(alloc: Global, words: &'a [S]) -> Result<Req
         Some(("run", _)) => Err(wrong(alloc, "`run` must be the first word")),
         Some(("judge", _)) => Err(wrong(alloc, "`judge` must be the first word")),
         Some(("diff", _)) => Err(wrong(alloc, "`diff` must be the first word")),
-        Some(("ask", found)) => Ok(Request::Query(Query::Ask(asked_question(alloc, found)?))),
-        Some((name, found)) => Ok(Request::Query(named_query(name, found))),
+        Some(("ask", found)) => {
+            let question = asked_question(alloc, found)?;
+            Ok(on_input(Query::Ask(question), found))
+        }
+        Some((name, found)) => Ok(on_input(named_query(name, found), found)),
         None => Ok(Request::Query(Query::Check)),
+    }
+}
+
+/// The query to the file that the arguments name, or to the standard input.
+fn on_input<'a>(query: Query<'a>, found: &ArgMatches<'a>) -> Request<'a> {
+    match found.get_str(FILE) {
+        None | Some("-") => Request::Query(query),
+        Some(file) => Request::Named(query, file),
     }
 }
 
@@ -215,6 +265,7 @@ fn named_query<'a>(name: &str, found: &ArgMatches<'a>) -> Query<'a> {
         "verdict" => Query::Verdict {
             port: found.get_one::<u8>("port").unwrap_or(0),
             frame: said_frame(found, "record"),
+            tells: found.get_flag("exit-code"),
         },
         "asm" => Query::Asm,
         "list" => Query::List,
@@ -223,6 +274,7 @@ fn named_query<'a>(name: &str, found: &ArgMatches<'a>) -> Query<'a> {
             port: found.get_one::<u8>("port").unwrap_or(0),
             frame: said_frame(found, "frame"),
             why: found.get_flag("why"),
+            tells: found.get_flag("exit-code"),
         },
         _ => Query::Check,
     }

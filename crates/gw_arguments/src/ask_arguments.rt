@@ -3,7 +3,7 @@
 ghost use Rattle.std.specs.Prelude.{◌≤◌, IfOk};
 ghost use Rattle.gw_table.specs.Table.{Fits};
 
-use crate::arguments::{described, valued};
+use crate::arguments::{reading, valued};
 use crate::run_arguments::wrong_in;
 use clap::{ArgMatches, Command, Error};
 use gw_ledger::MAX_PORTS;
@@ -21,13 +21,13 @@ const GREATEST_PORT: u32 = MAX_PORTS as u32 - 1;
 
 /// The command `ask`, as `clap` reads it and shows its help.
 pub fn ask_arguments<'a>(alloc: Global) -> Result<Command<'a>, AllocError> {
-    described(
+    reading(
         alloc,
         "ask",
         "Tells whether a policy table passes all frames that are asked for, or none, or shows a frame of each kind",
-        "gw ask [--pgn A[-B]] [--source A[-B]] [--destination A[-B]] [--from P[-Q]] < TABLE",
-        "Example: gw ask --pgn 0 --destination 0 --from 1 < examples/engine-control.toml",
-    )
+        "gw ask [FILE] [--pgn A[-B]] [--source A[-B]] [--destination A[-B]] [--from P[-Q]]",
+        "Example: gw ask examples/engine-control.toml --pgn 0 --destination 0 --from 1",
+    )?
     .arg(valued(
         alloc,
         "pgn",

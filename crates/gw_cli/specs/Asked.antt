@@ -9,7 +9,7 @@ use Rattle.gw_run.specs.Forwarding.{ForwardsNamed}
 use Rattle.gw_commands.specs.Differences.{ComparesNamed}
 use Rattle.gw_commands.specs.Judgings.{JudgesNamed}
 use Rattle.gw_commands.specs.Replays.{Replays}
-use Rattle.gw_commands.specs.Queries.{AnswersQuery, RefusesQuery}
+use Rattle.gw_commands.specs.Queries.{AnswersNamed, AnswersQuery, RefusesQuery, tells_blocked}
 use Rattle.gw_commands.specs.declared.judge_command.LogQuery.{LogQuery}
 use Rattle.gw_commands.specs.declared.query.Query.{Query}
 use Rattle.gw_commands.specs.declared.policies.PolicySource.{PolicySource}
@@ -37,11 +37,14 @@ abbrev pub OnlyAnswersWords : Option (List ℕ) → Option (List ℕ) → Option
 OnlyAnswersWords before after old new write_failed told_old told_new tell_failed status =
     (after ≡ before) × ((kind : ErrorKind) × AnswersWords kind old new write_failed told_old told_new tell_failed status)
 
--- a query was answered, or a script was replayed, or the arguments were answered and nothing was read
+-- a query was answered from the reader, or from a file and the reader gave nothing; or a script was replayed, or the arguments
+-- were answered and nothing was read
 abbrev pub DoesWords : Option (List ℕ) → Option (List ℕ) → Bool → ℕ → Option (List ℕ) → Option (List ℕ) → Bool
     → Option (List ℕ) → Option (List ℕ) → Bool → ℕ → Type 0
 DoesWords before after failed reads old new write_failed told_old told_new tell_failed status =
-    ((query : Query) × Does (AnswersQuery query) (RefusesQuery query) before after failed old new write_failed status)
+    ((query : Query) × Does (AnswersQuery query) (RefusesQuery query) (tells_blocked query) before after failed old new write_failed
+    status)
+    ⊎ ((query : Query) × (after ≡ before) × AnswersNamed query old new write_failed status)
     ⊎ Replays before after failed reads old new write_failed status
     ⊎ OnlyAnswersWords before after old new write_failed told_old told_new tell_failed status
 

@@ -10,18 +10,21 @@ ghost use Rattle.gw_cli.specs.Asked.{AnswersWords, DoesWords};
 use clap::Error;
 use clap::error::ErrorKind;
 use gw_arguments::{Request, read_arguments};
-use gw_commands::{Query, Refusal, answer_query, replay, respond};
+use gw_commands::{Query, Refusal, answer_named, answer_query, replay, respond};
 use gw_io::{Tried, WriteFault, write_all};
 use std::alloc::Global;
 use std::convert::AsStr;
 use std::io::{Read, Write};
+use std::rt::Files;
 
 /// Does what the arguments of a command line, without the program's name, ask for, and answers the exit status: 0 done,
-/// 1 refused or a write failed, 2 wrong arguments. Which arguments ask for what, no clause says but for none.
-pub fn command<S: AsStr, R: Read, W: Write, F: Write>(
+/// 1 refused or a write failed, 2 wrong arguments, 3 a blocked frame where the status is to tell it. Which arguments ask for what,
+/// no clause says but for none.
+pub fn command<R: Files, S: AsStr, I: Read, W: Write, F: Write>(
+    rt: &R,
     alloc: Global,
     words: &[S],
-    input: &mut Tried<R>,
+    input: &mut Tried<I>,
     output: &mut Tried<W>,
     faults: &mut Tried<F>,
 ) -> u8
@@ -31,10 +34,10 @@ pub fn command<S: AsStr, R: Read, W: Write, F: Write>(
     requires faults { has_failed faults.old ≡ false }
 
     // Without arguments: the record's line and the listing, judged for port 0.
-    ensures first { length words.now ≡ 0 → Does (AnswersVerdict None 0) (RefusesVerdict None)
-        (R.remaining (inner_of input.old)) (R.remaining (inner_of input.new)) (has_failed input.new)
+    ensures first { length words.now ≡ 0 → Does (AnswersVerdict None 0) (RefusesVerdict None) false
+        (I.remaining (inner_of input.old)) (I.remaining (inner_of input.new)) (has_failed input.new)
         (W.contents (inner_of output.old)) (W.contents (inner_of output.new)) (has_failed output.new) result }
-    ensures does { DoesWords (R.remaining (inner_of input.old)) (R.remaining (inner_of input.new))
+    ensures does { DoesWords (I.remaining (inner_of input.old)) (I.remaining (inner_of input.new))
         (has_failed input.new) (reads_of input.new)
         (W.contents (inner_of output.old)) (W.contents (inner_of output.new)) (has_failed output.new)
         (F.contents (inner_of faults.old)) (F.contents (inner_of faults.new)) (has_failed faults.new) result }
@@ -43,11 +46,13 @@ pub fn command<S: AsStr, R: Read, W: Write, F: Write>(
         let first = Query::Verdict {
             port: 0,
             frame: None,
+            tells: false,
         };
         return answer_query(alloc, first, input, output, faults);
     }
     match read_arguments(alloc, words) {
         Ok(Request::Query(query)) => answer_query(alloc, query, input, output, faults),
+        Ok(Request::Named(query, file)) => answer_named(rt, alloc, query, file, output, faults),
         Ok(Request::Replay) => replay(alloc, input, output, faults),
         Err(error) => answer_words(alloc, &error, output, faults),
     }

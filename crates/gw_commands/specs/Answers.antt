@@ -1,5 +1,5 @@
 -- What commands write where they refuse nothing.
-use Rattle.std.specs.Prelude.{ℕ, Bool, ◌==◌, if◌then◌else◌, List, [], ◌∷◌, ◌++◌, codes, decimal}
+use Rattle.std.specs.Prelude.{ℕ, Bool, true, false, ◌==◌, if◌then◌else◌, List, [], ◌∷◌, ◌++◌, codes, decimal}
 use Rattle.gw_commands.specs.declared.answer.Answer.{Answer}
 use Rattle.gw_commands.specs.declared.answer.Answer.TheVariants.{Verdict, Accepted, Passes, Text}
 
@@ -18,3 +18,10 @@ answer_text (Verdict answer) = verdict_line answer
 answer_text (Accepted count) = accepted_line count
 answer_text (Passes passes) = passes_line passes
 answer_text (Text octets) = octets.items
+
+-- the exit status for an answer: 3 for a frame that is blocked, where the status is to tell it
+abbrev pub answer_status : Bool → Answer → ℕ
+answer_status false answer = 0
+answer_status true (Verdict answer) = if answer == 0 then 3 else 0
+answer_status true (Passes passes) = if passes then 0 else 3
+answer_status true _ = 0

@@ -6,7 +6,7 @@ use Rattle.gw_io.specs.Written.{WritesPart}
 use Rattle.gw_commands.specs.declared.answer.Answer.{Answer}
 use Rattle.gw_commands.specs.declared.refusal.Refusal.{Refusal}
 use Rattle.gw_commands.specs.declared.refusal.Refusal.TheVariants.{ReadFault, TooMuchInput, OutOfMemory}
-use Rattle.gw_commands.specs.Answers.{answer_text}
+use Rattle.gw_commands.specs.Answers.{answer_text, answer_status}
 use Rattle.gw_commands.specs.Refusals.{refusal_text}
 
 -- the reader gave this input, has no more, and never failed
@@ -54,22 +54,33 @@ abbrev pub found_text : Result Answer Refusal → List ℕ
 found_text (Ok answer) = answer_text answer
 found_text (Err refusal) = refusal_text refusal
 
-abbrev pub found_status : Result Answer Refusal → ℕ
-found_status (Ok answer) = 0
-found_status (Err refusal) = 1
+abbrev pub found_status : Bool → Result Answer Refusal → ℕ
+found_status tells (Ok answer) = answer_status tells answer
+found_status tells (Err refusal) = 1
 
 -- a text was written, with the status `done`; where a write failed, a beginning of it, with status 1
 abbrev pub WritesText : List ℕ → ℕ → ℕ → Option (List ℕ) → Option (List ℕ) → Bool → Type 0
 WritesText text done status old new false = (status ≡ done) × Appends old new text
 WritesText text done status old new true = (status ≡ 1) × WritesPart old new text
 
--- the text for what was found was written, with its status
+-- the text for what was found was written, with its status, which may be to tell that a frame is blocked
+abbrev pub WritesFound : Bool → Result Answer Refusal → ℕ → Option (List ℕ) → Option (List ℕ) → Bool → Type 0
+WritesFound tells found status old new failed = WritesText (found_text found) (found_status tells found) status old new failed
+
 abbrev pub Writes : Result Answer Refusal → ℕ → Option (List ℕ) → Option (List ℕ) → Bool → Type 0
-Writes found status old new failed = WritesText (found_text found) (found_status found) status old new failed
+Writes found status old new failed = WritesFound false found status old new failed
 
 -- a command: `before` and `after` are what its reader has left, `old` and `new` what its writer took
-pub record Does (Answers : List ℕ → Answer → Type 0) (Refuses : List ℕ → Refusal → Type 0) (before after : Option (List ℕ))
-    (failed : Bool) (old new : Option (List ℕ)) (write_failed : Bool) (status : ℕ) : Type 0 where
+pub record Does (Answers : List ℕ → Answer → Type 0) (Refuses : List ℕ → Refusal → Type 0) (tells : Bool)
+    (before after : Option (List ℕ)) (failed : Bool) (old new : Option (List ℕ)) (write_failed : Bool) (status : ℕ)
+    : Type 0 where
   pub found : Result Answer Refusal
   pub is_found : IsFound Answers Refuses before after failed found
-  pub written : Writes found status old new write_failed
+  pub written : WritesFound tells found status old new write_failed
+
+-- the same of an input that is there
+pub record DoesOn (Answers : List ℕ → Answer → Type 0) (Refuses : List ℕ → Refusal → Type 0) (tells : Bool) (input : List ℕ)
+    (old new : Option (List ℕ)) (write_failed : Bool) (status : ℕ) : Type 0 where
+  pub found : Result Answer Refusal
+  pub is_found : MatchResult found (Answers input) (Refuses input)
+  pub written : WritesFound tells found status old new write_failed

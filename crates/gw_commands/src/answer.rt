@@ -24,6 +24,21 @@ pub enum Answer {
 }
 
 impl Answer {
+    ghost use Rattle.gw_commands.specs.Answers.{answer_status};
+
+    /// The exit status: 3 for a frame that is blocked, where the status is to tell it, and else 0.
+    pub(crate) fn status(&self, tells: bool) -> u8
+        ensures { result ≡ answer_status tells self.now }
+    {
+        if !tells {
+            return 0;
+        }
+        match self {
+            Answer::Verdict(0) | Answer::Passes(false) => 3,
+            _ => 0,
+        }
+    }
+
     /// Writes the answer.
     pub(crate) fn write<W: Write>(&self, output: &mut Tried<W>) -> Result<(), WriteFault>
         requires { has_failed output.old ≡ false }

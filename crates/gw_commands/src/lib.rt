@@ -35,7 +35,7 @@ pub use gw_judge::Grouping;
 pub use judge_command::{LogQuery, PolicyKind, Shown, judge_log, judge_named};
 pub use log_diff_command::{diff_log, diff_log_named};
 pub use policies::{PolicySource, policy};
-pub use query::{Query, answer_query};
+pub use query::{Query, answer_named, answer_query};
 pub use refusal::Refusal;
 pub use replay_command::replay;
 pub use responding::{respond, write_refusal};

@@ -1,5 +1,6 @@
 //! What a person should know of an input that is not refused.
 
+use crate::refusal::Refusal;
 use gw_frame::Frame;
 use gw_ident::{EXTENDED_FLAG, GREATEST_EXTENDED, GREATEST_STANDARD};
 use gw_io::Tried;
@@ -59,6 +60,14 @@ pub fn note_dead_rules<F: Write>(table: &Table, faults: &mut Tried<F>) {
 /// Tells which file is refused, before its refusal.
 pub fn note_file<F: Write>(file: &str, faults: &mut Tried<F>) {
     let _ = writeln!(faults, "gw: the file {file} is refused:");
+}
+
+/// Tells which file is refused, but for a refusal of the frame that a word of the command line says.
+pub fn note_refused_file<F: Write>(file: &str, refusal: &Refusal, faults: &mut Tried<F>) {
+    match refusal {
+        Refusal::Record(_) | Refusal::Candump(_) => (),
+        _ => note_file(file, faults),
+    }
 }
 
 /// Tells for each cause how many lines of a log say no classic frame, and which is the first; and of a log without lines.

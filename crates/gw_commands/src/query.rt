@@ -2,18 +2,20 @@
 
 ghost use Rattle.std.specs.Prelude.{◌≡◌, false, IfOk, IfErr};
 ghost use Rattle.gw_io.specs.Tries.{inner_of, has_failed};
-ghost use Rattle.gw_commands.specs.Commands.{Does, IsFound};
-ghost use Rattle.gw_commands.specs.Queries.{AnswersQuery, RefusesQuery};
+ghost use Rattle.gw_commands.specs.Commands.{Does, DoesOn, IsFound};
+ghost use Rattle.gw_commands.specs.Queries.{AnswersNamed, AnswersQuery, RefusesQuery, tells_blocked};
 
 use crate::answer::Answer;
 use crate::ask_command::ask;
 use crate::asm_command::asm;
 use crate::check_command::check;
 use crate::claims_command::claims;
+use crate::files::read_file;
 use crate::frames::FrameWord;
 use crate::list_command::list;
+use crate::notes::{note_file, note_refused_file};
 use crate::refusal::Refusal;
-use crate::responding::respond;
+use crate::responding::{respond, respond_telling};
 use crate::streams::read_input;
 use crate::table_command::table;
 use crate::verdict_command::verdict;
@@ -21,15 +23,17 @@ use gw_io::Tried;
 use gw_table::Question;
 use std::alloc::Global;
 use std::io::{Read, Write};
+use std::rt::Files;
 
 /// A command that reads its input whole, with what its arguments name.
 #[derive(Clone, Copy)]
 pub enum Query<'a> {
     /// The verdict of a listing's program on a frame that was taken at a port. Without a word for the frame, its record stands on
-    /// the first line of the input.
+    /// the first line of the input. With `tells` the status 3 tells that the frame is blocked.
     Verdict {
         port: u8,
         frame: Option<FrameWord<'a>>,
+        tells: bool,
     },
     /// How many instructions a listing's accepted program has. A path to the read of an unset word stands before its refusal.
     Check,
@@ -40,18 +44,33 @@ pub enum Query<'a> {
     /// Who holds which address after the records that were heard.
     Claims,
     /// The listing of a table's program, or the table's verdict on a frame that was taken at a port. With `why` a person is told
-    /// which rule decides the frame.
+    /// which rule decides the frame. With `tells` the status 3 tells that the frame is blocked.
     Table {
         port: u8,
         frame: Option<FrameWord<'a>>,
         why: bool,
+        tells: bool,
     },
     /// What a table does to the frames that are asked for.
     Ask(Question),
 }
 
-/// Reads the input, and writes the answer to it or its first refusal. The status is 0 for an answer, and 1 for a refusal or where
-/// a write failed.
+impl<'a> Query<'a> {
+    ghost use Rattle.gw_commands.specs.Queries.{tells_blocked};
+
+    /// Whether the exit status is to tell that a frame is blocked.
+    fn tells_blocked(self) -> bool
+        ensures { result ≡ tells_blocked self.entry }
+    {
+        match self {
+            Query::Verdict { tells, .. } | Query::Table { tells, .. } => tells,
+            _ => false,
+        }
+    }
+}
+
+/// Reads the input, and writes the answer to it or its first refusal. The status is 0 for an answer, 3 where it is to tell that a
+/// frame is blocked, and 1 for a refusal or where a write failed.
 pub fn answer_query<R: Read, W: Write, F: Write>(
     alloc: Global,
     query: Query,
@@ -61,12 +80,55 @@ pub fn answer_query<R: Read, W: Write, F: Write>(
 ) -> u8
     requires input { has_failed input.old ≡ false }
     requires output { has_failed output.old ≡ false }
-    ensures { Does (AnswersQuery query.entry) (RefusesQuery query.entry)
+    ensures { Does (AnswersQuery query.entry) (RefusesQuery query.entry) (tells_blocked query.entry)
         (R.remaining (inner_of input.old)) (R.remaining (inner_of input.new)) (has_failed input.new)
         (W.contents (inner_of output.old)) (W.contents (inner_of output.new)) (has_failed output.new) result }
 {
     let found = answered(alloc, query, input, faults);
-    respond(&found, output, faults)
+    respond_telling(&found, query.tells_blocked(), output, faults)
+}
+
+/// The same of what a file holds. A file that cannot be read is 96, and one of more than 1048576 octets 98. A person is told which
+/// file is refused.
+pub fn answer_named<R: Files, W: Write, F: Write>(
+    rt: &R,
+    alloc: Global,
+    query: Query,
+    file: &str,
+    output: &mut Tried<W>,
+    faults: &mut Tried<F>,
+) -> u8
+    requires { has_failed output.old ≡ false }
+    ensures { AnswersNamed query.entry (W.contents (inner_of output.old)) (W.contents (inner_of output.new))
+        (has_failed output.new) result }
+{
+    match read_file(rt, alloc, file) {
+        Ok(octets) => answer_octets(alloc, query, file, octets, output, faults),
+        Err(refusal) => {
+            note_file(file, faults);
+            respond(&Err(refusal), output, faults)
+        }
+    }
+}
+
+/// Writes the answer to what a file holds, or its first refusal.
+fn answer_octets<W: Write, F: Write>(
+    alloc: Global,
+    query: Query,
+    file: &str,
+    octets: Vec<u8>,
+    output: &mut Tried<W>,
+    faults: &mut Tried<F>,
+) -> u8
+    requires { has_failed output.old ≡ false }
+    ensures { DoesOn (AnswersQuery query.entry) (RefusesQuery query.entry) (tells_blocked query.entry) octets.items
+        (W.contents (inner_of output.old)) (W.contents (inner_of output.new)) (has_failed output.new) result }
+{
+    let found = answer_on(alloc, query, octets, faults);
+    if let Err(refusal) = &found {
+        note_refused_file(file, refusal, faults);
+    }
+    respond_telling(&found, query.tells_blocked(), output, faults)
 }
 
 /// The answer to the input, or its first refusal.
@@ -95,14 +157,23 @@ fn answer_on<F: Write>(
     ensures refused { IfErr result (RefusesQuery query.entry octets.items) }
 {
     match query {
-        Query::Verdict { port, frame } => verdict(alloc, port, frame, octets.as_slice(), faults),
+        Query::Verdict { port, frame, .. } => verdict(
+            alloc,
+            port,
+            frame,
+            octets.as_slice(),
+            faults,
+        ),
         Query::Check => check(alloc, octets.as_slice()),
         Query::Asm => asm(alloc, octets),
         Query::List => list(alloc, octets.as_slice()),
         Query::Claims => claims(alloc, octets.as_slice(), faults),
-        Query::Table { port, frame, why } => {
-            table(alloc, port, frame, why, octets.as_slice(), faults)
-        }
+        Query::Table {
+            port,
+            frame,
+            why,
+            ..
+        } => { table(alloc, port, frame, why, octets.as_slice(), faults) }
         Query::Ask(question) => ask(alloc, &question, octets.as_slice()),
     }
 }

@@ -2,7 +2,7 @@
 
 ghost use Rattle.std.specs.Prelude.{◌≡◌, false};
 ghost use Rattle.gw_io.specs.Tries.{inner_of, has_failed};
-ghost use Rattle.gw_commands.specs.Commands.{Writes, WritesText};
+ghost use Rattle.gw_commands.specs.Commands.{Writes, WritesFound, WritesText};
 ghost use Rattle.gw_commands.specs.Refusals.{refusal_text};
 
 use crate::answer::Answer;
@@ -22,12 +22,26 @@ pub fn respond<W: Write, F: Write>(
     ensures { Writes found.now result (W.contents (inner_of output.old)) (W.contents (inner_of output.new))
         (has_failed output.new) }
 {
+    respond_telling(found, false, output, faults)
+}
+
+/// The same, with the status 3 for a frame that is blocked, where the status is to tell it.
+pub(crate) fn respond_telling<W: Write, F: Write>(
+    found: &Result<Answer, Refusal>,
+    tells: bool,
+    output: &mut Tried<W>,
+    faults: &mut Tried<F>,
+) -> u8
+    requires { has_failed output.old ≡ false }
+    ensures { WritesFound tells found.now result (W.contents (inner_of output.old)) (W.contents (inner_of output.new))
+        (has_failed output.new) }
+{
     let answer = match found {
         Ok(answer) => answer,
         Err(refusal) => return refuse(refusal, output, faults),
     };
     match answer.write(output) {
-        Ok(()) => 0,
+        Ok(()) => answer.status(tells),
         Err(WriteFault) => unwritten(faults),
     }
 }

@@ -63,12 +63,13 @@ impl Outcome {
 }
 
 /// What `command` did on an input.
-pub fn outcome_of(alloc: Global, words: &[&str], input: &[u8]) -> Outcome {
-    outcome_on(alloc, words, Source::new(input, WHOLE), WHOLE, WHOLE)
+pub fn outcome_of<R: Files>(rt: &R, alloc: Global, words: &[&str], input: &[u8]) -> Outcome {
+    outcome_on(rt, alloc, words, Source::new(input, WHOLE), WHOLE, WHOLE)
 }
 
 /// What `command` did with a reader, and writers that take one octet a call and have so much room.
-pub fn outcome_on(
+pub fn outcome_on<R: Files>(
+    rt: &R,
     alloc: Global,
     words: &[&str],
     input: Source<'_>,
@@ -78,6 +79,7 @@ pub fn outcome_on(
     let mut output = Sink::new(alloc, 1, room);
     let mut stderr = Sink::new(alloc, 1, stderr_room);
     let status = command(
+        rt,
         alloc,
         words,
         &mut Tried::new(input),

@@ -10,7 +10,7 @@ fn words_of_run(rt: HostRuntime) {
         &["run", "--ports", "2", "--program", "1,6 0 0 1,"],
     ];
     for words in wrong {
-        let refused = outcome_of(rt.alloc(), words, b"1,6 0 0 1,");
+        let refused = outcome_of(&rt, rt.alloc(), words, b"1,6 0 0 1,");
         assert!(rt; refused.status == 2, "on {words:?}");
         assert!(rt; refused.output.is_empty() && !refused.stderr.is_empty());
     }

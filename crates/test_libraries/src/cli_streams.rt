@@ -42,7 +42,7 @@ fn breaking_readers(rt: HostRuntime) {
         let octets = input.as_bytes();
         for left in 0..=octets.len() {
             let input = Source::breaking(octets, left);
-            let refused = outcome_on(rt.alloc(), words, input, WHOLE, WHOLE);
+            let refused = outcome_on(&rt, rt.alloc(), words, input, WHOLE, WHOLE);
             assert!(rt; refused.is_failure(b"refused 96\n"));
         }
     }
@@ -55,7 +55,7 @@ fn breaking_script(rt: HostRuntime) {
     let octets = input.as_bytes();
     for left in 0..=octets.len() {
         let input = Source::breaking(octets, left);
-        let refused = outcome_on(rt.alloc(), words, input, WHOLE, WHOLE);
+        let refused = outcome_on(&rt, rt.alloc(), words, input, WHOLE, WHOLE);
         assert!(rt; refused.status == 1);
         let answers = refused.output.strip_suffix(b"refused 96\n");
         assert!(rt; answers.is_some_and(|answers| whole.as_bytes().starts_with(answers)));
@@ -67,7 +67,7 @@ fn filling_writers(rt: HostRuntime) {
     for (words, input, whole) in WHOLE_RUNS {
         for room in 0..whole.len() {
             let input = Source::new(input.as_bytes(), WHOLE);
-            let cut = outcome_on(rt.alloc(), words, input, room, WHOLE);
+            let cut = outcome_on(&rt, rt.alloc(), words, input, room, WHOLE);
             assert!(rt; cut.is_cut(&whole.as_bytes()[..room]));
         }
     }
@@ -75,7 +75,7 @@ fn filling_writers(rt: HostRuntime) {
 
 #[test]
 fn a_full_stderr(rt: HostRuntime) {
-    let refused = outcome_on(rt.alloc(), &[], Source::new(b"8CG0", WHOLE), WHOLE, 3);
+    let refused = outcome_on(&rt, rt.alloc(), &[], Source::new(b"8CG0", WHOLE), WHOLE, 3);
     assert!(rt; refused.is_failure(b"refused 97\n"));
 }
 
@@ -83,7 +83,7 @@ fn a_full_stderr(rt: HostRuntime) {
 fn stumbling_reader(rt: HostRuntime) {
     for (words, input, _) in WHOLE_RUNS {
         let input = Source::stumbling(input.as_bytes());
-        let refused = outcome_on(rt.alloc(), words, input, WHOLE, WHOLE);
+        let refused = outcome_on(&rt, rt.alloc(), words, input, WHOLE, WHOLE);
         assert!(rt; refused.is_failure(b"refused 96\n"));
     }
 }
