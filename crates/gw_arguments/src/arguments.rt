@@ -149,13 +149,19 @@ fn table_command<'a>(alloc: Global) -> Result<Command<'a>, AllocError> {
         alloc,
         "table",
         "Compiles a policy table to a program's listing, or tells `pass` or `block` for a frame",
-        "gw table [FILE] [(--frame HEX | --can FRAME) [--why] [--exit-code]] [--port P]",
+        "gw table [FILE] [--show | (--frame HEX | --can FRAME) [--why] [--exit-code]] [--port P]",
         "Example: gw table examples/diagnostics-port.toml --port 1 --can 18EA00F9#EBFE00",
     )
     .arg(ingress_port(alloc))?
     .arg(frame)?
     .arg(input_file(alloc))?;
+    let show = flag(
+        alloc,
+        "show",
+        "Tells in words what each rule says, in place of the program's listing",
+    );
     with_can(alloc, command, "frame")?
+        .arg(show.conflicts_with(SAID)?)?
         .arg(why.requires_arg(SAID)?)?
         .arg(exit_code(alloc).requires_arg(SAID)?)
 }
@@ -270,6 +276,7 @@ fn named_query<'a>(name: &str, found: &ArgMatches<'a>) -> Query<'a> {
         "asm" => Query::Asm,
         "list" => Query::List,
         "claims" => Query::Claims,
+        "table" if found.get_flag("show") => Query::Show,
         "table" => Query::Table {
             port: found.get_one::<u8>("port").unwrap_or(0),
             frame: said_frame(found, "frame"),

@@ -5,7 +5,8 @@ use Rattle.std.specs.List.{range_with_len}
 use Rattle.std.proofs.lemmas.List.{append-nil}
 use Rattle.std.proofs.lemmas.Grind.{flat_map-append}
 
-range_more : (a n : ℕ) → range_with_len a (suc n) ≡ range_with_len a n ++ (a + n) ∷ []
+-- the numbers from one on, with one more
+pub range_more : (a n : ℕ) → range_with_len a (suc n) ≡ range_with_len a n ++ (a + n) ∷ []
 range_more a zero = ap (λ m. m ∷ []) (sym (add-zero a))
 range_more a (suc n) =
     let next : (a + 1) + n ≡ a + suc n = omega arith in

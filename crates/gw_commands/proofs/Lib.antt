@@ -8,3 +8,4 @@ pub mod LogEnds
 pub mod LogTexts
 pub mod PathsTold
 pub mod RefusalTexts
+pub mod ShownTexts

@@ -14,5 +14,6 @@ pub mod Queries
 pub mod Questions
 pub mod Refusals
 pub mod Replays
+pub mod Shown
 pub mod Tables
 pub mod Verdicts

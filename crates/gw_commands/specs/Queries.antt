@@ -4,13 +4,14 @@ use Rattle.gw_commands.specs.declared.answer.Answer.{Answer}
 use Rattle.gw_commands.specs.declared.refusal.Refusal.{Refusal}
 use Rattle.gw_commands.specs.declared.query.Query.{Query}
 use Rattle.gw_commands.specs.declared.query.Query.TheVariants as query
-use Rattle.gw_commands.specs.declared.query.Query.TheVariants.{Verdict, Check, Asm, Claims, Table, Ask}
+use Rattle.gw_commands.specs.declared.query.Query.TheVariants.{Verdict, Check, Asm, Claims, Table, Show, Ask}
 use Rattle.gw_commands.specs.Assemblies.{AnswersAsm, RefusesAsm, AnswersList, RefusesList}
 use Rattle.gw_commands.specs.Checks.{AnswersCheck, RefusesCheck}
 use Rattle.gw_commands.specs.ClaimLines.{AnswersClaims, RefusesClaims}
 use Rattle.gw_commands.specs.Commands.{DoesOn, Writes}
 use Rattle.gw_commands.specs.Policies.{RefusesFile}
 use Rattle.gw_commands.specs.Questions.{AnswersAsk}
+use Rattle.gw_commands.specs.Shown.{AnswersShow}
 use Rattle.gw_commands.specs.Tables.{AnswersTable, RefusesTable, RefusesText}
 use Rattle.gw_commands.specs.Verdicts.{AnswersVerdict, RefusesVerdict}
 
@@ -21,6 +22,7 @@ AnswersQuery Asm input answer = AnswersAsm input answer
 AnswersQuery query.List input answer = AnswersList input answer
 AnswersQuery Claims input answer = AnswersClaims input answer
 AnswersQuery (Table port frame why tells) input answer = AnswersTable frame port input answer
+AnswersQuery Show input answer = AnswersShow input answer
 AnswersQuery (Ask question) input answer = AnswersAsk question input answer
 
 abbrev pub RefusesQuery : Query → List ℕ → Refusal → Type 0
@@ -30,6 +32,7 @@ RefusesQuery Asm input refusal = RefusesAsm input refusal
 RefusesQuery query.List input refusal = RefusesList input refusal
 RefusesQuery Claims input refusal = RefusesClaims input refusal
 RefusesQuery (Table port frame why tells) input refusal = RefusesTable frame input refusal
+RefusesQuery Show input refusal = RefusesText input refusal
 RefusesQuery (Ask question) input refusal = RefusesText input refusal
 
 -- whether the exit status is to tell that a frame is blocked

@@ -22,6 +22,7 @@ mod query;
 mod refusal;
 mod replay_command;
 mod responding;
+mod show_command;
 mod streams;
 mod table_command;
 mod texts;

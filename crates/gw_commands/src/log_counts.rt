@@ -189,7 +189,8 @@ fn push_part(text: &mut String, key: &str, action: Action, count: u64) -> Result
     write!(text, "{key} decided {count}: {action}\n")
 }
 
-fn action_word(action: Action) -> &'static str
+/// The word for an action.
+pub fn action_word(action: Action) -> &'static str
     ensures { result.now ≡ action_word action }
 {
     match action {

@@ -16,6 +16,7 @@ use crate::list_command::list;
 use crate::notes::{note_file, note_refused_file};
 use crate::refusal::Refusal;
 use crate::responding::{respond, respond_telling};
+use crate::show_command::show;
 use crate::streams::read_input;
 use crate::table_command::table;
 use crate::verdict_command::verdict;
@@ -51,6 +52,8 @@ pub enum Query<'a> {
         why: bool,
         tells: bool,
     },
+    /// What the rules of a table say, in words.
+    Show,
     /// What a table does to the frames that are asked for.
     Ask(Question),
 }
@@ -157,17 +160,12 @@ fn answer_on<F: Write>(
     ensures refused { IfErr result (RefusesQuery query.entry octets.items) }
 {
     match query {
-        Query::Verdict { port, frame, .. } => verdict(
-            alloc,
-            port,
-            frame,
-            octets.as_slice(),
-            faults,
-        ),
+        Query::Verdict { port, frame, .. } => verdict(alloc, port, frame, &octets, faults),
         Query::Check => check(alloc, octets.as_slice()),
         Query::Asm => asm(alloc, octets),
         Query::List => list(alloc, octets.as_slice()),
         Query::Claims => claims(alloc, octets.as_slice(), faults),
+        Query::Show => show(alloc, octets.as_slice(), faults),
         Query::Table {
             port,
             frame,

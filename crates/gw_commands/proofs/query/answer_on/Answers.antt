@@ -8,7 +8,7 @@ use Rattle.gw_commands.proofs.query.answer_on.Goals as goal
 pub returns-in-Check-clause-refused : goal.returns-in-Check-clause-refused
 returns-in-Check-clause-refused g c =
     subst (λ (query : Query). IfErr c.check.result (RefusesQuery query c.args.octets.items)) (sym c.in-Check.is)
-    (subst (λ (input : List ℕ). IfErr c.check.result (RefusesCheck input)) c.as_slice-in-Check.ensures.value
+    (subst (λ (input : List ℕ). IfErr c.check.result (RefusesCheck input)) c.as_slice.ensures.value
     c.check.ensures.refused)
 
 pub returns-in-List-clause-refused : goal.returns-in-List-clause-refused

@@ -1,0 +1,108 @@
+-- What `table --show` writes of a table: what each rule says in words, then `default` and `other`.
+use Rattle.std.specs.Prelude.{◌≡◌, ℕ, ◌+◌, ◌-◌, ◌/◌, ◌%◌, Bool, ◌==◌, ◌&&◌, ◌||◌, nat_le, if◌then◌else◌, List, [], ◌++◌, length}
+use Rattle.std.specs.Prelude.{codes, decimal, slice_get}
+use Rattle.std.specs.Option.{option_map_or}
+use Rattle.std.specs.List.{filter, flat_map, range_with_len}
+use Rattle.gw_table.specs.declared.table.Action.{Action}
+use Rattle.gw_table.specs.declared.table.Rule.{Rule}
+use Rattle.gw_table.specs.declared.table.Span.{Span}
+use Rattle.gw_table.specs.Table.{Meaning}
+use Rattle.gw_input.specs.Tables.{IsTable}
+use Rattle.gw_commands.specs.declared.answer.Answer.{Answer}
+use Rattle.gw_commands.specs.declared.answer.Answer.TheVariants.{Text}
+use Rattle.gw_commands.specs.LogCounts.{action_word}
+
+-- the name of a well-known group (docs/IDENTIFIERS.md), which stands behind its number
+unfoldable pub group_name : ℕ → List ℕ
+group_name n =
+    if n == 0 then codes " (torque/speed control 1, TSC1)"
+    else if n == 59392 then codes " (acknowledgment)"
+    else if n == 59904 then codes " (request)"
+    else if n == 60160 then codes " (transport protocol, data transfer, TP.DT)"
+    else if n == 60416 then codes " (transport protocol, connection management, TP.CM)"
+    else if n == 60928 then codes " (address claimed)"
+    else if n == 61184 then codes " (proprietary A)"
+    else if n == 61442 then codes " (electronic transmission controller 1, ETC1)"
+    else if n == 61443 then codes " (electronic engine controller 2, EEC2)"
+    else if n == 61444 then codes " (electronic engine controller 1, EEC1)"
+    else if n == 65226 then codes " (active diagnostic trouble codes, DM1)"
+    else if n == 65253 then codes " (engine hours, revolutions, HOURS)"
+    else if n == 65262 then codes " (engine temperature 1, ET1)"
+    else if n == 65265 then codes " (cruise control/vehicle speed, CCVS)"
+    else if n == 65266 then codes " (fuel economy, liquid, LFE)"
+    else if nat_le 65280 n && nat_le n 65535 then codes " (proprietary B)"
+    else if n == 126720 then codes " (proprietary A2)"
+    else []
+
+-- the number of a group: that of a PDU1 group ends in a zero octet (SAE J1939-21)
+abbrev pub is_group : ℕ → Bool
+is_group n = nat_le 240 (n / 256 % 256) || (n % 256 == 0)
+
+-- how many groups have their number in a range, and how many numbers it has
+unfoldable pub group_count : Span → ℕ
+group_count range = length (filter is_group (range_with_len range.low (range.high + 1 - range.low)))
+
+abbrev pub size_of : Span → ℕ
+size_of range = range.high + 1 - range.low
+
+abbrev pub is_whole : ℕ → Span → Bool
+is_whole greatest range = (range.low == 0) && (range.high == greatest)
+
+-- groups from one number to another, with their names, and how many there are
+unfoldable pub group_range : Span → List ℕ
+group_range range =
+    codes ", pgns " ++ decimal range.low ++ group_name range.low ++ codes " to " ++ decimal range.high ++ group_name range.high
+    ++ codes " (groups: " ++ decimal (group_count range) ++ codes ")"
+
+-- a range of groups; nothing where it leaves nothing out
+unfoldable pub groups_text : Span → List ℕ
+groups_text range =
+    if is_whole 262143 range then []
+    else if range.low == range.high then codes ", pgn " ++ decimal range.low ++ group_name range.low
+    else group_range range
+
+-- a range of addresses or ports, by the word for one of them
+unfoldable pub numbers_text : List ℕ → Span → List ℕ
+numbers_text word range =
+    if is_whole 255 range then []
+    else if range.low == range.high then codes ", " ++ word ++ codes " " ++ decimal range.low
+    else codes ", " ++ word ++ codes "s " ++ decimal range.low ++ codes " to " ++ decimal range.high
+    ++ codes " (" ++ decimal (size_of range) ++ codes ")"
+
+-- a rule without a range holds of every extended data frame
+abbrev pub holds_always : Rule → Bool
+holds_always rule =
+    (is_whole 262143 rule.pgn && is_whole 255 rule.source) && (is_whole 255 rule.destination && is_whole 255 rule.from)
+
+abbrev pub fields_text : Rule → List ℕ
+fields_text rule =
+    groups_text rule.pgn ++ numbers_text (codes "source") rule.source
+    ++ numbers_text (codes "destination") rule.destination ++ numbers_text (codes "from port") rule.from
+
+unfoldable pub ranges_text : Rule → List ℕ
+ranges_text rule = if holds_always rule then codes ", every extended data frame" else fields_text rule
+
+abbrev pub rule_words : ℕ → Rule → List ℕ
+rule_words number rule =
+    codes "rule " ++ decimal number ++ codes ": " ++ action_word rule.action ++ ranges_text rule ++ codes "\n"
+
+-- a line for each rule, in their order
+abbrev pub words_of_rule : List Rule → ℕ → List ℕ
+words_of_rule rules number = option_map_or (rule_words number) (slice_get rules number) []
+
+unfoldable pub words_of_rules : List Rule → List ℕ
+words_of_rules rules = flat_map (words_of_rule rules) (range_with_len 0 (length rules))
+
+-- the line of `default` or of `other`, with the frames that get it
+abbrev pub part_words : List ℕ → Action → List ℕ → List ℕ
+part_words key action frames = key ++ codes ": " ++ action_word action ++ codes ", " ++ frames ++ codes "\n"
+
+abbrev pub shown_text : Meaning → List ℕ
+shown_text table =
+    words_of_rules table.rules
+    ++ part_words (codes "default") table.otherwise (codes "every other extended data frame")
+    ++ part_words (codes "other") table.other (codes "every frame of 11 bits, remote frame and error frame")
+
+abbrev pub AnswersShow : List ℕ → Answer → Type 0
+AnswersShow input (Text text) = (table : Meaning) × IsTable input table × (text.items ≡ shown_text table)
+AnswersShow input _ = ⊥
