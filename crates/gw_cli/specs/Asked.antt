@@ -42,8 +42,8 @@ OnlyAnswersWords before after old new write_failed told_old told_new tell_failed
 abbrev pub DoesWords : Option (List ℕ) → Option (List ℕ) → Bool → ℕ → Option (List ℕ) → Option (List ℕ) → Bool
     → Option (List ℕ) → Option (List ℕ) → Bool → ℕ → Type 0
 DoesWords before after failed reads old new write_failed told_old told_new tell_failed status =
-    ((query : Query) × Does (AnswersQuery query) (RefusesQuery query) (tells_blocked query) before after failed old new write_failed
-    status)
+    ((query : Query)
+    × Does (AnswersQuery query) (RefusesQuery query) (tells_blocked query) before after failed old new write_failed status)
     ⊎ ((query : Query) × (after ≡ before) × AnswersNamed query old new write_failed status)
     ⊎ Replays before after failed reads old new write_failed status
     ⊎ OnlyAnswersWords before after old new write_failed told_old told_new tell_failed status

@@ -18,8 +18,8 @@ use std::io::{Read, Write};
 use std::rt::Files;
 
 /// Does what the arguments of a command line, without the program's name, ask for, and answers the exit status: 0 done,
-/// 1 refused or a write failed, 2 wrong arguments, 3 a blocked frame where the status is to tell it. Which arguments ask for what,
-/// no clause says but for none.
+/// 1 refused or a write failed, 2 wrong arguments, 3 a blocked frame where the status is to tell it. Which arguments ask for
+/// what, no clause says but for none.
 pub fn command<R: Files, S: AsStr, I: Read, W: Write, F: Write>(
     rt: &R,
     alloc: Global,

@@ -7,8 +7,8 @@ use Rattle.gw_text.specs.Assembly as asm
 use Rattle.gw_table.specs.TableText as table
 use Rattle.gw_commands.specs.declared.refusal.Refusal.{Refusal}
 use Rattle.gw_commands.specs.declared.refusal.Refusal.TheVariants as refusal
-use Rattle.gw_commands.specs.declared.refusal.Refusal.TheVariants.{Record, RecordOnLine, Candump, Listing, Program, Explained, Assembler}
-use Rattle.gw_commands.specs.declared.refusal.Refusal.TheVariants.{Table, ReadFault, TooMuchInput, NotUtf8}
+use Rattle.gw_commands.specs.declared.refusal.Refusal.TheVariants.{Record, RecordOnLine, Candump, Listing, Program}
+use Rattle.gw_commands.specs.declared.refusal.Refusal.TheVariants.{Explained, Assembler, Table, ReadFault, TooMuchInput, NotUtf8}
 use Rattle.gw_input.specs.Records.{record_number}
 use Rattle.gw_input.specs.Refused.{listing_details, cause_details, table_details}
 use Rattle.gw_input.specs.Refused.{refused_line}

@@ -91,8 +91,8 @@ pub fn answer_query<R: Read, W: Write, F: Write>(
     respond_telling(&found, query.tells_blocked(), output, faults)
 }
 
-/// The same of what a file holds. A file that cannot be read is 96, and one of more than 1048576 octets 98. A person is told which
-/// file is refused.
+/// The same of what a file holds. A file that cannot be read is 96, and one of more than 1048576 octets 98. A person is told
+/// which file is refused.
 pub fn answer_named<R: Files, W: Write, F: Write>(
     rt: &R,
     alloc: Global,

@@ -164,8 +164,8 @@ pairs_half [] = omega arith
 pairs_half (c ∷ []) = omega arith
 pairs_half (c ∷ d ∷ cs) = let rest = pairs_half cs in omega arith
 
-few_are : (text : List ℕ) → IfOk (if nat_lt 16 (length (without_dots text)) then Err BadLength else Ok (pairs (without_dots text)))
-    IsPayload
+few_are : (text : List ℕ)
+    → IfOk (if nat_lt 16 (length (without_dots text)) then Err BadLength else Ok (pairs (without_dots text))) IsPayload
 few_are text =
     cond_both (nat_lt 16 (length (without_dots text))) (Err BadLength) (Ok (pairs (without_dots text)))
     (λ (r : Result (List ℕ) LogRefusal). IfOk r IsPayload) (λ yes. tt)
