@@ -37,7 +37,7 @@ fn main(rt: HostRuntime) -> ExitCode {
             &mut faults,
         ),
         Some(first) if first.as_str() == "diff" => {
-            diff_command(&rt, alloc, &words, &mut output, &mut faults)
+            diff_command(&rt, alloc, &words, &mut input, &mut output, &mut faults)
         }
         _ => command(&rt, alloc, &words, &mut input, &mut output, &mut faults),
     };

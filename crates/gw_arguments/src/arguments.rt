@@ -175,8 +175,8 @@ fn bare_program<'a>(alloc: Global) -> Command<'a> {
         "gw",
         "A gateway for SAE J1939 vehicle networks: forwarding filters that cannot go wrong",
         "gw [COMMAND] < FILE",
-        "Each command but diff reads the standard input, or the file that it is given. Without a command the first line of the \
-        input is a record and a listing \
+        "A command reads the standard input, or the file that it is given; diff reads it with --log alone. Without a command \
+        the first line of the input is a record and a listing \
         follows.\nA record is written 98FEF100 08 000000 and the payload, without spaces.",
     )
     .version(VERSION)

@@ -8,6 +8,6 @@ mod judge_arguments;
 mod run_arguments;
 
 pub use arguments::{Request, read_arguments};
-pub use diff_arguments::read_diff;
+pub use diff_arguments::{DiffRequest, read_diff};
 pub use judge_arguments::{JudgeRequest, read_judge};
 pub use run_arguments::{RunRequest, read_run};

@@ -1,4 +1,4 @@
-//! The command `diff`, over two writers.
+//! The command `diff`, over a reader and two writers.
 
 ghost use Rattle.std.specs.Prelude.{◌≡◌, false};
 ghost use Rattle.gw_io.specs.Tries.{inner_of, has_failed};
@@ -6,31 +6,36 @@ ghost use Rattle.gw_cli.specs.Asked.{ComparesWords};
 
 use crate::dispatch::answer_words;
 use gw_arguments::read_diff;
-use gw_commands::diff_named;
+use gw_commands::{diff_log_named, diff_named};
 use gw_io::Tried;
 use std::alloc::Global;
 use std::convert::AsStr;
-use std::io::Write;
+use std::io::{Read, Write};
 use std::rt::Files;
 
 /// Does what the arguments of a command line, without the program's name, ask for, where they name the command `diff`; other
 /// commands are wrong arguments. The exit status is as for `command`, and 1 where the tables differ too. Which arguments ask
 /// for what, no clause says.
-pub fn diff_command<R: Files, S: AsStr, W: Write, F: Write>(
+pub fn diff_command<R: Files, S: AsStr, I: Read, W: Write, F: Write>(
     rt: &R,
     alloc: Global,
     words: &[S],
+    input: &mut Tried<I>,
     output: &mut Tried<W>,
     faults: &mut Tried<F>,
 ) -> u8
+    requires input { has_failed input.old ≡ false }
     requires output { has_failed output.old ≡ false }
     requires faults { has_failed faults.old ≡ false }
-    ensures { ComparesWords
+    ensures { ComparesWords (I.remaining (inner_of input.old)) (I.remaining (inner_of input.new)) (has_failed input.new)
         (W.contents (inner_of output.old)) (W.contents (inner_of output.new)) (has_failed output.new)
         (F.contents (inner_of faults.old)) (F.contents (inner_of faults.new)) (has_failed faults.new) result }
 {
     match read_diff(alloc, words) {
-        Ok(files) => diff_named(rt, alloc, files, output, faults),
+        Ok(asked) => match asked.log {
+            Some(port) => diff_log_named(rt, alloc, asked.files, port, input, output, faults),
+            None => diff_named(rt, alloc, asked.files, output, faults),
+        },
         Err(error) => answer_words(alloc, &error, output, faults),
     }
 }
