@@ -2,7 +2,7 @@
 use Rattle.std.proofs.Common.{◌≡◌, ℕ, zero, suc, ◌+◌, ◌<◌, ◌≤◌, Bool, true, false, ◌&&◌, ◌||◌, List, [], ◌∷◌, ◌++◌, length}
 use Rattle.std.proofs.Common.{Some, None, Option, Result, Ok, Err, refl, sym, ap, subst, ◌∙◌, arith, get_or}
 use Rattle.std.proofs.lemmas.Bool.{false≢true, and_parts}
-use Rattle.std.proofs.lemmas.List.Folds.{list_any-append, list_any_more}
+use Rattle.std.proofs.lemmas.List.Folds.{list_any_at, list_any-append, list_any_more}
 use Rattle.std.specs.Prelude.{take, IfOk, MatchOption}
 use Rattle.std.specs.List.{slice_get, list_any, position_or_len}
 use Rattle.std.specs.Option.{option_map_or}
@@ -68,6 +68,14 @@ pub outside_both : (p : Point) (block part both : Block) → holds p both ≡ (h
 outside_both p block part both is inside outside =
     and_true (holds p block) ∙ ap (λ x. holds p block && x) (sym inside) ∙ sym is ∙ outside
 
+-- a box whose points of the part are all of the part's has them all
+pub hidden : (u : Universe) (rules : List Rule) (i : ℕ) (d : Rule) → i < length rules → (block part both : Block)
+    → block ≡ block_of u.pdu1 (get_or rules i d) → ((p : Point) → holds p both ≡ (holds p block && holds p part)) → both ≡ part
+    → (p : Point) → holds p part ≡ true → list_any (lies_in_rule u p) rules ≡ true
+hidden u rules i d below block part both is shared same p inside =
+    let parts = and_parts _ _ (sym (shared p) ∙ ap (holds p) same ∙ inside) in
+    list_any_at (lies_in_rule u p) rules i d below (sym (ap (holds p) is) ∙ parts.0)
+
 -- a rule is the first that passes a test where it passes it, and none before it does
 
 pub record IsFirst {A : Type 0} (test : A → Bool) (xs : List A) (index : ℕ) : Type 0 where
@@ -130,6 +138,18 @@ module _ (u : Universe) (old : List Rule) (a : ℕ) (new : List Rule) (b : ℕ) 
 
   pub none_there : ((p : Point) → holds p part ≡ false) → (p : Point) → IsDecidedAt u old a new b p → ⊥
   none_there none p at = false≢true (sym (none p) ∙ in_part p at)
+
+  -- nor of a part whose points all lie in boxes of the rules before one of the two indices
+
+  pub hidden_in_old : ((p : Point) → holds p part ≡ true → list_any (lies_in_rule u p) (take a old) ≡ true) → (p : Point)
+      → IsDecidedAt u old a new b p → ⊥
+  hidden_in_old all p at =
+      let none = (first_is (lies_in_rule u p) old a at.first).before in false≢true (sym none ∙ all p (in_part p at))
+
+  pub hidden_in_new : ((p : Point) → holds p part ≡ true → list_any (lies_in_rule u p) (take b new) ≡ true) → (p : Point)
+      → IsDecidedAt u old a new b p → ⊥
+  hidden_in_new all p at =
+      let none = (first_is (lies_in_rule u p) new b at.second).before in false≢true (sym none ∙ all p (in_part p at))
 
   -- the others have the points of the part that lie in the boxes of the rules before the two indices
   abbrev pub AreBefore : List Block → Type 0

@@ -1,6 +1,7 @@
 //! A search for a frame that the rules at two indices decide.
 
 ghost use Rattle.std.specs.Prelude.{◌≡◌, ℕ, ◌<◌, ◌≤◌, true, ◌&&◌, ◌||◌, List, length, All, IfOk, OnOk, MatchOption};
+ghost use Rattle.std.specs.Bool.{OnTrue};
 ghost use Rattle.std.specs.List.{list_any};
 ghost use Rattle.gw_boxes.specs.Boxes.{holds};
 ghost use Rattle.gw_table.specs.Table.{IsRule};
@@ -63,6 +64,12 @@ impl Universe {
         if part.is_empty() {
             return Ok(None);
         }
+        if self.hides(&old[..a], &part) {
+            return Ok(None);
+        }
+        if self.hides(&new[..b], &part) {
+            return Ok(None);
+        }
         let mut others = Vec::new(alloc);
         self.push_meeting(&mut others, &part, &old[..a])?;
         self.push_meeting(&mut others, &part, &new[..b])?;
@@ -79,6 +86,20 @@ impl Universe {
             Some(rule) => self.block().within(&self.block_of(rule)),
             None => self.block(),
         }
+    }
+
+    /// Whether one of the rules holds of all points of the part: of rules that lie within one another the last does.
+    fn hides(self, rules: &[Rule], part: &Block) -> bool
+        requires { All IsRule rules.now }
+        ensures { OnTrue result ((p : Point) → holds p part.now ≡ true → list_any (lies_in_rule self p) rules.now ≡ true) }
+    {
+        for later in 0..rules.len() {
+            let block = self.block_of(&rules[rules.len() - 1 - later]);
+            if block.within(part) == *part {
+                return true;
+            }
+        }
+        false
     }
 
     /// Puts the boxes of the rules that share a point with the part behind the others.
