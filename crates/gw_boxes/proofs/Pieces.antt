@@ -146,7 +146,8 @@ or_false false = refl
 -- one more of the others: the first or one of them holds the point
 
 module _ (p : Point) (first : Block) (others : List Block) (i : ℕ) (d : Block) (below : i < length others) where
-  pub one_other : (x y : Bool) → x ≡ (holds p first || list_any (holds p) (take i others)) → y ≡ (x || holds p (get_or others i d))
+  pub one_other : (x y : Bool) → x ≡ (holds p first || list_any (holds p) (take i others))
+      → y ≡ (x || holds p (get_or others i d))
       → y ≡ (holds p first || list_any (holds p) (take (i + 1) others))
   one_other x y so_far is =
       let more = list_any_more (holds p) others i d below in

@@ -26,7 +26,8 @@ more_of test fates f =
     go true = refl
     go false = refl
 
-pub up_more : (b : Bool) (n : ℕ) → up_to_most (n + (if b then 1 else 0)) ≡ (if b then up_to_most (up_to_most n + 1) else up_to_most n)
+pub up_more : (b : Bool) (n : ℕ)
+    → up_to_most (n + (if b then 1 else 0)) ≡ (if b then up_to_most (up_to_most n + 1) else up_to_most n)
 up_more true n = saturates n
 up_more false n = ap up_to_most (omega arith)
 

@@ -145,7 +145,10 @@ module _ (changes : List Change) where
             let is : change ≡ other = cc in
             subst (λ ch. HasPair ch octets ingress egress found) is
             (pair_here found count past begun octets ingress egress same
-            (record { below = (let under = way.ingress_fits in omega (arith, under, is_count)); apart = λ e. way.apart (e ∙ sym same) })
+            (record {
+              below = (let under = way.ingress_fits in omega (arith, under, is_count));
+              apart = λ e. way.apart (e ∙ sym same);
+            })
             (subst (λ ch. IsUnlike ch.old.now ch.new.now octets ingress) (sym is) unlike)))
       ];
       ascending = begun.ascending;

@@ -7,7 +7,8 @@ loop-egress-init c = rw c.new-found.ensures.items (no_crossings c.args.changes.n
 
 pub returns-clause-crossings : goal.returns-clause-crossings
 returns-clause-crossings c =
-    all_crossings c.args.changes.now c.loop-egress.egress c.loop-egress.found.items (omega (arith, c.min-ports.ensures, c.loop-egress-test.false))
+    all_crossings c.args.changes.now c.loop-egress.egress c.loop-egress.found.items
+    (omega (arith, c.min-ports.ensures, c.loop-egress-test.false))
     c.loop-egress.invariant
 
 pub returns-clause-alike : goal.returns-clause-alike

@@ -31,6 +31,7 @@ loop-with-preserved c =
 
 pub returns : goal.returns
 returns c =
-    row_done c.args.old.now c.args.new.now c.requires.table.few c.part_count-with-end.ensures.table.few c.args.ingress c.args.index
+    row_done c.args.old.now c.args.new.now c.requires.table.few c.part_count-with-end.ensures.table.few c.args.ingress
+    c.args.index
     c.loop-with.with
     c.loop-with.found.items (omega (arith, c.part_count-with-end.ensures.count, c.loop-with-test.false)) c.loop-with.invariant

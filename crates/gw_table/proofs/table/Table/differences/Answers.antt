@@ -8,4 +8,5 @@ returns-clause-differences c =
 
 pub returns-clause-alike : goal.returns-clause-alike
 returns-clause-alike c =
-    none_where_alike_of c.args.self.now c.args.other.now (λ list. list.items) c.differences_at.result (returns-clause-differences c)
+    none_where_alike_of c.args.self.now c.args.other.now (λ list. list.items) c.differences_at.result
+    (returns-clause-differences c)

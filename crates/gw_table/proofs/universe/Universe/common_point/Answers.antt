@@ -28,5 +28,6 @@ returns c =
     c.in_ok-push_meeting-2.ensures in
     searched c.args.self c.args.old.now c.args.a c.args.new.now c.args.b c.part_at.result c.part_at-2.result
     c.within-part.result c.part_at.ensures c.part_at-2.ensures c.within-part.ensures others before
-    c.requires.a c.requires.b c.free_point.result (subst (λ (list : List Block). IfOk c.free_point.result (λ found. MatchOption found
+    c.requires.a c.requires.b c.free_point.result
+    (subst (λ (list : List Block). IfOk c.free_point.result (λ found. MatchOption found
     (HasNoFree c.within-part.result list) (IsFree c.within-part.result list))) c.deref.ensures.value c.free_point.ensures)
