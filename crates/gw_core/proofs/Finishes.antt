@@ -1,218 +1,237 @@
 -- A worker that makes all steps of the frame that it holds.
-use Rattle.std.proofs.Common.{◌≡◌, ℕ, zero, suc, ◌+◌, ◌-◌, ◌*◌, ◌<◌, ◌≤◌, ◌≢◌, Bool, true, false, cond, ltb, List, [], ◌∷◌, ◌++◌, length}
-use Rattle.std.proofs.Common.{Option, Some, None, Result, Ok, Err, refl, sym, ap, subst, ◌∙◌, arith, drop, replicate, ⊎_elim}
-use Rattle.std.specs.List.{filter, range_with_len, sum_by}
+use Rattle.std.proofs.Common.{◌≡◌, ℕ, zero, suc, ◌+◌, ◌-◌, ◌<◌, ◌≤◌, Bool, true, false, ltb, List, [], ◌∷◌, ◌++◌, length}
+use Rattle.std.proofs.Common.{Option, Some, None, Ok, refl, sym, ap, subst, ◌∙◌, arith, drop, replicate, length-drop}
 use Rattle.std.specs.Option.{option_map_or, is_some}
-use Rattle.std.proofs.lemmas.Bool.{false≢true, cases_eq}
+use Rattle.std.proofs.lemmas.Bool.{false≢true}
 use Rattle.std.proofs.lemmas.Bool.Decides.{nat_tests}
-use Rattle.std.proofs.lemmas.List.{length-map}
-use Rattle.std.proofs.lemmas.List.FromFn.{length-range_with_len}
-use Rattle.std.proofs.lemmas.List.Sums.{sum_by-cons}
-use Rattle.gw_insn.specs.Form.{form}
-use Rattle.gw_insn.specs.declared.insn.Insn.{Insn}
-use Rattle.gw_verify.specs.Flow.{program_forms}
-use Rattle.gw_verify.specs.Accepted.{IsAccepted}
-use Rattle.gw_verify.specs.declared.cause.Cause.TheVariants.{TooLong}
+use Rattle.std.proofs.lemmas.List.{drop-drop}
+use Rattle.std.proofs.lemmas.List.Elements.{All-nil}
 use Rattle.gw_claims.specs.Claims.{is_local}
-use Rattle.gw_policy.specs.Filter.{Filter, IsFilter}
-use Rattle.gw_policy.specs.Batches.{Pair, in_force, steps}
+use Rattle.gw_claims.specs.Holders.{HoldsAfter}
+use Rattle.gw_policy.specs.Batches.{Pair, in_force}
+use Rattle.gw_ledger.specs.Ledgers.{ledger_with}
+use Rattle.gw_ledger.specs.declared.ledger.InLedger.{InLedger}
+use Rattle.gw_ledger.specs.declared.outcome.FrameCopy.{FrameCopy}
 use Rattle.gw_ledger.specs.declared.outcome.Outcome.{Outcome}
-use Rattle.gw_core.specs.PortHistory.{PortEvent, step_made, frame_taken, Ingress, Taking, taking, Work, instructions_from, placing_if}
-use Rattle.gw_core.specs.PortHistory.{steps_at, is_allowed, offered_from, need_at, need, work, work_left, work_from, last_taking}
-use Rattle.gw_core.specs.PortHistory.{steps_since, is_unfinished, placed_since, placed_at, outcome_of, finished_after, heard, batches}
-use Rattle.gw_core.specs.Events.{step_answer, piece_answer, step_refusal}
-use Rattle.gw_core.specs.Standing.{Worker, WorkerStands, ingress, AnswersStep, AnswersTake, AreSound, next_port}
-use Rattle.gw_core.specs.Forwarding.{port_forwarded, AnswersForward, FinishesBy, TellsNoEnd}
+use Rattle.gw_core.specs.LaneView.{LaneView}
+use Rattle.gw_core.specs.PortHistory.{PortEvent, step_made, frame_taken, Ingress, Taking, taking, Work, instructions_from}
+use Rattle.gw_core.specs.PortHistory.{placing_if}
+use Rattle.gw_core.specs.PortHistory.{steps_at, is_allowed, work_left, work_from, last_taking, is_unfinished, placed_since}
+use Rattle.gw_core.specs.PortHistory.{placed_at}
+use Rattle.gw_core.specs.PortHistory.{outcome_of, finished_after, heard, batches, waiting, outcomes, ledger_of, with_finished}
+use Rattle.gw_core.specs.Events.{step_answer, piece_answer}
+use Rattle.gw_core.specs.Standing.{Worker, WorkerStands, ingress, AnswersTake, AreSound, AreFound, SoFar, Counts, next_port}
+use Rattle.gw_core.specs.Standing.{unfinished_frames, outcome_held}
+use Rattle.gw_core.specs.Forwarding.{port_forwarded, AnswersForward, FinishesBy, TookForeign, Judged}
 use Rattle.gw_core.specs.declared.active.Active.{Active}
 use Rattle.gw_core.specs.declared.event.Answer.{Answer}
 use Rattle.gw_core.specs.declared.event.Answer.TheVariants.{Taken, Finished}
-use Rattle.gw_core.specs.declared.event.EventRefusal.{EventRefusal}
-use Rattle.gw_core.specs.declared.event.EventRefusal.TheVariants.{Idle}
-use Rattle.gw_core.proofs.Histories.{left_over, unfinished, one_less}
+use Rattle.gw_core.proofs.Histories.{left_over, unfinished, one_less, work_left-step, no_work}
+use Rattle.gw_core.proofs.Boundaries.{nothing_below}
 use Rattle.gw_core.proofs.Forwarding.{ends_own}
-use Rattle.gw_core.proofs.Needs.{left_in}
-use Rattle.gw_core.proofs.Stand.{StepsLaw, some_steps, work_next}
+use Rattle.gw_core.proofs.Stand.{StepsLaw, some_steps, work_next, same_outcome, counted, allowed_few}
 use Rattle.gw_core.proofs.StepPaths.{held_of}
 use Rattle.gw_core.proofs.Takings.{busy, idle, first_within}
 use Rattle.gw_core.proofs.Gateways.{same_some}
 
--- a frame whose step does not end it is unfinished after it too
-still_unfinished : (p : Ingress) (own : List PortEvent) → is_unfinished p own ≡ true
-    → ((o : Outcome) → step_answer p own ≡ Finished o → ⊥) → is_unfinished p (step_made ∷ own) ≡ true
-still_unfinished p own busy never = go (work_left p own) refl
-  where
-    last_piece : (t : Option Taking) → last_taking own ≡ t → (piece : Work) → work_left p own ≡ piece ∷ [] → ⊥
-    last_piece None last piece left =
-        let none : work_left p own ≡ [] =
-        ap (λ (o : Option Taking). option_map_or (λ t. drop (steps_since own) (work p t)) o []) last in
-        let one : length (work_left p own) ≡ 1 = ap length left in
-        let zero : length (work_left p own) ≡ 0 = ap length none in
-        absurd (omega arith)
-    last_piece (Some t) last piece left =
-        let o = outcome_of p t (placed_since p own ++ placed_at p own (piece ∷ [])) in
-        let ends : finished_after p own (last_taking own) (work_left p own) ≡ Some o = rw (left, last) refl in
-        never o (ap (λ (f : Option Outcome). option_map_or (λ outcome. Finished outcome) f (piece_answer p own (work_left p own)))
-        ends)
-
-    go : (w : List Work) → work_left p own ≡ w → is_unfinished p (step_made ∷ own) ≡ true
-    go [] left = absurd (false≢true (sym (ap (λ (w : List Work). ltb 0 (length w)) left) ∙ busy))
-    go (piece ∷ []) left = absurd (last_piece (last_taking own) refl piece left)
-    go (piece ∷ k ∷ rest) left = unfinished p (step_made ∷ own) k rest (left_over p own piece (k ∷ rest) left)
-
--- and one that ends it leaves none
+-- a step that ends a frame leaves none unfinished
 ended_then : (p : Ingress) (own : List PortEvent) (o : Outcome) → step_answer p own ≡ Finished o
     → is_unfinished p (step_made ∷ own) ≡ false
 ended_then p own o ends =
     let e = ends_own p own o ends in
     ap (λ (w : List Work). ltb 0 (length w)) (left_over p own e.piece [] e.left)
 
--- accepted code is not too long
-not_long : (code : List Insn) → IsAccepted (program_forms code) → length code ≤ 4096
-not_long code ok = go (ltb 4096 (length code)) refl
-  where
-    go : (b : Bool) → ltb 4096 (length code) ≡ b → length code ≤ 4096
-    go true e =
-        let many : length (program_forms code) ≡ length code = length-map code (λ insn. Some (form insn)) in
-        let long : 4096 < length code = grind (arith, nat_tests) in
-        absurd (ok TooLong 4096 (omega arith, refl))
-    go false e = grind (arith, nat_tests)
-
--- so a policy makes no more steps, and a frame needs one more at most at a port
-few_steps : StepsLaw → (policy : Option Filter) (octets : List ℕ) (port : ℕ) → ((f : Filter) → policy ≡ Some f → IsFilter f)
-    → steps policy octets port ≤ 4096
-few_steps law None octets port sound = omega arith
-few_steps law (Some f) octets port sound =
-    let ok = (sound f refl).accepted in
-    let most = (law f.code octets port ok).1 in
-    let short = not_long f.code ok in
-    omega arith
-
-few_at : StepsLaw → (p : Ingress) (t : Taking) (q : ℕ) → AreSound t.published → need_at p t q ≤ 4097
-few_at law p t q sound = go (is_allowed p t q) (few_steps law (in_force q t.published) t.frame p.own (sound.filters q))
-  where
-    go : (b : Bool) → steps_at p t q ≤ 4096 → steps_at p t q + cond b 1 0 ≤ 4097
-    go true h = omega arith
-    go false h = omega arith
-
-few_over : StepsLaw → (p : Ingress) (t : Taking) (ports : List ℕ) → AreSound t.published
-    → sum_by (need_at p t) ports ≤ 4097 * length ports
-few_over law p t [] sound = omega arith
-few_over law p t (q ∷ ports) sound =
-    let rest = few_over law p t ports sound in
-    let here = few_at law p t q sound in
-    let sum = sum_by-cons (need_at p t) q ports in
-    omega arith
-
-few_offered : (test : ℕ → Bool) (xs : List ℕ) → length (filter test xs) ≤ length xs
-few_offered test [] = omega arith
-few_offered test (x ∷ xs) = go (test x) (few_offered test xs)
-  where
-    go : (b : Bool) → length (filter test xs) ≤ length xs → length (cond b (x ∷ filter test xs) (filter test xs)) ≤ suc (length xs)
-    go true h = omega arith
-    go false h = omega arith
-
-few_needed : StepsLaw → (p : Ingress) (t : Taking) → AreSound t.published → p.ports ≤ 16 → need p t ≤ 65552
-few_needed law p t sound most = go t.local
-  where
-    go : (b : Bool) → cond b 0 (sum_by (need_at p t) (offered_from p 0)) ≤ 65552
-    go true = omega arith
-    go false =
-        let sum = few_over law p t (offered_from p 0) sound in
-        let few : length (offered_from p 0) ≤ length (range_with_len 0 (p.ports - 0)) =
-        few_offered _ (range_with_len 0 (p.ports - 0)) in
-        let range = length-range_with_len 0 (p.ports - 0) in
-        let ports : length (offered_from p 0) ≤ 16 = omega arith in
-        omega arith
-
--- no frame that is held is unfinished after so many steps
-pub not_so_many : StepsLaw → (all : List (List Pair)) (w : Worker) (done : List PortEvent) (n : ℕ) → WorkerStands all w done
-    → is_some w.active ≡ true → 65552 ≤ n → is_unfinished (ingress w) (replicate n step_made ++ done) ≡ true → ⊥
-not_so_many law all w done n s some most busy = go w.active refl some
-  where
-    p : Ingress
-    p = ingress w
-
-    many : (n : ℕ) → (last_taking (replicate n step_made ++ done) ≡ last_taking done)
-        × (steps_since (replicate n step_made ++ done) ≡ n + steps_since done)
-    many zero = (refl, omega arith)
-    many (suc n) = let m = many n in let e = m.1 in (m.0, omega arith)
-
-    go : (held : Option Active) → w.active ≡ held → is_some held ≡ true → ⊥
-    go None is e = absurd (false≢true e)
-    go (Some a) is e =
-        let held = held_of all w done a s is in
-        let needed = few_needed law p held.t held.sound s.limits.most_ports in
-        let m = many n in
-        let left = left_in p (replicate n step_made ++ done) held.t (m.0 ∙ held.last) in
-        let made = m.1 in
-        let none : length (work_left p (replicate n step_made ++ done)) ≡ 0 = omega arith in
-        absurd (false≢true (sym (ap (ltb 0) none) ∙ busy))
-
--- What a worker led to by steps of the frame that it held at first: it is unfinished after each of them.
-pub record StepsSoFar (all : List (List Pair)) (old new : Worker) (done : List PortEvent) (n : ℕ) : Type 0 where
-  pub unfinished : (k : ℕ) → k < suc n → is_unfinished (ingress old) (replicate k step_made ++ done) ≡ true
-  pub stands : WorkerStands all new (replicate n step_made ++ done)
-
--- before the first
-pub no_steps : (all : List (List Pair)) (w : Worker) (done : List PortEvent) → WorkerStands all w done → is_some w.active ≡ true
-    → StepsSoFar all w w done 0
-no_steps all w done s some = go w.active refl some
-  where
-    go : (held : Option Active) → w.active ≡ held → is_some held ≡ true → StepsSoFar all w w done 0
-    go None is e = absurd (false≢true e)
-    go (Some a) is e = record {
-      unfinished = λ k lt. let none : k ≡ 0 = omega arith in
-          subst (λ k. is_unfinished (ingress w) (replicate k step_made ++ done) ≡ true) (sym none) (busy all w done a s is);
-      stands = s;
-    }
-
 -- the ingress of a worker is by its limits and its number
 pub same_ingress : (old new : Worker) → new.limits ≡ old.limits → new.own ≡ old.own → ingress new ≡ ingress old
 same_ingress old new limits own = λ i. record { ports = (limits i).ports; own = own i; room = (limits i).lane }
 
--- a step that does not end the frame
-pub one_step : (all : List (List Pair)) (old now next : Worker) (done : List PortEvent) (n : ℕ) (given : Result Answer EventRefusal)
-    → ingress now ≡ ingress old → StepsSoFar all old now done n
-    → AnswersStep all now given next (replicate n step_made ++ done) → TellsNoEnd given → StepsSoFar all old next done (n + 1)
-one_step all old now next done n (Err why) same s told never =
-    let past = replicate n step_made ++ done in
-    let busy = s.unfinished n (omega arith) in
-    let refused : step_refusal (ingress old) past ≡ Some why = subst (λ (p : Ingress). step_refusal p past ≡ Some why) same told.0 in
-    let none : None ≡ Some why = ap (λ (b : Bool). cond b None (Some Idle)) (sym busy) ∙ refused in
-    cc
-one_step all old now next done n (Ok answer) same s told never =
-    let past = replicate n step_made ++ done in
-    let busy = s.unfinished n (omega arith) in
-    let after : is_unfinished (ingress old) (step_made ∷ past) ≡ true = still_unfinished (ingress old) past busy
-    (λ o ends. never o (ap (λ (a : Answer). Ok a) (told.1 ∙ ap (λ (p : Ingress). step_answer p past) same ∙ ends))) in
-    let up : suc n ≡ n + 1 = omega arith in
-    subst (StepsSoFar all old next done) up (record {
-      unfinished = λ k lt. ⊎_elim
-          (λ (last : k ≡ suc n). subst (λ k. is_unfinished (ingress old) (replicate k step_made ++ done) ≡ true) (sym last) after)
-          (λ (earlier : k ≡ suc n → ⊥). s.unfinished k (let ne : k ≢ suc n = earlier in omega arith))
-          (cases_eq k (suc n));
-      stands = told.2;
-    })
+-- steps publish nothing, and no frame is heard by them
+same_heard : (k : ℕ) (x : List PortEvent) → heard (replicate k step_made ++ x) ≡ heard x
+same_heard zero x = refl
+same_heard (suc k) x = same_heard k x
 
--- and one that does
-pub last_step : (all : List (List Pair)) (old now next : Worker) (done : List PortEvent) (n : ℕ) (o : Outcome)
-    (given : Result Answer EventRefusal) → given ≡ Ok (Finished o)
-    → ingress now ≡ ingress old → StepsSoFar all old now done n
-    → AnswersStep all now given next (replicate n step_made ++ done) → FinishesBy all old o next done n
-last_step all old now next done n o given ends same s told =
-    let past = replicate n step_made ++ done in
-    let t : AnswersStep all now (Ok (Finished o)) next past =
-    subst (λ (r : Result Answer EventRefusal). AnswersStep all now r next past) ends told in
-    record {
-      unfinished = s.unfinished;
-      told = ap (λ (p : Ingress). step_answer p past) (sym same) ∙ sym t.1;
-      stands = t.2;
-    }
+same_published : (k : ℕ) (x : List PortEvent) → batches (replicate k step_made ++ x) ≡ batches x
+same_published zero x = refl
+same_published (suc k) x = same_published k x
+
+-- each takes a piece of the work that is left
+left_at : (p : Ingress) (k : ℕ) (x : List PortEvent) → work_left p (replicate k step_made ++ x) ≡ drop k (work_left p x)
+left_at p zero x = refl
+left_at p (suc k) x =
+    let up : k + 1 ≡ suc k = omega arith in
+    work_left-step p (replicate k step_made ++ x) ∙ ap (drop 1) (left_at p k x) ∙ drop-drop 1 k (work_left p x)
+    ∙ ap (λ n. drop n (work_left p x)) up
+
+-- with two pieces left or more a step finishes no frame
+none_finished : (p : Ingress) (own : List PortEvent) → 2 ≤ length (work_left p own)
+    → finished_after p own (last_taking own) (work_left p own) ≡ None
+none_finished p own two = go (work_left p own) refl two
+  where
+    go : (w : List Work) → work_left p own ≡ w → 2 ≤ length w → finished_after p own (last_taking own) (work_left p own) ≡ None
+    go [] left two = absurd (omega arith)
+    go (x ∷ []) left two = absurd (omega arith)
+    go (x ∷ y ∷ rest) left two = rw left refl
+
+-- so the outcomes are those before, up to the last piece
+same_outcomes : (p : Ingress) (x : List PortEvent) (k : ℕ) → k < length (work_left p x)
+    → outcomes p (replicate k step_made ++ x) ≡ outcomes p x
+same_outcomes p x zero lt = refl
+same_outcomes p x (suc k) lt =
+    let own = replicate k step_made ++ x in
+    let many = ap length (left_at p k x) ∙ length-drop k (work_left p x) in
+    let none = none_finished p own (omega arith) in
+    ap (λ (f : Option Outcome). with_finished f (outcomes p own)) none ∙ same_outcomes p x k (omega arith)
 
 -- the frame that was taken is the last one taken, however many steps follow
-last_taken : (n : ℕ) (frame : List ℕ) (done : List PortEvent) → last_taking (port_forwarded n frame done) ≡ Some (taking frame done)
+last_taken : (n : ℕ) (frame : List ℕ) (done : List PortEvent)
+    → last_taking (port_forwarded n frame done) ≡ Some (taking frame done)
 last_taken zero frame done = refl
 last_taken (suc n) frame done = last_taken n frame done
+
+-- the last piece finishes the frame
+ends_with : (p : Ingress) (own : List PortEvent) (t : Taking) (piece : Work) → work_left p own ≡ piece ∷ []
+    → last_taking own ≡ Some t
+    → finished_after p own (last_taking own) (work_left p own)
+    ≡ Some (outcome_of p t (placed_since p own ++ placed_at p own (piece ∷ [])))
+ends_with p own t piece left last = rw (left, last) refl
+
+-- a list of one element
+single : (xs : List Work) → length xs ≡ 1 → (piece : Work) × (xs ≡ piece ∷ [])
+single [] e = absurd (omega arith)
+single (x ∷ []) e = (x, refl)
+single (x ∷ y ∷ rest) e = absurd (omega arith)
+
+-- a frame of which no step was made was judged for no port
+pub judged_start : (all : List (List Pair)) (w : Worker) (frame : List ℕ) (done : List PortEvent) (a : Active)
+    → TookForeign all w frame done → w.active ≡ Some a
+    → Judged all w frame done 0 (record a { allowed = []; placed = [] }) w.lanes
+judged_start all w frame done a took is =
+    let s = took.stands in
+    let p = ingress w in
+    let t = taking frame done in
+    let held = held_of all w (frame_taken frame ∷ done) a s is in
+    let same : held.t ≡ t = same_some held.t t (sym held.last) in
+    let so = held.so_far in
+    record {
+      stands = s;
+      foreign = took.foreign;
+      indices = subst (λ (x : Taking). AreFound all a.indices x.published) same held.indices;
+      steps = 0;
+      count = omega arith;
+      left = rw took.foreign refl;
+      so_far = record {
+        frame = so.frame ∙ ap (λ (x : Taking). x.frame) same;
+        number = so.number ∙ ap (λ (x : Taking). x.number) same;
+        front = so.front ∙ ap (λ (x : Taking). length x.published) same;
+        foreign = took.foreign;
+        allowed = sym (nothing_below p t);
+        placed = refl;
+        below = All-nil (λ q. q < 0);
+        part = record { ports = λ q h. h };
+        fewer = omega arith;
+      };
+      many = s.many;
+      waits = s.lanes;
+    }
+
+-- the frame that was judged for each port is finished
+pub finishes_judged : (all : List (List Pair)) (w : Worker) (frame : List ℕ) (done : List PortEvent) (a : Active) (held : Active)
+    (lanes : List LaneView) (port : ℕ) → Judged all w frame done port a lanes → port ≡ length lanes → w.active ≡ Some held
+    → (n : ℕ) × FinishesBy all w (outcome_held a)
+    (record w { active = None; lanes = lanes; ledger = ledger_with w.ledger (outcome_held a) }) (frame_taken frame ∷ done) n
+finishes_judged all w frame done a held lanes port j last is = go j.steps refl
+  where
+    p : Ingress
+    p = ingress w
+
+    t : Taking
+    t = taking frame done
+
+    h : List PortEvent
+    h = frame_taken frame ∷ done
+
+    s : WorkerStands all w h
+    s = j.stands
+
+    at : port ≡ w.limits.ports
+    at = last ∙ j.many
+
+    ends : work_from p t port ≡ []
+    ends = no_work p t port (omega (arith, at))
+
+    start : work_left p h ≡ work_from p t 0
+    start = rw j.foreign refl
+
+    whole : j.steps ≡ length (work_left p h)
+    whole = let count = j.count in let none = ap length ends in let all_of = ap length start in omega arith
+
+    busy_at : (k : ℕ) → k < j.steps → is_unfinished p (replicate k step_made ++ h) ≡ true
+    busy_at k lt =
+        let many = ap length (left_at p k h) ∙ length-drop k (work_left p h) in
+        let some : 0 < length (work_left p (replicate k step_made ++ h)) = omega (arith, many, whole) in
+        grind (arith, nat_tests)
+
+    go : (n : ℕ) → j.steps ≡ n → (n : ℕ) × FinishesBy all w (outcome_held a)
+        (record w { active = None; lanes = lanes; ledger = ledger_with w.ledger (outcome_held a) }) h n
+    go zero e =
+        let some = busy all w h held s is in
+        let none : length (work_left p h) ≡ 0 = omega (arith, whole) in
+        absurd (false≢true (sym (ap (ltb 0) none) ∙ some))
+    go (suc m) e =
+        let own = replicate m step_made ++ h in
+        let many = ap length (left_at p m h) ∙ length-drop m (work_left p h) in
+        let one = single (work_left p own) (omega (arith, many, whole)) in
+        let taken : last_taking own ≡ Some t = last_taken m frame done in
+        let placed : a.placed ≡ placed_since p own ++ placed_at p own (one.0 ∷ []) =
+        j.so_far.placed ∙ ap (λ n. placed_since p (port_forwarded n frame done)) e
+        ∙ ap (λ (x : List Work). placed_since p own ++ placed_at p own x) one.1 in
+        let so : SoFar p t (port_forwarded j.steps frame done) p.ports a = subst
+        (λ n. SoFar p t (port_forwarded j.steps frame done) n a) at j.so_far in
+        let o = outcome_of p t (placed_since p own ++ placed_at p own (one.0 ∷ [])) in
+        let same : outcome_held a ≡ o = same_outcome p t (port_forwarded j.steps frame done) a _ so placed in
+        let told : finished_after p own (last_taking own) (work_left p own) ≡ Some o = ends_with p own t one.0 one.1 taken in
+        let past : (q : ℕ) → waiting p q (port_forwarded j.steps frame done) ≡ waiting p q (step_made ∷ own) =
+        λ q. ap (λ n. waiting p q (port_forwarded n frame done)) e in
+        let bound : length (outcome_held a).allowed ≤ 16 =
+        let e = ap length so.allowed in let k = allowed_few p t w.limits.ports in let m = s.limits.most_ports in omega arith in (
+          m,
+          record {
+            unfinished = λ k lt. busy_at k (omega (arith, lt, e));
+            told = ap (λ (f : Option Outcome). option_map_or (λ outcome. Finished outcome) f
+                (piece_answer p own (work_left p own))) told ∙ ap (λ (x : Outcome). Finished x) (sym same);
+            stands = record {
+              limits = s.limits;
+              own = s.own;
+              sound = subst AreSound (sym (same_published (suc m) h)) s.sound;
+              taken = s.taken ∙ ap length (sym (same_heard (suc m) h));
+              few = s.few;
+              claims = subst (HoldsAfter w.claims) (sym (same_heard (suc m) h)) s.claims;
+              ledger = ap (λ (x : Outcome). ledger_with w.ledger x) same
+                  ∙ ap (λ (x : InLedger). ledger_with x o)
+                  (s.ledger ∙ ap ledger_of (sym (same_outcomes p h m (omega (arith, whole, e)))))
+                  ∙ ap (λ (f : Option Outcome). ledger_of (with_finished f (outcomes p own))) (sym told);
+              counts = counted w.ledger (w.taken - 1) (w.taken - 0) (outcome_held a)
+                  (subst (λ (x : Option Active). Counts w.ledger (w.taken - unfinished_frames x)) is s.counts)
+                  (let k = s.taken in omega arith) bound (let k = so.fewer in omega arith);
+              held = sym (ap (λ n. work_left p (port_forwarded n frame done)) e) ∙ j.left ∙ ends;
+              many = j.many;
+              lanes = λ q lt. j.waits q lt
+                  ∙ ap (λ (x : List FrameCopy). record { room = w.limits.lane; waiting = x }) (past q);
+            };
+          },
+        )
+
+-- a frame that was taken and is held is foreign
+pub held_foreign : (all : List (List Pair)) (w : Worker) (done : List PortEvent) (frame : List ℕ)
+    → WorkerStands all w (frame_taken frame ∷ done) → is_some w.active ≡ true → is_local (heard done) frame ≡ false
+held_foreign all w done frame s some = go w.active refl some (is_local (heard done) frame) refl
+  where
+    go : (held : Option Active) → w.active ≡ held → is_some held ≡ true → (b : Bool) → is_local (heard done) frame ≡ b → b ≡ false
+    go None is e b local = absurd (false≢true e)
+    go (Some a) is e false local = refl
+    go (Some a) is e true local =
+        let none : is_unfinished (ingress w) (frame_taken frame ∷ done) ≡ false = rw local refl in
+        absurd (false≢true (sym none ∙ busy all w (frame_taken frame ∷ done) a s is))
 
 -- a frame that was taken and is held makes all of its steps
 pub forwards_held : (all : List (List Pair)) (old taken new : Worker) (done : List PortEvent) (frame : List ℕ) (answer : Answer)
@@ -244,7 +263,8 @@ forwards_held all old taken new done frame answer o same take finish =
     )
 
 -- a frame with no work is local
-no_work_local : StepsLaw → (all : List (List Pair)) (w : Worker) (done : List PortEvent) (frame : List ℕ) → WorkerStands all w done
+no_work_local : StepsLaw → (all : List (List Pair)) (w : Worker) (done : List PortEvent) (frame : List ℕ)
+    → WorkerStands all w done
     → is_unfinished (ingress w) (frame_taken frame ∷ done) ≡ false → is_local (heard done) frame ≡ true
 no_work_local law all w done frame s idle = go (is_local (heard done) frame) refl
   where

@@ -42,7 +42,8 @@ history_forwarded (suc n) p frame done = history_here p (forwarded n p frame don
 
 history_elsewhere : (n p q : ℕ) (frame : List ℕ) (done : List Event) → q ≢ p
     → history_of q (forwarded n p frame done) ≡ history_of q done
-history_elsewhere zero p q frame done ne = ap (λ (o : Option PortEvent). cons_option o (history_of q done)) (take_there p q frame ne)
+history_elsewhere zero p q frame done ne =
+    ap (λ (o : Option PortEvent). cons_option o (history_of q done)) (take_there p q frame ne)
 history_elsewhere (suc n) p q frame done ne = history_there q p (forwarded n p frame done) ne
     ∙ history_elsewhere n p q frame done ne
 
@@ -61,7 +62,8 @@ same_sent limits r q (suc n) p frame done = sent_same limits r q p (forwarded n 
 are_events : (n p : ℕ) (frame : List ℕ) (done : List Event) → IsEvent (Take p frame) → All IsEvent done
     → All IsEvent (forwarded n p frame done)
 are_events zero p frame done one all = All-cons IsEvent (Take p frame) done one all
-are_events (suc n) p frame done one all = All-cons IsEvent (Step p) (forwarded n p frame done) tt (are_events n p frame done one all)
+are_events (suc n) p frame done one all =
+    All-cons IsEvent (Step p) (forwarded n p frame done) tt (are_events n p frame done one all)
 
 -- the gateway whose worker forwarded the frame stands
 stands_forwarded : (c : Gateway) (done : List Event) (n p : ℕ) (frame : List ℕ) (w w2 : Worker) → IsEvent (Take p frame)
@@ -127,7 +129,8 @@ steps limits done p within busy = let e : leb limits.ports p ≡ false = grind (
 -- so all of these events are accepted
 all_accepted : (limits : Bounds) (history : List Event) (n p : ℕ) (frame : List ℕ) → p < limits.ports
     → refusal limits (accepted limits history) (Take p frame) ≡ None
-    → ((k : ℕ) → k < n → is_unfinished (ingress_of limits p) (history_of p (forwarded k p frame (accepted limits history))) ≡ true)
+    → ((k : ℕ) → k < n
+    → is_unfinished (ingress_of limits p) (history_of p (forwarded k p frame (accepted limits history))) ≡ true)
     → accepted limits (forwarded n p frame history) ≡ forwarded n p frame (accepted limits history)
 all_accepted limits history zero p frame within taken busy = rw taken refl
 all_accepted limits history (suc n) p frame within taken busy =
@@ -292,7 +295,8 @@ accepted_events : (limits : Bounds) (history : List Event) (n p : ℕ) (frame : 
     → All IsEvent (accepted limits history) → All IsEvent (accepted limits (forwarded n p frame history))
 accepted_events limits history zero p frame event events = kept limits (Take p frame) (accepted limits history) event events
 accepted_events limits history (suc n) p frame event events =
-    kept limits (Step p) (accepted limits (forwarded n p frame history)) tt (accepted_events limits history n p frame event events)
+    kept limits (Step p) (accepted limits (forwarded n p frame history)) tt
+    (accepted_events limits history n p frame event events)
 
 -- what the law of finished frames says of a frame that made its steps
 forwards_frame : FinishedLaw → (limits : Bounds) (history : List Event) (p : ℕ) (frame : List ℕ) (o : Outcome)

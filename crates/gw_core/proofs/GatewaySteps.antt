@@ -31,7 +31,8 @@ pub history_there : (p q : ℕ) (done : List Event) → p ≢ q → history_of p
 history_there p q done ne = let e : eqb p q ≡ false = grind (arith, nat_tests) in rw e
 
 -- a step of a port's worker sends nothing
-pub sent_same : (limits : Bounds) (p q r : ℕ) (done : List Event) → sent_after limits p q (Step r ∷ done) ≡ sent_after limits p q done
+pub sent_same : (limits : Bounds) (p q r : ℕ) (done : List Event)
+    → sent_after limits p q (Step r ∷ done) ≡ sent_after limits p q done
 sent_same limits p q r done = go (eqb p r)
   where
     go : (b : Bool) → (lane_after (ingress_of limits p) q (cons_option (cond b (Some step_made) None) (history_of p done))).sent

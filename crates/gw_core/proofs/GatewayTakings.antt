@@ -46,7 +46,8 @@ TakesAs w given w2 frame latest front = (all : List (List Pair)) (done : List Po
     → AnswersTake all w given w2 done frame
 
 -- the taking of a record at a port that is there is an event
-pub taken_event : (c : Gateway) (done : List Event) (p : ℕ) (frame : List ℕ) → StandsAt c done → p < c.limits.ports → IsRecord frame
+pub taken_event : (c : Gateway) (done : List Event) (p : ℕ) (frame : List ℕ) → StandsAt c done → p < c.limits.ports
+    → IsRecord frame
     → IsEvent (Take p frame)
 taken_event c done p frame s within is_record = let most = s.limits.most_ports in (is_record, omega arith)
 

@@ -10,7 +10,7 @@ use Rattle.gw_core.specs.PortHistory.{steps_at, work_for, work_from, offered_fro
 use Rattle.gw_core.specs.PortHistory.{steps_since, is_unfinished}
 
 -- the work for a port is as long as its part of the need
-length-work_for : (ingress : Ingress) (t : Taking) (q : ℕ) → length (work_for ingress t q) ≡ need_at ingress t q
+pub length-work_for : (ingress : Ingress) (t : Taking) (q : ℕ) → length (work_for ingress t q) ≡ need_at ingress t q
 length-work_for ingress t q =
     let both = length-append (instructions_from ingress t q 0) (placing_if (is_allowed ingress t q) q) in
     let made = length-map-range_with_len (instruction q) 0 (steps_at ingress t q - 0) in

@@ -1,6 +1,6 @@
 -- What becomes of a frame that is taken and makes all of its steps in one call. A history has the newest event first.
 use Rattle.std.specs.Prelude.{◌≡◌, ℕ, zero, suc, ◌<◌, true, false, List, [], ◌∷◌, ◌++◌, replicate, length}
-use Rattle.std.specs.Prelude.{Option, Some, None, Result, Ok, Err}
+use Rattle.std.specs.Prelude.{Bool, ◌+◌, slice_index_or, Option, Some, None, Result, Ok, Err}
 use Rattle.gw_policy.specs.Batches.{Pair}
 use Rattle.gw_ledger.specs.Bounds.{Bounds}
 use Rattle.gw_ledger.specs.declared.outcome.Outcome.{Outcome}
@@ -8,11 +8,15 @@ use Rattle.gw_core.specs.PortHistory.{PortEvent, frame_taken, step_made, batches
 use Rattle.gw_core.specs.Events.{history_of, accepted, reply, take_refusal, take_answer, step_answer}
 use Rattle.gw_core.specs.Standing.{Worker, WorkerStands, AreFound, ingress}
 use Rattle.gw_core.specs.Gateway.{Gateway, Stands}
+use Rattle.gw_claims.specs.Claims.{is_local}
+use Rattle.gw_core.specs.LaneView.{LaneView}
+use Rattle.gw_core.specs.PortHistory.{heard, taking, work_from, work_left, waiting}
+use Rattle.gw_core.specs.Standing.{SoFar, has_room, lane_with, active_placed, copy_from}
+use Rattle.gw_core.specs.declared.active.Active.{Active}
 use Rattle.gw_core.specs.Headline.{WasForwarded}
 use Rattle.gw_core.specs.declared.active.PairIndex.{PairIndex}
 use Rattle.gw_core.specs.declared.event.Event.{Event}
 use Rattle.gw_core.specs.declared.event.Event.TheVariants.{Take, Step}
-use Rattle.gw_core.specs.declared.event.Answer.{Answer}
 use Rattle.gw_core.specs.declared.event.Answer.TheVariants.{Taken, Finished}
 use Rattle.gw_core.specs.declared.event.EventRefusal.{EventRefusal}
 
@@ -76,12 +80,35 @@ pub record CanForward (all : List (List Pair)) (w : Worker) (indices : List (Opt
   pub published : front ≡ length (batches done)
 
 -- the frame that a worker holds after a history makes so many steps and one more, which is its last
-pub record FinishesBy (all : List (List Pair)) (old : Worker) (o : Outcome) (new : Worker) (done : List PortEvent) (n : ℕ) : Type 0
+pub record FinishesBy (all : List (List Pair)) (w : Worker) (o : Outcome) (new : Worker) (done : List PortEvent) (n : ℕ) : Type 0
   where
-    pub unfinished : (k : ℕ) → k < suc n → is_unfinished (ingress old) (replicate k step_made ++ done) ≡ true
-    pub told : step_answer (ingress old) (replicate n step_made ++ done) ≡ Finished o
+    pub unfinished : (k : ℕ) → k < suc n → is_unfinished (ingress w) (replicate k step_made ++ done) ≡ true
+    pub told : step_answer (ingress w) (replicate n step_made ++ done) ≡ Finished o
     pub stands : WorkerStands all new (replicate (suc n) step_made ++ done)
 
--- the answer tells of no finished frame
-abbrev pub TellsNoEnd : Result Answer EventRefusal → Type 0
-TellsNoEnd answer = (o : Outcome) → answer ≡ Ok (Finished o) → ⊥
+-- A worker took a frame, which was judged for the ports below one in one call: so many steps were made for it, those of the work
+-- for these ports, and lanes hold what these steps placed.
+pub record Judged (all : List (List Pair)) (w : Worker) (frame : List ℕ) (done : List PortEvent) (port : ℕ) (a : Active)
+    (lanes : List LaneView) : Type 0 where
+  pub stands : WorkerStands all w (frame_taken frame ∷ done)
+  pub foreign : is_local (heard done) frame ≡ false
+  pub indices : AreFound all a.indices (batches done)
+  pub steps : ℕ
+  pub count : steps + length (work_from (ingress w) (taking frame done) port)
+      ≡ length (work_from (ingress w) (taking frame done) 0)
+  pub left : work_left (ingress w) (port_forwarded steps frame done) ≡ work_from (ingress w) (taking frame done) port
+  pub so_far : SoFar (ingress w) (taking frame done) (port_forwarded steps frame done) port a
+  pub many : length lanes ≡ w.limits.ports
+  pub waits : (q : ℕ) → q < w.limits.ports → slice_index_or lanes q (record { room = 0; waiting = [] })
+      ≡ record { room = w.limits.lane; waiting = waiting (ingress w) q (port_forwarded steps frame done) }
+
+-- what becomes of a frame that a policy passes or blocks, and of the lane to its port
+abbrev pub Judges : Bool → ℕ → ℕ → Active → LaneView → Active → LaneView → Type 0
+Judges true own port old lane new after =
+    (new ≡ active_placed (has_room lane) (record old { port = port })) × (after ≡ lane_with lane (copy_from own old))
+Judges false own port old lane new after = (new ≡ record old { port = port }) × (after ≡ lane)
+
+-- a worker that took a foreign frame, of which it made no step yet
+pub record TookForeign (all : List (List Pair)) (w : Worker) (frame : List ℕ) (done : List PortEvent) : Type 0 where
+  pub stands : WorkerStands all w (frame_taken frame ∷ done)
+  pub foreign : is_local (heard done) frame ≡ false

@@ -1,6 +1,7 @@
 //! The event machine.
 
-ghost use Rattle.std.specs.Prelude.{◌≡◌, ℕ, ◌<◌, ◌≤◌, List, [], ◌∷◌, length, IfOk, IfErr, OnErr, IfSome, slice_index, replicate, IsTrue, ◌↔◌};
+ghost use Rattle.std.specs.Prelude.{◌≡◌, ℕ, ◌<◌, ◌≤◌, ◌↔◌, List, [], ◌∷◌, length, replicate, slice_index};
+ghost use Rattle.std.specs.Prelude.{IfOk, IfErr, OnErr, IfSome, IsTrue};
 ghost use Rattle.gw_core.specs.Gateway.{Stands, CoreAnswers};
 ghost use Rattle.gw_core.specs.Events.{accepted, ledger_after, waiting_after, sent_after};
 ghost use Rattle.gw_core.specs.Headline.{Forwards};

@@ -11,8 +11,14 @@ use Rattle.gw_core.proofs.gateway.Core.forward.Goals as goal
 pub forward-requires : goal.forward-requires
 forward-requires c =
     let i = c.self.inside in
-    let g : Gateway =
-    record { limits = i.limits; batches = i.batches.items; latest = i.latest; workers = i.workers.items; outs = i.outs.items; turns = i.turns } in
+    let g : Gateway = record {
+      limits = i.limits;
+      batches = i.batches.items;
+      latest = i.latest;
+      workers = i.workers.items;
+      outs = i.outs.items;
+      turns = i.turns;
+    } in
     let within : c.from-2.result < g.limits.ports = omega (arith, c.from-2.ensures, c.from.ensures, c.ports.ensures.ports) in
     let front : c.len-front.result ≡ length g.batches = search rules in
     can_forward g c.deref.result.now c.from-2.result c.index_mut.result.now c.len-front.result c.deref.ensures.value within
@@ -21,8 +27,14 @@ forward-requires c =
 pub invariant_of-self : goal.invariant_of-self
 invariant_of-self c =
     let i = c.self.inside in
-    let g : Gateway =
-    record { limits = i.limits; batches = i.batches.items; latest = i.latest; workers = i.workers.items; outs = i.outs.items; turns = i.turns } in
+    let g : Gateway = record {
+      limits = i.limits;
+      batches = i.batches.items;
+      latest = i.latest;
+      workers = i.workers.items;
+      outs = i.outs.items;
+      turns = i.turns;
+    } in
     let within : c.from-2.result < g.limits.ports = omega (arith, c.from-2.ensures, c.from.ensures, c.ports.ensures.ports) in
     let front : c.len-front.result ≡ length g.batches = search rules in
     let is_record : IsRecord c.args.frame = subst IsRecord c.bytes-record.ensures.octets c.bytes-record.ensures.record in (
@@ -45,8 +57,14 @@ returns-clause-safe c =
 pub returns-clause-answers : goal.returns-clause-answers
 returns-clause-answers c =
     let i = c.self.inside in
-    let g : Gateway =
-    record { limits = i.limits; batches = i.batches.items; latest = i.latest; workers = i.workers.items; outs = i.outs.items; turns = i.turns } in
+    let g : Gateway = record {
+      limits = i.limits;
+      batches = i.batches.items;
+      latest = i.latest;
+      workers = i.workers.items;
+      outs = i.outs.items;
+      turns = i.turns;
+    } in
     let within : c.args.port < g.limits.ports = omega (arith, c.from-2.ensures, c.from.ensures, c.ports.ensures.ports) in
     let front : c.len-front.result ≡ length g.batches = search rules in
     let is_record : IsRecord c.args.frame = subst IsRecord c.bytes-record.ensures.octets c.bytes-record.ensures.record in
@@ -61,8 +79,14 @@ returns-clause-answers c =
 pub returns-clause-headline : goal.returns-clause-headline
 returns-clause-headline c =
     let i = c.self.inside in
-    let g : Gateway =
-    record { limits = i.limits; batches = i.batches.items; latest = i.latest; workers = i.workers.items; outs = i.outs.items; turns = i.turns } in
+    let g : Gateway = record {
+      limits = i.limits;
+      batches = i.batches.items;
+      latest = i.latest;
+      workers = i.workers.items;
+      outs = i.outs.items;
+      turns = i.turns;
+    } in
     let within : c.args.port < g.limits.ports = omega (arith, c.from-2.ensures, c.from.ensures, c.ports.ensures.ports) in
     let front : c.len-front.result ≡ length g.batches = search rules in
     let is_record : IsRecord c.args.frame = subst IsRecord c.bytes-record.ensures.octets c.bytes-record.ensures.record in
@@ -79,8 +103,14 @@ returns-clause-headline c =
 pub returns-clause-refused : goal.returns-clause-refused
 returns-clause-refused c =
     let i = c.self.inside in
-    let g : Gateway =
-    record { limits = i.limits; batches = i.batches.items; latest = i.latest; workers = i.workers.items; outs = i.outs.items; turns = i.turns } in
+    let g : Gateway = record {
+      limits = i.limits;
+      batches = i.batches.items;
+      latest = i.latest;
+      workers = i.workers.items;
+      outs = i.outs.items;
+      turns = i.turns;
+    } in
     let within : c.from-2.result < g.limits.ports = omega (arith, c.from-2.ensures, c.from.ensures, c.ports.ensures.ports) in
     let front : c.len-front.result ≡ length g.batches = search rules in
     let is_record : IsRecord c.args.frame = subst IsRecord c.bytes-record.ensures.octets c.bytes-record.ensures.record in

@@ -55,6 +55,7 @@ returns c =
     let source : (history : List Event) → Stands g history → FindsSource g history c.args.to (Some c.in-Some.from) =
     subst (λ (x : Gateway). (history : List Event) → Stands x history → FindsSource x history c.args.to (Some c.in-Some.from))
     (sym is_view) c.in-Some.ensures.found in
-    let P : Gateway → Type 0 = λ x. (history : List Event) → Stands x history → PeeksNext x history c.args.to (Ok c.first.result) in
+    let P : Gateway → Type 0 = λ x. (history : List Event) → Stands x history
+    → PeeksNext x history c.args.to (Ok c.first.result) in
     subst P is_view (λ history s. peeks g history c.from-2.result c.args.to c.in-Some.from c.index.result.now c.first.result s
     c.from-2.ensures (search rules) within (source history s) c.first.ensures)

@@ -11,8 +11,14 @@ use Rattle.gw_core.proofs.gateway.Core.publish.Goals as goal
 pub invariant_of-self : goal.invariant_of-self
 invariant_of-self c =
     let i = c.self.inside in
-    let g : Gateway =
-    record { limits = i.limits; batches = i.batches.items; latest = i.latest; workers = i.workers.items; outs = i.outs.items; turns = i.turns } in
+    let g : Gateway = record {
+      limits = i.limits;
+      batches = i.batches.items;
+      latest = i.latest;
+      workers = i.workers.items;
+      outs = i.outs.items;
+      turns = i.turns;
+    } in
     let front : c.len-front.result ≡ length g.batches = search rules in
     let more : length g.batches < g.limits.versions = omega (arith, c.if-front-versions.false, c.versions.ensures.versions) in
     let made : IndicesWith c.args.batch (length g.batches) g.latest c.in-Some.latest = subst
@@ -30,8 +36,14 @@ invariant_of-self c =
 pub returns-clause-answers : goal.returns-clause-answers
 returns-clause-answers c =
     let i = c.self.inside in
-    let g : Gateway =
-    record { limits = i.limits; batches = i.batches.items; latest = i.latest; workers = i.workers.items; outs = i.outs.items; turns = i.turns } in
+    let g : Gateway = record {
+      limits = i.limits;
+      batches = i.batches.items;
+      latest = i.latest;
+      workers = i.workers.items;
+      outs = i.outs.items;
+      turns = i.turns;
+    } in
     let front : c.len-front.result ≡ length g.batches = search rules in
     let more : length g.batches < g.limits.versions = omega (arith, c.if-front-versions.false, c.versions.ensures.versions) in
     let made : IndicesWith c.args.batch (length g.batches) g.latest c.in-Some.latest = subst

@@ -10,8 +10,14 @@ use Rattle.gw_core.proofs.gateway.Core.send.Goals as goal
 pub send-requires : goal.send-requires
 send-requires c =
     let i = c.self.inside in
-    let g : Gateway =
-    record { limits = i.limits; batches = i.batches.items; latest = i.latest; workers = i.workers.items; outs = i.outs.items; turns = i.turns } in
+    let g : Gateway = record {
+      limits = i.limits;
+      batches = i.batches.items;
+      latest = i.latest;
+      workers = i.workers.items;
+      outs = i.outs.items;
+      turns = i.turns;
+    } in
     let within : c.from-2.result < g.limits.ports = omega
     (arith, c.from-2.ensures, c.from-else-from-ports.ensures, c.ports-ports.ensures.ports) in
     let many = core_lanes g c.from-2.result c.index_mut.result.now within c.index_mut.ensures.value c.self.invariant.1 in
@@ -20,8 +26,14 @@ send-requires c =
 pub invariant_of-self : goal.invariant_of-self
 invariant_of-self c =
     let i = c.self.inside in
-    let g : Gateway =
-    record { limits = i.limits; batches = i.batches.items; latest = i.latest; workers = i.workers.items; outs = i.outs.items; turns = i.turns } in
+    let g : Gateway = record {
+      limits = i.limits;
+      batches = i.batches.items;
+      latest = i.latest;
+      workers = i.workers.items;
+      outs = i.outs.items;
+      turns = i.turns;
+    } in
     let own : c.args.from < g.limits.ports = omega (arith, c.from-else-from-ports.ensures, c.ports-ports.ensures.ports) in
     let lt : c.args.to < g.limits.ports = omega (arith, c.from.ensures, c.ports-ports.ensures.ports) in
     let other : c.args.to ≢ c.args.from = c.if-to-from.false in
@@ -34,8 +46,14 @@ invariant_of-self c =
 pub returns-in-Some-clause-answers : goal.returns-in-Some-clause-answers
 returns-in-Some-clause-answers c =
     let i = c.self.inside in
-    let g : Gateway =
-    record { limits = i.limits; batches = i.batches.items; latest = i.latest; workers = i.workers.items; outs = i.outs.items; turns = i.turns } in
+    let g : Gateway = record {
+      limits = i.limits;
+      batches = i.batches.items;
+      latest = i.latest;
+      workers = i.workers.items;
+      outs = i.outs.items;
+      turns = i.turns;
+    } in
     let own : c.args.from < g.limits.ports = omega (arith, c.from-else-from-ports.ensures, c.ports-ports.ensures.ports) in
     let lt : c.args.to < g.limits.ports = omega (arith, c.from.ensures, c.ports-ports.ensures.ports) in
     let other : c.args.to ≢ c.args.from = c.if-to-from.false in
@@ -55,8 +73,14 @@ returns-in-Some-clause-answers c =
 pub returns-in-None-clause-answers : goal.returns-in-None-clause-answers
 returns-in-None-clause-answers c =
     let i = c.self.inside in
-    let g : Gateway =
-    record { limits = i.limits; batches = i.batches.items; latest = i.latest; workers = i.workers.items; outs = i.outs.items; turns = i.turns } in
+    let g : Gateway = record {
+      limits = i.limits;
+      batches = i.batches.items;
+      latest = i.latest;
+      workers = i.workers.items;
+      outs = i.outs.items;
+      turns = i.turns;
+    } in
     let own : c.args.from < g.limits.ports = omega (arith, c.from-else-from-ports.ensures, c.ports-ports.ensures.ports) in
     let lt : c.args.to < g.limits.ports = omega (arith, c.from.ensures, c.ports-ports.ensures.ports) in
     let other : c.args.to ≢ c.args.from = c.if-to-from.false in

@@ -9,8 +9,14 @@ use Rattle.gw_core.proofs.gateway.Core.sent.Goals as goal
 pub returns : goal.returns
 returns c =
     let i = c.self.inside in
-    let g : Gateway =
-    record { limits = i.limits; batches = i.batches.items; latest = i.latest; workers = i.workers.items; outs = i.outs.items; turns = i.turns } in
+    let g : Gateway = record {
+      limits = i.limits;
+      batches = i.batches.items;
+      latest = i.latest;
+      workers = i.workers.items;
+      outs = i.outs.items;
+      turns = i.turns;
+    } in
     let is_view : g ≡ c.args.self.now = c.self.view_is in
     let within : c.args.port < g.limits.ports = subst (λ (x : Gateway). c.args.port < x.limits.ports) (sym is_view) c.requires in
     let P : Gateway → Type 0 = λ x. (history : List Event) (from : ℕ) → Stands x history

@@ -11,8 +11,14 @@ use Rattle.gw_core.proofs.gateway.Core.take.Goals as goal
 pub take-requires : goal.take-requires
 take-requires c =
     let i = c.self.inside in
-    let g : Gateway =
-    record { limits = i.limits; batches = i.batches.items; latest = i.latest; workers = i.workers.items; outs = i.outs.items; turns = i.turns } in
+    let g : Gateway = record {
+      limits = i.limits;
+      batches = i.batches.items;
+      latest = i.latest;
+      workers = i.workers.items;
+      outs = i.outs.items;
+      turns = i.turns;
+    } in
     let within : c.from-2.result < g.limits.ports = omega (arith, c.from-2.ensures, c.from.ensures, c.ports.ensures.ports) in (
       g.batches,
       core_worker g g.batches c.from-2.result c.index_mut.result.now (search rules) within c.index_mut.ensures.value
@@ -22,8 +28,14 @@ take-requires c =
 pub invariant_of-self : goal.invariant_of-self
 invariant_of-self c =
     let i = c.self.inside in
-    let g : Gateway =
-    record { limits = i.limits; batches = i.batches.items; latest = i.latest; workers = i.workers.items; outs = i.outs.items; turns = i.turns } in
+    let g : Gateway = record {
+      limits = i.limits;
+      batches = i.batches.items;
+      latest = i.latest;
+      workers = i.workers.items;
+      outs = i.outs.items;
+      turns = i.turns;
+    } in
     let within : c.from-2.result < g.limits.ports = omega (arith, c.from-2.ensures, c.from.ensures, c.ports.ensures.ports) in
     let front : c.len-front.result ≡ length g.batches = search rules in
     let is_record : IsRecord c.args.frame = subst IsRecord c.bytes-record.ensures.octets c.bytes-record.ensures.record in (
@@ -36,8 +48,14 @@ invariant_of-self c =
 pub returns-clause-answers : goal.returns-clause-answers
 returns-clause-answers c =
     let i = c.self.inside in
-    let g : Gateway =
-    record { limits = i.limits; batches = i.batches.items; latest = i.latest; workers = i.workers.items; outs = i.outs.items; turns = i.turns } in
+    let g : Gateway = record {
+      limits = i.limits;
+      batches = i.batches.items;
+      latest = i.latest;
+      workers = i.workers.items;
+      outs = i.outs.items;
+      turns = i.turns;
+    } in
     let within : c.args.port < g.limits.ports = omega (arith, c.from-2.ensures, c.from.ensures, c.ports.ensures.ports) in
     let front : c.len-front.result ≡ length g.batches = search rules in
     let P : Gateway → Type 0 = λ x. (history : List Event) → Stands x history
@@ -52,8 +70,14 @@ returns-clause-answers c =
 pub returns-clause-refused : goal.returns-clause-refused
 returns-clause-refused c =
     let i = c.self.inside in
-    let g : Gateway =
-    record { limits = i.limits; batches = i.batches.items; latest = i.latest; workers = i.workers.items; outs = i.outs.items; turns = i.turns } in
+    let g : Gateway = record {
+      limits = i.limits;
+      batches = i.batches.items;
+      latest = i.latest;
+      workers = i.workers.items;
+      outs = i.outs.items;
+      turns = i.turns;
+    } in
     let within : c.from-2.result < g.limits.ports = omega (arith, c.from-2.ensures, c.from.ensures, c.ports.ensures.ports) in
     let front : c.len-front.result ≡ length g.batches = search rules in
     let is_view : g ≡ c.args.self.now = c.self.view_is in

@@ -8,8 +8,14 @@ use Rattle.gw_core.proofs.gateway.Core.waiting.Goals as goal
 pub waiting-requires : goal.waiting-requires
 waiting-requires c =
     let i = c.self.inside in
-    let g : Gateway =
-    record { limits = i.limits; batches = i.batches.items; latest = i.latest; workers = i.workers.items; outs = i.outs.items; turns = i.turns } in
+    let g : Gateway = record {
+      limits = i.limits;
+      batches = i.batches.items;
+      latest = i.latest;
+      workers = i.workers.items;
+      outs = i.outs.items;
+      turns = i.turns;
+    } in
     let is_view : g ≡ c.args.self.now = c.self.view_is in
     let own : c.args.from < g.limits.ports = subst (λ (x : Gateway). c.args.from < x.limits.ports) (sym is_view)
     c.requires.from in
@@ -20,8 +26,14 @@ waiting-requires c =
 pub returns : goal.returns
 returns c =
     let i = c.self.inside in
-    let g : Gateway =
-    record { limits = i.limits; batches = i.batches.items; latest = i.latest; workers = i.workers.items; outs = i.outs.items; turns = i.turns } in
+    let g : Gateway = record {
+      limits = i.limits;
+      batches = i.batches.items;
+      latest = i.latest;
+      workers = i.workers.items;
+      outs = i.outs.items;
+      turns = i.turns;
+    } in
     let is_view : g ≡ c.args.self.now = c.self.view_is in
     let own : c.args.from < g.limits.ports = subst (λ (x : Gateway). c.args.from < x.limits.ports) (sym is_view)
     c.requires.from in

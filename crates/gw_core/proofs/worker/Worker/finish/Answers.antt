@@ -1,55 +1,104 @@
-use Rattle.std.proofs.Common.{◌∙◌, ◌++◌, replicate, refl, arith}
-use Rattle.gw_core.specs.PortHistory.{step_made}
-use Rattle.gw_core.proofs.Finishes.{no_steps, one_step, last_step, not_so_many, same_ingress}
+use Rattle.std.proofs.Common.{◌≡◌, ◌∷◌, List, [], ℕ, Some, None, length, refl, sym, ap, subst, ◌∙◌, arith}
+use Rattle.std.specs.Vec.{with_items}
+use Rattle.std.proofs.lemmas.List.{with_items_is}
+use Rattle.gw_ledger.specs.Ledgers.{ledger_with}
+use Rattle.gw_ledger.specs.Ports.{IsPartOf}
+use Rattle.gw_ledger.specs.declared.ledger.InLedger.{InLedger}
+use Rattle.gw_ledger.specs.declared.outcome.Outcome.{Outcome}
+use Rattle.gw_core.specs.LaneView.{LaneView}
+use Rattle.gw_core.specs.PortHistory.{PortEvent, frame_taken}
+use Rattle.gw_core.specs.Standing.{Worker}
+use Rattle.gw_core.specs.Forwarding.{TookForeign, Judged, FinishesBy}
+use Rattle.gw_core.proofs.Finishes.{judged_start, finishes_judged}
 use Rattle.gw_core.proofs.worker.Worker.finish.Goals as goal
 
-pub loop-step-init : goal.loop-step-init
-loop-step-init c = record {
-  limits = refl;
-  own = refl;
-  steps = λ done s. no_steps c.args.batches.now c.args.self.now done s c.requires.held;
-}
+pub judge_all-requires : goal.judge_all-requires
+judge_all-requires c =
+    let i = c.self.inside in
+    let seen : Worker = record {
+      limits = i.limits;
+      own = i.own;
+      claims = i.claims;
+      taken = i.taken;
+      ledger = i.ledger;
+      active = i.active;
+      lanes = i.lanes.items;
+    } in
+    let all = c.args.batches.now in
+    let is_view : seen ≡ c.args.self.now = c.self.view_is in
+    let frame = c.requires.took.0 in
+    let done = c.requires.took.1.0 in
+    let took : TookForeign all seen frame done = subst (λ (x : Worker). TookForeign all x frame done) (sym is_view)
+    c.requires.took.1.1 in
+    let many = took.stands.many in
+    let most = took.stands.limits.most_ports in
+    let lent = ap length c.deref_mut.ensures.value in
+    omega arith
 
-pub step-requires : goal.step-requires
-step-requires c =
-    let done = c.requires.worker.0 in (
-      replicate c.loop-step._step step_made ++ done,
-      (c.loop-step.invariant.steps done c.requires.worker.1).stands,
-    )
+pub add_outcome-requires-clause-part : goal.add_outcome-requires-clause-part
+add_outcome-requires-clause-part c =
+    let i = c.self.inside in
+    let seen : Worker = record {
+      limits = i.limits;
+      own = i.own;
+      claims = i.claims;
+      taken = i.taken;
+      ledger = i.ledger;
+      active = i.active;
+      lanes = i.lanes.items;
+    } in
+    let all = c.args.batches.now in
+    let is_view : seen ≡ c.args.self.now = c.self.view_is in
+    let active = c.in-Some.active in
+    let is : seen.active ≡ Some active = c.in-Some.is in
+    let J : List ℕ → List ℕ → List LaneView → List ℕ → List PortEvent → Type 0 = λ allowed placed lanes frame done.
+    Judged all seen frame done 0 (record active { allowed = allowed; placed = placed }) lanes in
+    let judged = λ (frame : List ℕ) (done : List PortEvent) (took : TookForeign all seen frame done).
+    c.judge_all.ensures seen frame done refl
+    (subst (λ x. J c.new-active.result c.new-active-2.result x frame done) (sym c.deref_mut.ensures.value)
+    (subst (λ x. J x c.new-active-2.result seen.lanes frame done) (sym c.new-active.ensures)
+    (subst (λ x. J [] x seen.lanes frame done) (sym c.new-active-2.ensures)
+    (judged_start all seen frame done active took is)))) in
+    let frame = c.requires.took.0 in
+    let done = c.requires.took.1.0 in
+    let took : TookForeign all seen frame done = subst (λ (x : Worker). TookForeign all x frame done) (sym is_view)
+    c.requires.took.1.1 in
+    subst (λ (o : Outcome). IsPartOf o.placed o.allowed) (sym c.outcome-outcome.ensures) (judged frame done took).so_far.part
 
-pub loop-step-preserved : goal.loop-step-preserved
-loop-step-preserved c =
-    let inv = c.loop-step.invariant in
-    let never = c.in_default.ensures in
-    record {
-      limits = c.step.ensures.limits ∙ inv.limits;
-      own = c.step.ensures.own ∙ inv.own;
-      steps = λ done s.
-          one_step c.args.batches.now c.args.self.now c.loop-step.self c.step.new.self done c.loop-step._step c.step.result
-          (same_ingress c.args.self.now c.loop-step.self inv.limits inv.own) (inv.steps done s)
-          (c.step.ensures.answers (replicate c.loop-step._step step_made ++ done) (inv.steps done s).stands) never;
-    }
-
-pub returns-in-Some-clause-finished : goal.returns-in-Some-clause-finished
-returns-in-Some-clause-finished c =
-    let inv = c.loop-step.invariant in
-    λ done s. (
-      c.loop-step._step,
-      last_step c.args.batches.now c.args.self.now c.loop-step.self c.step.new.self done c.loop-step._step c.in-Some.outcome
-          c.step.result c.in-Some.ensures (same_ingress c.args.self.now c.loop-step.self inv.limits inv.own) (inv.steps done s)
-          (c.step.ensures.answers (replicate c.loop-step._step step_made ++ done) (inv.steps done s).stands),
-    )
-
-pub returns-in-Some-clause-limits : goal.returns-in-Some-clause-limits
-returns-in-Some-clause-limits c = c.step.ensures.limits ∙ c.loop-step.invariant.limits
-
-pub returns-in-Some-clause-own : goal.returns-in-Some-clause-own
-returns-in-Some-clause-own c = c.step.ensures.own ∙ c.loop-step.invariant.own
-
-pub unreachable-requires : goal.unreachable-requires
-unreachable-requires c =
-    let done = c.requires.worker.0 in
-    let s = c.requires.worker.1 in
-    let n = c.loop-step._step in
-    not_so_many c.one_answer.ensures.steps c.args.batches.now c.args.self.now done n s c.requires.held c.loop-step-test.false
-    ((c.loop-step.invariant.steps done s).unfinished n (omega arith))
+pub returns-clause-finished : goal.returns-clause-finished
+returns-clause-finished c =
+    let i = c.self.inside in
+    let seen : Worker = record {
+      limits = i.limits;
+      own = i.own;
+      claims = i.claims;
+      taken = i.taken;
+      ledger = i.ledger;
+      active = i.active;
+      lanes = i.lanes.items;
+    } in
+    let all = c.args.batches.now in
+    let is_view : seen ≡ c.args.self.now = c.self.view_is in
+    let active = c.in-Some.active in
+    let is : seen.active ≡ Some active = c.in-Some.is in
+    let J : List ℕ → List ℕ → List LaneView → List ℕ → List PortEvent → Type 0 = λ allowed placed lanes frame done.
+    Judged all seen frame done 0 (record active { allowed = allowed; placed = placed }) lanes in
+    let judged = λ (frame : List ℕ) (done : List PortEvent) (took : TookForeign all seen frame done).
+    c.judge_all.ensures seen frame done refl
+    (subst (λ x. J c.new-active.result c.new-active-2.result x frame done) (sym c.deref_mut.ensures.value)
+    (subst (λ x. J x c.new-active-2.result seen.lanes frame done) (sym c.new-active.ensures)
+    (subst (λ x. J [] x seen.lanes frame done) (sym c.new-active-2.ensures)
+    (judged_start all seen frame done active took is)))) in
+    λ frame done took_now.
+    let took : TookForeign all seen frame done = subst (λ (x : Worker). TookForeign all x frame done) (sym is_view) took_now in
+    let lanes = c.judge_all.new.lanes in
+    let j = judged frame done took in
+    let size : length lanes ≡ length i.lanes.items = j.many ∙ sym took.stands.many in
+    let items = with_items_is i.lanes lanes (size ∙ sym i.lanes.ok.0) in
+    let F : Worker → Outcome → InLedger → List LaneView → Type 0 = λ old o ledger lanes.
+    (n : ℕ) × FinishesBy all old o (record seen { active = None; lanes = lanes; ledger = ledger }) (frame_taken frame ∷ done) n in
+    subst (λ (x : Worker). F x c.outcome-outcome.result c.add_outcome.new.self (with_items i.lanes lanes).items) is_view
+    (subst (λ (x : List LaneView). F seen c.outcome-outcome.result c.add_outcome.new.self x) (sym items)
+    (subst (λ (x : InLedger). F seen c.outcome-outcome.result x lanes) (sym c.add_outcome.ensures)
+    (subst (λ (o : Outcome). F seen o (ledger_with i.ledger o) lanes) (sym c.outcome-outcome.ensures)
+    (finishes_judged all seen frame done c.judge_all.new.self active lanes (length lanes) j refl is))))
