@@ -2,7 +2,8 @@
 //!
 //! - Frames: `Frame`, `CanId`, `Name`, `Claims`, and `record` from hexadecimal digits.
 //! - Programs: `read_listing`, `assemble`, `Program::check`, `State` and `run_program`, `disassemble`, `write_listing`.
-//! - Tables: `Table`, `IndexedTable`, `compile`, and `table` from octets. `Table::differences` and `Difference` compare two.
+//! - Tables: `Table`, `IndexedTable`, `compile`, and `table` from octets. `Table::differences` compares two, and `crossings`
+//!   those of a gateway's ports. `Table::answers` answers a `Question`.
 //! - Policies: `Policy`, `Batch`, `PolicySet`; `program_policy` and `table_policy` from octets.
 //! - A gateway: `Limits`, `gateway`, its ends `Operator`, `PortIn` and `PortOut`, `close`; or `run_from`, with its own threads.
 //! - The model of every order of events: `Core`, `Event`, `Answer`. In one thread `Core::forward` and `Core::next` suffice.
@@ -27,7 +28,10 @@ pub use gw_ports::{
     RunRefusal, RunReport, close, gateway, run, run_from,
 };
 pub use gw_replay::{ReplayFault, replay, replay_told};
-pub use gw_table::{Difference, IndexedTable, Part, Table, TableRefusal, WhyDead, compile};
+pub use gw_table::{
+    Answer as TableAnswer, Change, Crossing, Difference, IndexedTable, Part, Question, Sample,
+    Span, Table, TableRefusal, WhyDead, WhyNoFrame, compile, crossings,
+};
 pub use gw_text::{AsmRefusal, Explained, assemble, disassemble};
 pub use gw_trace::{Checked, Share, Trace, TraceRefusal, frames};
 pub use gw_verify::{Cause, Path, Program, Refused, explain, holds};
