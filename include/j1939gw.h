@@ -1,5 +1,6 @@
 /*
- * j1939gw: decides which J1939 frames may cross a gateway, by tables and by programs of classic BPF. The calls of proved crates.
+ * j1939gw: decides which J1939 frames may cross a gateway, by tables and by programs of classic BPF, and forwards them. The calls
+ * of proved crates.
  *
  *     cc program.c $(pkg-config --cflags --libs j1939gw)
  *
@@ -12,13 +13,14 @@
  *
  * MEMORY. A handle is 16 octets that the caller keeps, and may move but not copy. All octets 0, as JGW_NOTHING, it holds nothing.
  * What it holds is freed by jgw_free, or where another thing is put in. No call keeps a pointer to a text, to code or to frames.
+ * A gateway takes all its memory when it is opened, but for its policies.
  * Calls marked FIXED take no memory. The others call malloc, realloc and free; want of memory is a refusal, never an abort.
  *
  * THREADS. The library starts no thread, takes no lock and keeps no state of its own. One call at a time may use a handle, a
  * verdict too. Another thread may use it next, behind a lock, a thread's start or its join. Give each thread a handle of its
  * own: jgw_policy_share. No call belongs in a signal handler.
  *
- * CHECKED: NULL, the kind of a handle, the length of a frame, room for verdicts, UTF-8.
+ * CHECKED: NULL, the kind of a handle, the length of a frame, room for verdicts, UTF-8, limits, ports.
  * NOT CHECKED, and C's to keep: a pointer leads to as many elements as the count says. No two pointers of a call overlap.
  * A handle is not used by two calls at once, nor through a copy, nor written by C. A text is at most PTRDIFF_MAX octets long.
  */
@@ -101,6 +103,17 @@ enum jgw_refusal {
     JGW_TABLE_TOO_MANY_RULES = 54,
     JGW_TABLE_MEMORY = 55,
 
+    /* Batches and gateways. */
+    JGW_SAME_PORT_TWICE = 60, /* the batch has a policy for the port */
+    JGW_BATCH_FULL = 61,
+    JGW_BAD_LIMIT = 70,
+    JGW_GATEWAY_MEMORY = 71,
+    JGW_NO_SUCH_PORT = 72,
+    JGW_BUSY = 73, /* a frame that was taken at the port is unfinished: step it to its end */
+    JGW_IDLE = 74, /* the port has no unfinished frame */
+    JGW_VERSIONS_SPENT = 75,
+    JGW_FRAMES_SPENT = 76,
+
     JGW_MEMORY = 100,
 
     /* Of this library alone. */
@@ -108,7 +121,8 @@ enum jgw_refusal {
     JGW_WRONG_HANDLE = 121, /* a handle of another kind, or one that holds nothing */
     JGW_NULL = 122,
     JGW_NO_ROOM = 123, /* fewer verdicts than frames */
-    JGW_NOBODY = 124   /* no NAME holds the address, or the NAME no address */
+    JGW_NOBODY = 124,  /* no NAME holds the address, or the NAME no address */
+    JGW_NO_COPY = 125  /* no copy waits for the port */
 };
 
 /* Stands for a line, place, word or rule that a refusal does not name. */
@@ -123,7 +137,46 @@ struct jgw_error {
     uint32_t rule;   /* of a table, from 0 */
 };
 
-/* Holds a policy or claims, or nothing. C reads no field and writes none, but for a handle that begins as JGW_NOTHING. */
+/* What became of a frame that was offered. Bit p of a mask is port p. */
+struct jgw_outcome {
+    uint32_t number;  /* of the frame at its port, from 0 */
+    uint32_t front;   /* how many batches were published before it was taken */
+    uint32_t local;   /* 1: it stays on its segment, and was offered to no port. Else 0 */
+    uint32_t allowed; /* the ports whose policies pass it */
+    uint32_t placed;  /* those of them for which a copy waits now: the lanes to the others were full */
+};
+
+/* A copy of a frame on its way to another port. */
+struct jgw_copy {
+    struct can_frame frame;
+    uint32_t number; /* of the frame at its ingress port, from 0 */
+    uint8_t from;    /* the ingress port */
+};
+
+/* What a port counts of the frames taken there that are finished: allowed are placed and lost ones together. */
+struct jgw_counters_in {
+    uint64_t taken, local, allowed, placed, lost;
+};
+
+/* What a port counts of the copies sent there, by the ingress ports of their frames. */
+struct jgw_counters_out {
+    uint64_t sent[16];
+};
+
+/* How a frame that was taken is judged: by the first `front` batches. A local one is finished. */
+struct jgw_taken {
+    uint32_t number, front, local;
+};
+
+/* What a step did. `to` is JGW_NONE where it names no port, and `outcome` is that of JGW_FINISHED, else all 0. */
+enum { JGW_STEPPED = 0, JGW_PLACED = 1, JGW_LOST = 2, JGW_FINISHED = 3 };
+struct jgw_step {
+    uint32_t what, to;
+    struct jgw_outcome outcome;
+};
+
+/* Holds a policy, claims, a batch or a gateway, or nothing. C reads no field and writes none, but for a handle that begins as
+ * JGW_NOTHING. */
 struct jgw_handle {
     bool there;
     void *at;
@@ -132,8 +185,10 @@ struct jgw_handle {
 
 #ifdef __cplusplus
 static_assert(sizeof(struct can_frame) == 16 && sizeof(struct sock_filter) == 8, "as Linux lays them out");
+static_assert(sizeof(struct jgw_copy) == 24 && sizeof(struct jgw_outcome) == 20, "as the library lays them out");
 #else
 _Static_assert(sizeof(struct can_frame) == 16 && sizeof(struct sock_filter) == 8, "as Linux lays them out");
+_Static_assert(sizeof(struct jgw_copy) == 24 && sizeof(struct jgw_outcome) == 20, "as the library lays them out");
 #endif
 
 /* What the library exports. No pointer here may be NULL. Call the functions below. */
@@ -152,6 +207,19 @@ uint32_t jgw_call_claims_hear(struct jgw_handle *claims, const struct can_frame 
 uint32_t jgw_call_claims_holder(struct jgw_handle *claims, uint8_t address, uint64_t *name);
 uint32_t jgw_call_claims_address(struct jgw_handle *claims, uint64_t name, uint8_t *address);
 uint32_t jgw_call_claims_local(struct jgw_handle *claims, const struct can_frame *frame);
+uint32_t jgw_call_batch_new(struct jgw_handle *batch);
+uint32_t jgw_call_batch_add(struct jgw_handle *batch, uint8_t port, struct jgw_handle *policy);
+uint32_t jgw_call_gateway_open(uint32_t ports, uint32_t lane, uint32_t frames, uint32_t versions, struct jgw_handle *gateway);
+uint32_t jgw_call_gateway_publish(struct jgw_handle *gateway, struct jgw_handle *batch, uint32_t *front);
+uint32_t jgw_call_gateway_offer(struct jgw_handle *gateway, uint8_t port, const struct can_frame *frame,
+                                struct jgw_outcome *outcome);
+uint32_t jgw_call_gateway_next(struct jgw_handle *gateway, uint8_t to, struct jgw_copy *copy);
+uint32_t jgw_call_gateway_peek(struct jgw_handle *gateway, uint8_t to, struct jgw_copy *copy);
+uint32_t jgw_call_gateway_waiting(struct jgw_handle *gateway, uint8_t from, uint8_t to, uint64_t *count);
+uint32_t jgw_call_gateway_counters_in(struct jgw_handle *gateway, uint8_t port, struct jgw_counters_in *counters);
+uint32_t jgw_call_gateway_counters_out(struct jgw_handle *gateway, uint8_t port, struct jgw_counters_out *counters);
+uint32_t jgw_call_gateway_take(struct jgw_handle *gateway, uint8_t port, const struct can_frame *frame, struct jgw_taken *taken);
+uint32_t jgw_call_gateway_step(struct jgw_handle *gateway, uint8_t port, struct jgw_step *step);
 
 #ifdef __cplusplus
 }
@@ -282,6 +350,99 @@ static inline uint32_t jgw_claims_address(struct jgw_handle *claims, uint64_t na
 static inline uint32_t jgw_claims_local(struct jgw_handle *claims, const struct can_frame *frame)
 {
     return claims == NULL || frame == NULL ? (uint32_t)JGW_NULL : jgw_call_claims_local(claims, frame);
+}
+
+/* ---- A gateway in one thread: frames are offered at ports, and copies of those that may leave wait at other ports ---- */
+
+/* Opens a gateway of 2 to 16 ports, on whose lanes 1 to 1024 copies may wait, for 1 to 4294967295 frames a port and 1 to 65535
+ * published batches. Until a batch names a port, nothing leaves there. What `gateway` held is freed. */
+static inline uint32_t jgw_gateway_open(uint32_t ports, uint32_t lane, uint32_t frames, uint32_t versions,
+                                        struct jgw_handle *gateway)
+{
+    return gateway == NULL ? (uint32_t)JGW_NULL : jgw_call_gateway_open(ports, lane, frames, versions, gateway);
+}
+
+/* Begins a batch of policies, which come into force together. What `batch` held is freed. */
+static inline uint32_t jgw_batch_new(struct jgw_handle *batch)
+{
+    return batch == NULL ? (uint32_t)JGW_NULL : jgw_call_batch_new(batch);
+}
+
+/* FIXED. Joins a policy for an egress port. Its handle goes on holding it, and may be freed or judge frames by it. */
+static inline uint32_t jgw_batch_add(struct jgw_handle *batch, uint8_t port, struct jgw_handle *policy)
+{
+    if (batch == NULL || policy == NULL)
+        return JGW_NULL;
+    return batch == policy ? (uint32_t)JGW_WRONG_HANDLE : jgw_call_batch_add(batch, port, policy);
+}
+
+/* FIXED. Brings a batch into force for frames that are taken from now on. `batch` holds nothing then; refused, it holds what it
+ * held. `front` tells how many batches were published so far, and may be NULL. */
+static inline uint32_t jgw_gateway_publish(struct jgw_handle *gateway, struct jgw_handle *batch, uint32_t *front)
+{
+    uint32_t unread;
+    if (gateway == NULL || batch == NULL)
+        return JGW_NULL;
+    return gateway == batch ? (uint32_t)JGW_WRONG_HANDLE
+                            : jgw_call_gateway_publish(gateway, batch, front != NULL ? front : &unread);
+}
+
+/* FIXED. Takes a frame at a port, judges it by the policy of each other port, and has its copies wait there. `outcome` may be
+ * NULL. */
+static inline uint32_t jgw_offer(struct jgw_handle *gateway, uint8_t port, const struct can_frame *frame,
+                                 struct jgw_outcome *outcome)
+{
+    struct jgw_outcome unread;
+    if (gateway == NULL || frame == NULL)
+        return JGW_NULL;
+    return jgw_call_gateway_offer(gateway, port, frame, outcome != NULL ? outcome : &unread);
+}
+
+/* FIXED. Takes the next copy that waits for a port off its lane, else JGW_NO_COPY. The ingress ports have their turns in a
+ * circle, and the copies of each come in the order of its frames. */
+static inline uint32_t jgw_next(struct jgw_handle *gateway, uint8_t to, struct jgw_copy *copy)
+{
+    return gateway == NULL || copy == NULL ? (uint32_t)JGW_NULL : jgw_call_gateway_next(gateway, to, copy);
+}
+
+/* FIXED. The copy that jgw_next would take, which goes on waiting: write it to the bus, and take it once that has succeeded. */
+static inline uint32_t jgw_peek(struct jgw_handle *gateway, uint8_t to, struct jgw_copy *copy)
+{
+    return gateway == NULL || copy == NULL ? (uint32_t)JGW_NULL : jgw_call_gateway_peek(gateway, to, copy);
+}
+
+/* FIXED. How many copies wait at one port for another. */
+static inline uint32_t jgw_gateway_waiting(struct jgw_handle *gateway, uint8_t from, uint8_t to, uint64_t *count)
+{
+    return gateway == NULL || count == NULL ? (uint32_t)JGW_NULL : jgw_call_gateway_waiting(gateway, from, to, count);
+}
+
+/* FIXED. What a port counts of the frames that were taken there. */
+static inline uint32_t jgw_gateway_counters_in(struct jgw_handle *gateway, uint8_t port, struct jgw_counters_in *counters)
+{
+    return gateway == NULL || counters == NULL ? (uint32_t)JGW_NULL : jgw_call_gateway_counters_in(gateway, port, counters);
+}
+
+/* FIXED. What a port counts of the copies that were sent there. */
+static inline uint32_t jgw_gateway_counters_out(struct jgw_handle *gateway, uint8_t port, struct jgw_counters_out *counters)
+{
+    return gateway == NULL || counters == NULL ? (uint32_t)JGW_NULL : jgw_call_gateway_counters_out(gateway, port, counters);
+}
+
+/* FIXED. Takes a frame at a port, as the first part of jgw_offer: for a loop whose calls have a bound on their time. */
+static inline uint32_t jgw_gateway_take(struct jgw_handle *gateway, uint8_t port, const struct can_frame *frame,
+                                        struct jgw_taken *taken)
+{
+    struct jgw_taken unread;
+    if (gateway == NULL || frame == NULL)
+        return JGW_NULL;
+    return jgw_call_gateway_take(gateway, port, frame, taken != NULL ? taken : &unread);
+}
+
+/* FIXED. Makes one step of the frame that was taken last at a port: an instruction of a policy, or the placing of a copy. */
+static inline uint32_t jgw_gateway_step(struct jgw_handle *gateway, uint8_t port, struct jgw_step *step)
+{
+    return gateway == NULL || step == NULL ? (uint32_t)JGW_NULL : jgw_call_gateway_step(gateway, port, step);
 }
 
 #endif

@@ -1,6 +1,7 @@
 /*
  * Makes each thing that takes memory, and writes what each call answered, and what its policy then says of a frame. It takes no
- * memory itself: tests/run-capi refuses each growth of it in turn.
+ * memory itself: tests/run-capi refuses each growth of it in turn. Last comes a gateway, at which the policy of a table is
+ * published and a frame is offered, and where copies of this wait.
  */
 #include "j1939gw.h"
 
@@ -22,14 +23,35 @@ static void say(uint32_t number)
     line[at++] = ' ';
 }
 
-static void say_both(uint32_t made, struct jgw_handle *policy)
+static struct can_frame a_frame(void)
 {
     struct can_frame frame;
     memset(&frame, 0, sizeof frame);
     frame.can_id = 0x8CF00400;
     frame.len = 8;
+    return frame;
+}
+
+static void say_both(uint32_t made, struct jgw_handle *policy)
+{
+    struct can_frame frame = a_frame();
     say(made);
     say(jgw_verdict(policy, &frame, 0));
+}
+
+static void say_gateway(struct jgw_handle *policy)
+{
+    struct jgw_handle gateway = JGW_NOTHING, batch = JGW_NOTHING;
+    struct can_frame frame = a_frame();
+    struct jgw_outcome outcome = {0, 0, 0, 0, 0};
+    say(jgw_gateway_open(2, 4, 9, 2, &gateway));
+    say(jgw_batch_new(&batch));
+    say(jgw_batch_add(&batch, 1, policy));
+    say(jgw_gateway_publish(&gateway, &batch, NULL));
+    say(jgw_offer(&gateway, 0, &frame, &outcome));
+    say(outcome.placed);
+    jgw_free(&batch);
+    jgw_free(&gateway);
 }
 
 int main(void)
@@ -44,6 +66,7 @@ int main(void)
     say_both(jgw_policy_from_table(table, sizeof table - 1, &policies[3], NULL), &policies[3]);
     say_both(jgw_policy_share(&policies[3], &policies[4]), &policies[4]);
     say(jgw_claims_new(&claims));
+    say_gateway(&policies[3]);
     for (int i = 0; i < 5; i++)
         jgw_free(&policies[i]);
     jgw_free(&claims);

@@ -1,3 +1,4 @@
 pub mod Lines
+pub mod Masks
 pub mod Octets
 pub mod Slots

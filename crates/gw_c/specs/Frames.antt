@@ -1,5 +1,5 @@
 -- Frames of Linux as records.
-use Rattle.std.specs.Prelude.{ℕ, List, ◌∷◌, ◌++◌}
+use Rattle.std.specs.Prelude.{ℕ, ◌-◌, List, ◌∷◌, ◌++◌, length, replicate}
 use Rattle.std.specs.Int.{to_be_bytes, w32}
 use Rattle.gw_c.specs.declared.can.CanFrame.{CanFrame}
 
@@ -7,3 +7,7 @@ use Rattle.gw_c.specs.declared.can.CanFrame.{CanFrame}
 abbrev pub record_of : CanFrame → List ℕ
 record_of can =
     to_be_bytes w32 can.id ++ can.len ∷ can.pad ∷ can.reserved ∷ can.len8_dlc ∷ can.«data»
+
+-- a record of 8 to 16 octets, with octets of 0 behind it up to sixteen
+abbrev pub whole : List ℕ → List ℕ
+whole record_octets = record_octets ++ replicate (16 - length record_octets) 0

@@ -1,4 +1,4 @@
--- public meaning but for what a slot owns: frames, what a handle holds, faults, policies, verdicts, and hearing
+-- public meaning but for what a slot owns: frames, what a handle holds, faults, policies, verdicts, hearing, and gateways
 pub mod Boxes
 pub mod Frames
 pub mod Held
@@ -6,3 +6,8 @@ pub mod Faults
 pub mod Policies
 pub mod Verdicts
 pub mod Hearing
+pub mod Gateways
+pub mod Offers
+pub mod Sendings
+pub mod Counts
+pub mod Steps

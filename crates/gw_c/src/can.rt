@@ -1,7 +1,7 @@
 //! Frames as Linux lays them out.
 
 ghost use Rattle.std.specs.Prelude.{◌≡◌, ◌<◌, MatchOption};
-ghost use Rattle.gw_c.specs.Frames.{record_of};
+ghost use Rattle.gw_c.specs.Frames.{record_of, whole};
 
 use gw_frame::{Frame, RECORD_OCTETS};
 
@@ -51,4 +51,32 @@ fn octets_of(can: &CanFrame) -> [u8; RECORD_OCTETS]
         data[6],
         data[7],
     ]
+}
+
+/// The frame of a record. Where the record is shorter than 16 octets, the last octets are 0.
+pub fn can_of(frame: &Frame) -> CanFrame
+    ensures { record_of result ≡ whole frame.now }
+{
+    let octets = all_octets(frame);
+    CanFrame {
+        id: u32::from_be_bytes([octets[0], octets[1], octets[2], octets[3]]),
+        len: octets[4],
+        pad: octets[5],
+        reserved: octets[6],
+        len8_dlc: octets[7],
+        data: [
+            octets[8], octets[9], octets[10], octets[11], octets[12], octets[13], octets[14],
+            octets[15],
+        ],
+    }
+}
+
+/// Sixteen octets of a record.
+fn all_octets(frame: &Frame) -> [u8; RECORD_OCTETS]
+    ensures { result ≡ whole frame.now }
+{
+    let octets = frame.bytes();
+    let mut all = [0; RECORD_OCTETS];
+    all[..octets.len()].copy_from_slice(octets);
+    all
 }

@@ -1,7 +1,8 @@
 //! What a handle holds.
 
 use gw_claims::Claims;
-use gw_policy::Policy;
+use gw_core::Core;
+use gw_policy::{Batch, Policy};
 use std::marker::Send;
 use std::sync::Arc;
 
@@ -12,6 +13,10 @@ pub enum Inner {
     Policy(Arc<Policy>),
     /// The addresses that are held on a segment.
     Claims(Claims),
+    /// A gateway in one thread.
+    Gateway(Core),
+    /// Policies that are to come into force together.
+    Batch(Batch),
 }
 
 /// What a handle holds may move to another thread, and so may the handle.

@@ -1,0 +1,117 @@
+//! Copies that a port of a gateway sends, by handle.
+
+ghost use Rattle.std.specs.Prelude.{◌≡◌, ◌≢◌, List, None, IsSomeAnd};
+ghost use Rattle.gw_core.specs.Gateway.{Stands};
+ghost use Rattle.gw_core.specs.declared.event.Event.{Event};
+ghost use Rattle.gw_c.specs.Gateways.{gateway_in, StandsIn, Changes};
+ghost use Rattle.gw_c.specs.Sendings.{IsCopyTold, SendsTold, PeeksTold};
+
+use crate::can::{CanFrame, can_of};
+use crate::handle::Handle;
+use crate::inner::Inner;
+use gw_core::Core;
+use gw_ledger::FrameCopy;
+use std::alloc::Global;
+
+/// `struct jgw_copy`: a copy of a frame, and the number of the frame at its ingress port.
+#[repr(C)]
+#[derive(Clone, Copy)]
+pub struct CCopy {
+    pub frame: CanFrame,
+    pub number: u32,
+    pub from: u8,
+}
+
+/// Sends the next copy that waits for a port. 0: `copy` tells it. 72: there is no such port. 121: the handle holds no gateway.
+/// 125: no copy waits for the port.
+#[unsafe(no_mangle)]
+pub extern "C" fn jgw_call_gateway_next(
+    alloc: Global,
+    gateway: &mut Handle,
+    to: u8,
+    copy: &mut CCopy,
+) -> u32
+    ensures wrong { gateway_in gateway.old.slot.value ≡ None
+        → (result ≡ 121) × (gateway.new.slot.value ≡ gateway.old.slot.value) }
+    ensures sends { (history : List Event) → StandsIn history gateway.old.slot.value
+        → Changes (SendsTold history to result copy.old copy.new) gateway.old.slot.value gateway.new.slot.value }
+    ensures refused { (history : List Event) → StandsIn history gateway.old.slot.value → result ≢ 0
+        → gateway.new.slot.value ≡ gateway.old.slot.value }
+    ensures unwritten { result ≢ 0 → copy.new ≡ copy.old }
+{
+    let Some(mut held) = gateway.take(alloc) else {
+        return 121;
+    };
+    let done = match &mut *held {
+        Inner::Gateway(core) => next(core, to, copy),
+        _ => 121,
+    };
+    gateway.put(held);
+    done
+}
+
+fn next(core: &mut Core, to: u8, copy: &mut CCopy) -> u32
+    ensures sends { (history : List Event) → Stands core.old history
+        → SendsTold history to result copy.old copy.new core.old core.new }
+    ensures refused { (history : List Event) → Stands core.old history → result ≢ 0 → core.new ≡ core.old }
+    ensures unwritten { result ≢ 0 → copy.new ≡ copy.old }
+{
+    match core.next(to) {
+        Ok(Some(sent)) => {
+            *copy = told(&sent);
+            0
+        }
+        Ok(None) => 125,
+        Err(why) => why.number(),
+    }
+}
+
+/// Tells the copy that `jgw_call_gateway_next` would send, which stays where it waits, and answers as that does.
+#[unsafe(no_mangle)]
+pub extern "C" fn jgw_call_gateway_peek(
+    alloc: Global,
+    gateway: &mut Handle,
+    to: u8,
+    copy: &mut CCopy,
+) -> u32
+    ensures wrong { gateway_in gateway.old.slot.value ≡ None → result ≡ 121 }
+    ensures peeks { (history : List Event) → StandsIn history gateway.old.slot.value
+        → IsSomeAnd (gateway_in gateway.old.slot.value) (PeeksTold history to result copy.old copy.new) }
+    ensures unwritten { result ≢ 0 → copy.new ≡ copy.old }
+    ensures kept { gateway.new.slot.value ≡ gateway.old.slot.value }
+{
+    let Some(held) = gateway.take(alloc) else {
+        return 121;
+    };
+    let done = match &*held {
+        Inner::Gateway(core) => peek(core, to, copy),
+        _ => 121,
+    };
+    gateway.put(held);
+    done
+}
+
+fn peek(core: &Core, to: u8, copy: &mut CCopy) -> u32
+    ensures peeks { (history : List Event) → Stands core.now history → PeeksTold history to result copy.old copy.new core.now }
+    ensures unwritten { result ≢ 0 → copy.new ≡ copy.old }
+{
+    match core.peek(to) {
+        Ok(Some(first)) => {
+            *copy = told(&first);
+            0
+        }
+        Ok(None) => 125,
+        Err(why) => why.number(),
+    }
+}
+
+/// A copy as C is told it.
+fn told(copy: &FrameCopy) -> CCopy
+    ensures { IsCopyTold copy.now result }
+{
+    CCopy {
+        frame: can_of(&copy.frame),
+        number: copy.number,
+        from: copy.from,
+    }
+}
