@@ -6,6 +6,7 @@ mod ask_arguments;
 mod diff_arguments;
 mod judge_arguments;
 mod run_arguments;
+mod taking_arguments;
 
 pub use arguments::{Request, read_arguments};
 pub use diff_arguments::{DiffRequest, read_diff};

@@ -3,10 +3,12 @@
 ghost use Rattle.std.specs.Prelude.{◌≡◌, length, vec_len, IfOk};
 
 use crate::arguments::{described, flag, matched, valued};
+use crate::taking_arguments::asked_interfaces;
 use clap::error::ErrorKind;
 use clap::{Arg, ArgAction, ArgMatches, Command, Error, value_parser};
 use gw_commands::{PolicyKind, PolicySource};
 use gw_ledger::{Limits, MAX_PORTS};
+use gw_run::NamedInterface;
 use std::alloc::{AllocError, Global};
 use std::convert::AsStr;
 
@@ -22,6 +24,8 @@ pub struct RunRequest<'a> {
     pub limits: Limits,
     /// Where each port's policy comes from.
     pub sources: Vec<PolicySource<'a>>,
+    /// The interfaces of a log that are named for ports; where there is none, a trace is dealt to the ports in turn.
+    pub interfaces: Vec<NamedInterface<'a>>,
     pub lanes: bool,
     pub progress: bool,
 }
@@ -31,10 +35,12 @@ pub fn run_arguments<'a>(alloc: Global) -> Result<Command<'a>, AllocError> {
     described(
         alloc,
         "run",
-        "Forwards the frames of a trace in threads, and tells what each port took and let leave",
+        "Forwards the frames of a trace or a log in threads, and tells what each port took and what of it the others let leave",
         "gw run --ports N [--lane N] [--program LISTING] [--table P=FILE].. [--listing P=FILE].. \
-        [--lanes] [--progress] < TRACE",
-        "Example: gw run --ports 2 --program '1,6 0 0 1,' < TRACE",
+        [--interface NAME=P].. [--lanes] [--progress] < INPUT",
+        "A port's line counts the frames taken there; those of them that were for its own segment, as local; and as allowed the \
+        copies of its frames that the policies of other ports let leave there.\n\
+        Example: gw run --ports 2 --program '1,6 0 0 1,' < TRACE",
     )
     .arg(ports_option(alloc))?
     .arg(lane_option(alloc))?
@@ -54,6 +60,7 @@ pub fn run_arguments<'a>(alloc: Global) -> Result<Command<'a>, AllocError> {
         "listing",
         "A file with a program's listing that decides what leaves at port P; once for each port",
     ))?
+    .arg(interface_option(alloc))?
     .arg(flag(
         alloc,
         "lanes",
@@ -71,7 +78,7 @@ fn ports_option<'a>(alloc: Global) -> Arg<'a> {
         alloc,
         "ports",
         "N",
-        "The number of ports, 2 to 16; frame i of the trace is taken at port i mod N",
+        "The number of ports, 2 to 16; frame i of a trace is taken at port i mod N",
     )
     .required(true)
     .value_parser(value_parser!(u32).range(2..=MAX_PORTS as i64))
@@ -85,6 +92,16 @@ fn lane_option<'a>(alloc: Global) -> Arg<'a> {
         "How many copies may wait on the way from one port to another, 1 to 1024 [default: 64]",
     )
     .value_parser(value_parser!(u32).range(1..=1024))
+}
+
+fn interface_option<'a>(alloc: Global) -> Arg<'a> {
+    valued(
+        alloc,
+        "interface",
+        "NAME=P",
+        "The input is a log of candump, and port P takes the frames of interface NAME; once for each interface",
+    )
+    .action(ArgAction::Append)
 }
 
 /// An option that names a file for a port, once for each.
@@ -109,9 +126,11 @@ fn asked<'a>(alloc: Global, run: &ArgMatches<'a>) -> Result<RunRequest<'a>, Erro
 {
     let limits = asked_limits(alloc, run)?;
     let sources = asked_sources(alloc, run, limits.ports() as usize)?;
+    let interfaces = asked_interfaces(alloc, run, limits.ports() as usize)?;
     Ok(RunRequest {
         limits,
         sources,
+        interfaces,
         lanes: run.get_flag("lanes"),
         progress: run.get_flag("progress"),
     })

@@ -6,6 +6,7 @@ use Rattle.clap.specs.declared.error.kind.ErrorKind.TheVariants.{DisplayHelp, Di
 use Rattle.gw_ledger.specs.Bounds.{Bounds}
 use Rattle.gw_commands.specs.Commands.{Does, Writes, WritesText}
 use Rattle.gw_run.specs.Forwarding.{ForwardsNamed}
+use Rattle.gw_run.specs.declared.taking.Taking.{Taking}
 use Rattle.gw_commands.specs.Differences.{ComparesNamed}
 use Rattle.gw_commands.specs.Judgings.{JudgesNamed}
 use Rattle.gw_commands.specs.LogDifferences.{DiffsNamed}
@@ -49,13 +50,13 @@ DoesWords before after failed reads old new write_failed told_old told_new tell_
     ⊎ Replays before after failed reads old new write_failed status
     ⊎ OnlyAnswersWords before after old new write_failed told_old told_new tell_failed status
 
--- a trace was forwarded by a gateway of these limits, under the policies of each port's source, or a file of theirs or the trace
+-- an input was forwarded by a gateway of these limits, under the policies of each port's source, or a file of theirs or the input
 -- was refused; or the arguments were answered and nothing was read
 abbrev pub RunsWords : Option (List ℕ) → Option (List ℕ) → Bool → ℕ → Option (List ℕ) → Option (List ℕ) → Bool
     → Option (List ℕ) → Option (List ℕ) → Bool → ℕ → Type 0
 RunsWords before after failed reads old new write_failed told_old told_new tell_failed status =
-    ((limits : Bounds) × (sources : List PolicySource) × (lanes : Bool) × (length sources ≡ limits.ports)
-    × ForwardsNamed limits sources lanes before after failed reads old new write_failed status)
+    ((limits : Bounds) × (sources : List PolicySource) × (taking : Taking) × (lanes : Bool) × (length sources ≡ limits.ports)
+    × ForwardsNamed taking limits sources lanes before after failed reads old new write_failed status)
     ⊎ OnlyAnswersWords before after old new write_failed told_old told_new tell_failed status
 
 -- a log was judged by the policy of a file, or the file or the policy was refused; or the arguments were answered and nothing

@@ -8,7 +8,7 @@ ghost use Rattle.gw_cli.specs.Asked.{RunsWords};
 use crate::dispatch::answer_words;
 use gw_arguments::{RunRequest, read_run};
 use gw_io::Tried;
-use gw_run::{NoObserver, ProgressOnStderr, forward_named};
+use gw_run::{NamedInterface, NoObserver, ProgressOnStderr, Taking, forward_named};
 use std::alloc::Global;
 use std::convert::AsStr;
 use std::io::{IsTerminal, Read, Write};
@@ -30,8 +30,8 @@ impl Console for HostRuntime {
 }
 
 /// Does what the arguments of a command line, without the program's name, ask for, where they name the command `run`; other
-/// commands are wrong arguments. The exit status is as for `command`. Which arguments give which limits and sources, no clause
-/// says. It may wait.
+/// commands are wrong arguments. The exit status is as for `command`. Which arguments give which limits, sources and ports of
+/// interfaces, no clause says. It may wait.
 pub fn run_command<R, S, I, W, F>(
     rt: &R,
     alloc: Global,
@@ -56,16 +56,20 @@ where
         (F.contents (inner_of faults.old)) (F.contents (inner_of faults.new)) (has_failed faults.new) result }
 {
     match read_run(alloc, words) {
-        Ok(run) => forward_asked(rt, alloc, &run, input, output, faults),
+        Ok(run) => {
+            let taking = asked_taking(run.interfaces.as_slice());
+            forward_asked(rt, alloc, &run, &taking, input, output, faults)
+        }
         Err(error) => answer_words(alloc, &error, output, faults),
     }
 }
 
-/// Forwards a trace as the arguments ask for it.
+/// Forwards an input as the arguments ask for it.
 fn forward_asked<R, I, W, F>(
     rt: &R,
     alloc: Global,
     run: &RunRequest,
+    taking: &Taking,
     input: &mut Tried<I>,
     output: &mut Tried<W>,
     faults: &mut Tried<F>,
@@ -79,7 +83,7 @@ where
     requires unread { reads_of input.old ≡ 0 }
     requires input { has_failed input.old ≡ false }
     requires output { has_failed output.old ≡ false }
-    ensures { ForwardsNamed run.now.limits run.now.sources.items run.now.lanes
+    ensures { ForwardsNamed taking.now run.now.limits run.now.sources.items run.now.lanes
         (I.remaining (inner_of input.old)) (I.remaining (inner_of input.new)) (has_failed input.new) (reads_of input.new)
         (W.contents (inner_of output.old)) (W.contents (inner_of output.new)) (has_failed output.new) result }
 {
@@ -87,7 +91,7 @@ where
     if run.progress || rt.is_watched() {
         let meter = ProgressOnStderr::new(rt);
         forward_named(
-            rt, alloc, limits, sources, lanes, &meter, input, output, faults,
+            rt, alloc, limits, sources, taking, lanes, &meter, input, output, faults,
         )
     } else {
         forward_named(
@@ -95,11 +99,21 @@ where
             alloc,
             limits,
             sources,
+            taking,
             lanes,
             &NoObserver,
             input,
             output,
             faults,
         )
+    }
+}
+
+/// Frames are taken by the interfaces that are named, or in turn where none is.
+fn asked_taking<'a>(interfaces: &'a [NamedInterface<'a>]) -> Taking<'a> {
+    if interfaces.is_empty() {
+        Taking::InTurn
+    } else {
+        Taking::ByInterface(interfaces)
     }
 }

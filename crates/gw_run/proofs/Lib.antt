@@ -1,3 +1,4 @@
 pub mod FirstBatch
 pub mod Forwarded
 pub mod Forwards
+pub mod LogLines

@@ -7,6 +7,10 @@ use Rattle.std.specs.Option.{option_map_or}
 use Rattle.std.specs.List.{flat_map, count_by, range_with_len}
 use Rattle.std.specs.Io.KnownBytes.{IsAtEnd, Consumes}
 use Rattle.std.specs.Iterator.{YieldsFirst}
+use Rattle.std.specs.Vec.Iter.{into_iter_items, into_iter_steps}
+use Rattle.std.specs.declared.alloc.Global.{Global}
+use Rattle.std.specs.declared.vec.IntoIter.{IntoIter}
+use Rattle.gw_judge.specs.declared.head.NoLog.{NoLog}
 use Rattle.gw_policy.specs.Filter.{Filter}
 use Rattle.gw_policy.specs.Batches.{Pair, policy_after}
 use Rattle.gw_ledger.specs.Bounds.{Bounds}
@@ -29,7 +33,12 @@ use Rattle.gw_commands.specs.declared.refusal.Refusal.TheVariants.{OutOfMemory}
 use Rattle.gw_commands.specs.Commands.{Writes, WritesText}
 use Rattle.gw_commands.specs.Policies.{MeansPolicy, NamesFile, RefusesFile, RefusesSource}
 use Rattle.gw_run.specs.declared.refusal.ForwardRefusal.{ForwardRefusal}
+use Rattle.gw_run.specs.declared.refusal.ForwardRefusal.TheVariants as refuses
 use Rattle.gw_run.specs.declared.refusal.ForwardRefusal.TheVariants.{Command, Trace, Run, Stopped}
+use Rattle.gw_run.specs.declared.taking.NamedInterface.{NamedInterface}
+use Rattle.gw_run.specs.declared.taking.Taking.{Taking}
+use Rattle.gw_run.specs.declared.taking.Taking.TheVariants.{InTurn, ByInterface}
+use Rattle.gw_run.specs.Logs.{named_inputs, no_log}
 use Rattle.gw_run.specs.Refusals.{forward_refusal_line}
 
 -- ---- the first batch
@@ -83,6 +92,24 @@ pub record IsRunOn (limits : Bounds) (first : List Pair) (frames : List (List �
   pub shared : AreShares limits.ports frames inputs
   pub ran : IsRun (YieldsFirst (λ s. s)) limits first inputs [] report
 
+-- a gateway that begins with this batch was run on these lists of frames, one for each port, and this is its report
+pub record IsListRun (limits : Bounds) (first : List Pair) (inputs : List (List (List ℕ))) (report : RunReport) : Type 0 where
+  pub made : List (IntoIter (List ℕ) Global)
+  pub items : map into_iter_items made ≡ inputs
+  pub ran : IsRun into_iter_steps limits first made [] report
+
+-- a gateway was run on the frames of the lines of a log whose interface is named for the ports
+abbrev pub LogRuns : List NamedInterface → Bounds → List Pair → List ℕ → RunReport → Type 0
+LogRuns names limits first octets report =
+    (no_log octets ≡ None) × IsListRun limits first (named_inputs names limits.ports octets) report
+
+-- a gateway was run on what the ports take of the octets of an input: their shares of the frames of a trace, or the frames of
+-- the lines of a log whose interface is named for them
+abbrev pub IsRunOf : Taking → Bounds → List Pair → List ℕ → RunReport → Type 0
+IsRunOf InTurn limits first octets report =
+    (frames : List (List ℕ)) × (whole_trace octets ≡ Ok frames) × IsRunOn limits first frames report
+IsRunOf (ByInterface names) limits first octets report = LogRuns names.now limits first octets report
+
 -- no port stopped before its frames were at an end; or this one is the least that did
 abbrev pub NoneStopped : List (Option OfferRefusal) → Type 0
 NoneStopped stops = All (λ stop. stop ≡ None) stops
@@ -90,6 +117,11 @@ NoneStopped stops = All (λ stop. stop ≡ None) stops
 pub record IsFirstStop (stops : List (Option OfferRefusal)) (port : ℕ) (why : OfferRefusal) : Type 0 where
   pub stopped : slice_get stops port ≡ Some (Some why)
   pub before : (k : ℕ) (d : Option OfferRefusal) → k < port → slice_index_or stops k d ≡ None
+
+-- a port of the run stopped, and this is what refuses it for that
+abbrev pub IsStopOf : RunReport → ForwardRefusal → Type 0
+IsStopOf report (Stopped port why) = IsFirstStop report.stops.items port why
+IsStopOf report _ = ⊥
 
 -- ---- the lines
 
@@ -140,64 +172,71 @@ report_lines ports lanes report =
 
 -- ---- the command
 
--- the text of a run on the frames of a trace's octets, which begins with this batch
-pub record IsOctetsRun (limits : Bounds) (first : List Pair) (lanes : Bool) (octets text : List ℕ) : Type 0 where
-  pub frames : List (List ℕ)
-  pub whole : whole_trace octets ≡ Ok frames
+-- the text of a run on what the ports take of an input's octets, which begins with this batch
+pub record IsOctetsRun (taking : Taking) (limits : Bounds) (first : List Pair) (lanes : Bool) (octets text : List ℕ)
+    : Type 0 where
   pub report : RunReport
-  pub ran : IsRunOn limits first frames report
+  pub ran : IsRunOf taking limits first octets report
   pub unstopped : NoneStopped report.stops.items
   pub lines : text ≡ report_lines limits.ports lanes report
 
--- what refuses a run on these frames: what refuses the gateway's run, but for a port that is not there, which no source names;
--- or the least port's that stopped; memory may be wanting for the shares and for the lines
-abbrev pub RefusesShares : Bounds → List Pair → List (List ℕ) → ForwardRefusal → Type 0
-RefusesShares limits first frames (Run NoSuchPort) = ⊥
-RefusesShares limits first frames (Run why) = RefusesRun limits first why
-RefusesShares limits first frames (Stopped port why) =
-    (report : RunReport) × IsRunOn limits first frames report × IsFirstStop report.stops.items port why
-RefusesShares limits first frames (Command OutOfMemory) = Unit {0}
-RefusesShares limits first frames _ = ⊥
+-- what refuses such a run: what refuses the gateway's run, but for a port that is not there, which no source names; or the least
+-- port's that stopped; memory may be wanting for what the ports take and for the lines
+abbrev pub RefusesInputs : (RunReport → Type 0) → Bounds → List Pair → ForwardRefusal → Type 0
+RefusesInputs Ran limits first (Run NoSuchPort) = ⊥
+RefusesInputs Ran limits first (Run why) = RefusesRun limits first why
+RefusesInputs Ran limits first (Stopped port why) = (report : RunReport) × Ran report × IsFirstStop report.stops.items port why
+RefusesInputs Ran limits first (Command OutOfMemory) = Unit {0}
+RefusesInputs Ran limits first _ = ⊥
 
--- what refuses the octets of a trace: what is wrong with them, or what refuses a run on their frames
-abbrev pub RefusesOctets : Bounds → List Pair → List ℕ → ForwardRefusal → Type 0
-RefusesOctets limits first octets refusal =
+-- what refuses the octets of a log: that they are none; or what refuses a run on its frames
+abbrev pub RefusesLog : List NamedInterface → Bounds → List Pair → List ℕ → ForwardRefusal → Type 0
+RefusesLog names limits first octets refusal =
+    ((why : NoLog) × (refusal ≡ refuses.NoLog why) × (no_log octets ≡ Some why))
+    ⊎ ((no_log octets ≡ None)
+    × RefusesInputs (IsListRun limits first (named_inputs names limits.ports octets)) limits first refusal)
+
+-- what refuses the octets of an input: what is wrong with a trace, or that they are no log; or what refuses a run on their frames
+abbrev pub RefusesOctets : Taking → Bounds → List Pair → List ℕ → ForwardRefusal → Type 0
+RefusesOctets InTurn limits first octets refusal =
     ((why : TraceRefusal) × (refusal ≡ Trace why) × (whole_trace octets ≡ Err why))
-    ⊎ ((frames : List (List ℕ)) × (whole_trace octets ≡ Ok frames) × RefusesShares limits first frames refusal)
+    ⊎ ((frames : List (List ℕ)) × (whole_trace octets ≡ Ok frames)
+    × RefusesInputs (IsRunOn limits first frames) limits first refusal)
+RefusesOctets (ByInterface names) limits first octets refusal = RefusesLog names.now limits first octets refusal
 
--- the text of a run on the trace that the reader gave
-pub record IsTraceRun (limits : Bounds) (first : List Pair) (lanes : Bool) (before after : Option (List ℕ)) (failed : Bool)
-    (text : List ℕ) : Type 0 where
+-- the text of a run on the input that the reader gave
+pub record IsTraceRun (taking : Taking) (limits : Bounds) (first : List Pair) (lanes : Bool) (before after : Option (List ℕ))
+    (failed : Bool) (text : List ℕ) : Type 0 where
   pub octets : List ℕ
   pub read : IsTraceInput before after failed octets
-  pub run : IsOctetsRun limits first lanes octets text
+  pub run : IsOctetsRun taking limits first lanes octets text
 
--- what refuses a trace: its reading before its octets
-abbrev pub RefusesTrace : Bounds → List Pair → Option (List ℕ) → Option (List ℕ) → Bool → ℕ → ForwardRefusal → Type 0
-RefusesTrace limits first before after failed reads refusal =
+-- what refuses an input: its reading before its octets
+abbrev pub RefusesTrace : Taking → Bounds → List Pair → Option (List ℕ) → Option (List ℕ) → Bool → ℕ → ForwardRefusal → Type 0
+RefusesTrace taking limits first before after failed reads refusal =
     IsTraceFault failed reads refusal
-    ⊎ ((octets : List ℕ) × IsTraceInput before after failed octets × RefusesOctets limits first octets refusal)
+    ⊎ ((octets : List ℕ) × IsTraceInput before after failed octets × RefusesOctets taking limits first octets refusal)
 
--- the text for what the reader gave: the lines of a run of its trace's frames, under the policies of the ports' sources
-pub record IsForwarded (limits : Bounds) (sources : List PolicySource) (texts : List (List ℕ)) (lanes : Bool)
+-- the text for what the reader gave: the lines of a run on what the ports take of it, under the policies of the ports' sources
+pub record IsForwarded (taking : Taking) (limits : Bounds) (sources : List PolicySource) (texts : List (List ℕ)) (lanes : Bool)
     (before after : Option (List ℕ)) (failed : Bool) (text : List ℕ) : Type 0 where
   pub first : List Pair
   pub policies : IsFirst sources texts first
-  pub run : IsTraceRun limits first lanes before after failed text
+  pub run : IsTraceRun taking limits first lanes before after failed text
 
--- the sources mean policies, and the trace is refused
-pub record RefusesForwarding (limits : Bounds) (sources : List PolicySource) (texts : List (List ℕ))
+-- the sources mean policies, and the input is refused
+pub record RefusesForwarding (taking : Taking) (limits : Bounds) (sources : List PolicySource) (texts : List (List ℕ))
     (before after : Option (List ℕ)) (failed : Bool) (reads : ℕ) (refusal : ForwardRefusal) : Type 0 where
   pub first : List Pair
   pub policies : IsFirst sources texts first
-  pub why : RefusesTrace limits first before after failed reads refusal
+  pub why : RefusesTrace taking limits first before after failed reads refusal
 
--- the first refusal: that of a source comes before that of the trace
-abbrev pub IsForwardRefusal : Bounds → List PolicySource → List (List ℕ) → Option (List ℕ) → Option (List ℕ) → Bool → ℕ
+-- the first refusal: that of a source comes before that of the input
+abbrev pub IsForwardRefusal : Taking → Bounds → List PolicySource → List (List ℕ) → Option (List ℕ) → Option (List ℕ) → Bool → ℕ
     → ForwardRefusal → Type 0
-IsForwardRefusal limits sources texts before after failed reads refusal =
+IsForwardRefusal taking limits sources texts before after failed reads refusal =
     ((why : Refusal) × (refusal ≡ Command why) × RefusesSources sources texts why)
-    ⊎ RefusesForwarding limits sources texts before after failed reads refusal
+    ⊎ RefusesForwarding taking limits sources texts before after failed reads refusal
 
 -- the text for what was found was written, with its status: the lines of a run, or the line of a refusal
 abbrev pub WritesForward : Result (List ℕ) ForwardRefusal → ℕ → Option (List ℕ) → Option (List ℕ) → Bool → Type 0
@@ -205,12 +244,12 @@ WritesForward (Ok text) status old new failed = WritesText text 0 status old new
 WritesForward (Err refusal) status old new failed = WritesText (forward_refusal_line refusal) 1 status old new failed
 
 -- what was found is written, and tells the status
-pub record Forwards (limits : Bounds) (sources : List PolicySource) (texts : List (List ℕ)) (lanes : Bool)
+pub record Forwards (taking : Taking) (limits : Bounds) (sources : List PolicySource) (texts : List (List ℕ)) (lanes : Bool)
     (before after : Option (List ℕ)) (failed : Bool) (reads : ℕ) (old new : Option (List ℕ)) (write_failed : Bool) (status : ℕ)
     : Type 0 where
   pub found : Result (List ℕ) ForwardRefusal
-  pub is_found : MatchResult found (IsForwarded limits sources texts lanes before after failed)
-      (IsForwardRefusal limits sources texts before after failed reads)
+  pub is_found : MatchResult found (IsForwarded taking limits sources texts lanes before after failed)
+      (IsForwardRefusal taking limits sources texts before after failed reads)
   pub written : WritesForward found status old new write_failed
 
 -- ---- the files
@@ -220,11 +259,11 @@ abbrev pub RefusesNamed : List PolicySource → Refusal → Type 0
 RefusesNamed sources OutOfMemory = Unit {0}
 RefusesNamed sources refusal = Any NamesFile sources × RefusesFile refusal
 
--- the trace was forwarded under the policies of the sources, whatever their files hold; or a file was refused, and nothing was
+-- the input was forwarded under the policies of the sources, whatever their files hold; or a file was refused, and nothing was
 -- read
-abbrev pub ForwardsNamed : Bounds → List PolicySource → Bool → Option (List ℕ) → Option (List ℕ) → Bool → ℕ → Option (List ℕ)
-    → Option (List ℕ) → Bool → ℕ → Type 0
-ForwardsNamed limits sources lanes before after failed reads old new write_failed status =
-    ((texts : List (List ℕ)) × Forwards limits sources texts lanes before after failed reads old new write_failed status)
+abbrev pub ForwardsNamed : Taking → Bounds → List PolicySource → Bool → Option (List ℕ) → Option (List ℕ) → Bool → ℕ
+    → Option (List ℕ) → Option (List ℕ) → Bool → ℕ → Type 0
+ForwardsNamed taking limits sources lanes before after failed reads old new write_failed status =
+    ((texts : List (List ℕ)) × Forwards taking limits sources texts lanes before after failed reads old new write_failed status)
     ⊎ ((refusal : Refusal) × RefusesNamed sources refusal × (after ≡ before)
     × Writes (Err refusal) status old new write_failed)

@@ -9,6 +9,7 @@ use Rattle.gw_ports.specs.Runs.{run_refusal_number}
 use Rattle.gw_input.specs.Refused.{refused_line}
 use Rattle.gw_commands.specs.Refusals.{refusal_line}
 use Rattle.gw_run.specs.declared.refusal.ForwardRefusal.{ForwardRefusal}
+use Rattle.gw_run.specs.declared.refusal.ForwardRefusal.TheVariants as refuses
 use Rattle.gw_run.specs.declared.refusal.ForwardRefusal.TheVariants.{Command, Trace, Run, Stopped}
 
 -- the record of a trace, and the number of what is wrong with it
@@ -23,5 +24,6 @@ trace_line why = refused_line (trace.refusal_number why) (trace_details why)
 abbrev pub forward_refusal_line : ForwardRefusal → List ℕ
 forward_refusal_line (Command refusal) = refusal_line refusal
 forward_refusal_line (Trace why) = trace_line why
+forward_refusal_line (refuses.NoLog why) = refused_line 114 []
 forward_refusal_line (Run why) = refused_line (run_refusal_number why) []
 forward_refusal_line (Stopped port why) = refused_line (offer_refusal_number why) []

@@ -7,6 +7,7 @@ ghost use Rattle.gw_run.specs.Forwarding.{ForwardsNamed, RefusesNamed};
 
 use crate::forwarding::forward;
 use crate::observing::Observer;
+use crate::taking::Taking;
 use gw_commands::{PolicySource, Refusal, read_file, respond};
 use gw_io::Tried;
 use gw_ledger::Limits;
@@ -17,13 +18,14 @@ use std::rt::Files;
 use std::sync::Wait;
 use std::thread::Threads;
 
-/// Reads the files that the ports' sources name, and forwards a trace under their policies: see `forward`. A file that cannot be
+/// Reads the files that the ports' sources name, and forwards an input under their policies: see `forward`. A file that cannot be
 /// read is 96, and one of more than 1048576 octets 98; a person is told which. It may wait.
 pub fn forward_named<R: Threads + Wait + Sync + Files, G: Observer, I: Read, W: Write, F: Write>(
     rt: &R,
     alloc: Global,
     limits: Limits,
     sources: &[PolicySource],
+    taking: &Taking,
     lanes: bool,
     observer: &G,
     input: &mut Tried<I>,
@@ -34,7 +36,8 @@ pub fn forward_named<R: Threads + Wait + Sync + Files, G: Observer, I: Read, W: 
     requires unread { reads_of input.old ≡ 0 }
     requires input { has_failed input.old ≡ false }
     requires output { has_failed output.old ≡ false }
-    ensures { ForwardsNamed limits sources.now lanes (I.remaining (inner_of input.old)) (I.remaining (inner_of input.new))
+    ensures { ForwardsNamed taking.now limits sources.now lanes
+        (I.remaining (inner_of input.old)) (I.remaining (inner_of input.new))
         (has_failed input.new) (reads_of input.new)
         (W.contents (inner_of output.old)) (W.contents (inner_of output.new)) (has_failed output.new) result }
 {
@@ -43,7 +46,7 @@ pub fn forward_named<R: Threads + Wait + Sync + Files, G: Observer, I: Read, W: 
         Err(refusal) => return respond(&Err(refusal), output, faults),
     };
     forward(
-        rt, alloc, limits, sources, &texts, lanes, observer, input, output, faults,
+        rt, alloc, limits, sources, &texts, taking, lanes, observer, input, output, faults,
     )
 }
 

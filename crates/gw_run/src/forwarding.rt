@@ -8,20 +8,31 @@ ghost use Rattle.gw_run.specs.Forwarding.{
   IsForwardRefusal,
   IsTraceRun,
   IsOctetsRun,
+  IsRunOf,
+  LogRuns,
+  NoneStopped,
+  RefusesLog,
   RefusesTrace,
   RefusesOctets,
 };
+ghost use Rattle.gw_run.specs.declared.taking.Taking.TheVariants.{InTurn};
 
 use crate::first::first_batch;
 use crate::lines::report_text;
+use crate::log::{named_lists, no_log};
+use crate::log_notes::LogNotes;
+use crate::notes::{note_dealt, note_log, note_lost};
 use crate::observing::Observer;
 use crate::octets::read_trace;
 use crate::refusal::ForwardRefusal;
-use crate::running::run_shares;
+use crate::running::{run_lists, run_shares};
+use crate::taking::{NamedInterface, Taking};
 use gw_commands::{Answer, PolicySource, Refusal, respond, write_refusal};
+use gw_frame::Frame;
 use gw_io::Tried;
 use gw_ledger::Limits;
 use gw_policy::Batch;
+use gw_ports::RunReport;
 use gw_trace::Checked;
 use std::alloc::{AllocError, Global};
 use std::io::{Read, Write};
@@ -29,15 +40,16 @@ use std::marker::Sync;
 use std::sync::Wait;
 use std::thread::Threads;
 
-/// Reads a trace, forwards its frames, frame i at port i mod the number of ports, under the policies of the ports' sources, and
-/// writes what each port counted; with `lanes` also what was placed on each lane and lost there. `texts` has what the files of
-/// the sources hold, port by port. It may wait.
+/// Reads an input, forwards the frames that each port takes of it, under the policies of the ports' sources, and writes what each
+/// port counted; with `lanes` also what was placed on each lane and lost there. `texts` has what the files of the sources hold,
+/// port by port. It may wait.
 pub fn forward<R: Threads + Wait + Sync, G: Observer, I: Read, W: Write, F: Write>(
     rt: &R,
     alloc: Global,
     limits: Limits,
     sources: &[PolicySource],
     texts: &[Vec<u8>],
+    taking: &Taking,
     lanes: bool,
     observer: &G,
     input: &mut Tried<I>,
@@ -49,12 +61,12 @@ pub fn forward<R: Threads + Wait + Sync, G: Observer, I: Read, W: Write, F: Writ
     requires unread { reads_of input.old ≡ 0 }
     requires input { has_failed input.old ≡ false }
     requires output { has_failed output.old ≡ false }
-    ensures { Forwards limits sources.now (map (λ text. text.items) texts.now) lanes
+    ensures { Forwards taking.now limits sources.now (map (λ text. text.items) texts.now) lanes
         (I.remaining (inner_of input.old)) (I.remaining (inner_of input.new)) (has_failed input.new) (reads_of input.new)
         (W.contents (inner_of output.old)) (W.contents (inner_of output.new)) (has_failed output.new) result }
 {
     let found = forwarded(
-        rt, alloc, limits, sources, texts, lanes, observer, input, faults,
+        rt, alloc, limits, sources, texts, taking, lanes, observer, input, faults,
     );
     match found {
         Ok(text) => respond(&Ok(Answer::Text(text)), output, faults),
@@ -62,13 +74,14 @@ pub fn forward<R: Threads + Wait + Sync, G: Observer, I: Read, W: Write, F: Writ
     }
 }
 
-/// The lines of a trace's run under the policies of the sources, or the first refusal.
+/// The lines of an input's run under the policies of the sources, or the first refusal.
 fn forwarded<R: Threads + Wait + Sync, G: Observer, I: Read, F: Write>(
     rt: &R,
     alloc: Global,
     limits: Limits,
     sources: &[PolicySource],
     texts: &[Vec<u8>],
+    taking: &Taking,
     lanes: bool,
     observer: &G,
     input: &mut Tried<I>,
@@ -78,66 +91,166 @@ fn forwarded<R: Threads + Wait + Sync, G: Observer, I: Read, F: Write>(
     requires texts { length texts.now ≡ limits.ports }
     requires unread { reads_of input.old ≡ 0 }
     requires input { has_failed input.old ≡ false }
-    ensures forwarded { IfOk result (λ text. IsForwarded limits sources.now (map (λ text. text.items) texts.now) lanes
+    ensures forwarded { IfOk result (λ text. IsForwarded taking.now limits sources.now (map (λ text. text.items) texts.now) lanes
         (I.remaining (inner_of input.old)) (I.remaining (inner_of input.new)) (has_failed input.new) text.items) }
-    ensures refused { IfErr result (IsForwardRefusal limits sources.now (map (λ text. text.items) texts.now)
+    ensures refused { IfErr result (IsForwardRefusal taking.now limits sources.now (map (λ text. text.items) texts.now)
         (I.remaining (inner_of input.old)) (I.remaining (inner_of input.new)) (has_failed input.new) (reads_of input.new)) }
 {
     match first_batch(alloc, sources, texts, faults) {
-        Ok(first) => run_trace(rt, alloc, limits, first, lanes, observer, input),
+        Ok(first) => run_input(
+            rt, alloc, limits, first, taking, lanes, observer, input, faults,
+        ),
         Err(refusal) => Err(ForwardRefusal::Command(refusal)),
     }
 }
 
-/// The lines of the run of a trace that is read, or its first refusal. The run begins with this batch.
-fn run_trace<R: Threads + Wait + Sync, G: Observer, I: Read>(
+/// The lines of the run of an input that is read, or its first refusal. The run begins with this batch.
+fn run_input<R: Threads + Wait + Sync, G: Observer, I: Read, F: Write>(
     rt: &R,
     alloc: Global,
     limits: Limits,
     first: Batch,
+    taking: &Taking,
     lanes: bool,
     observer: &G,
     input: &mut Tried<I>,
+    faults: &mut Tried<F>,
 ) -> Result<Vec<u8>, ForwardRefusal>
     requires ports { All (λ pair. pair.port < limits.ports) first }
     requires unread { reads_of input.old ≡ 0 }
     requires input { has_failed input.old ≡ false }
-    ensures ran { IfOk result (λ text. IsTraceRun limits first lanes
+    ensures ran { IfOk result (λ text. IsTraceRun taking.now limits first lanes
         (I.remaining (inner_of input.old)) (I.remaining (inner_of input.new)) (has_failed input.new) text.items) }
-    ensures refused { IfErr result (RefusesTrace limits first
+    ensures refused { IfErr result (RefusesTrace taking.now limits first
         (I.remaining (inner_of input.old)) (I.remaining (inner_of input.new)) (has_failed input.new) (reads_of input.new)) }
 {
     match read_trace(alloc, input) {
-        Ok(octets) => run_octets(rt, alloc, limits, first, lanes, observer, octets.as_slice()),
+        Ok(octets) => run_octets(
+            rt,
+            alloc,
+            limits,
+            first,
+            taking,
+            lanes,
+            observer,
+            octets.as_slice(),
+            faults,
+        ),
         Err(refusal) => Err(refusal),
     }
 }
 
-/// The lines of the run of a trace's octets, or their first refusal.
-fn run_octets<R: Threads + Wait + Sync, G: Observer>(
+/// The lines of the run of an input's octets, or their first refusal.
+fn run_octets<R: Threads + Wait + Sync, G: Observer, F: Write>(
     rt: &R,
     alloc: Global,
     limits: Limits,
     first: Batch,
+    taking: &Taking,
     lanes: bool,
     observer: &G,
     octets: &[u8],
+    faults: &mut Tried<F>,
 ) -> Result<Vec<u8>, ForwardRefusal>
     requires { All (λ pair. pair.port < limits.ports) first }
-    ensures ran { IfOk result (λ text. IsOctetsRun limits first lanes octets.now text.items) }
-    ensures refused { IfErr result (RefusesOctets limits first octets.now) }
+    ensures ran { IfOk result (λ text. IsOctetsRun taking.now limits first lanes octets.now text.items) }
+    ensures refused { IfErr result (RefusesOctets taking.now limits first octets.now) }
 {
-    let trace = match Checked::new(octets) {
-        Ok(trace) => trace,
-        Err(why) => return Err(ForwardRefusal::Trace(why)),
-    };
-    observer.begins(trace.len());
-    let report = match run_shares(rt, alloc, limits, first, &trace, observer) {
+    let report = match run_taken(rt, alloc, limits, first, taking, observer, octets, faults) {
         Ok(report) => report,
         Err(refusal) => return Err(refusal),
     };
+    note_lost(&report.report.ins, faults);
     match report_text(alloc, limits.ports() as u8, &report, lanes) {
         Ok(text) => Ok(text.into_bytes()),
         Err(AllocError) => Err(ForwardRefusal::Command(Refusal::OutOfMemory)),
     }
+}
+
+/// The run on what the ports take of an input's octets, or their first refusal.
+fn run_taken<R: Threads + Wait + Sync, G: Observer, F: Write>(
+    rt: &R,
+    alloc: Global,
+    limits: Limits,
+    first: Batch,
+    taking: &Taking,
+    observer: &G,
+    octets: &[u8],
+    faults: &mut Tried<F>,
+) -> Result<RunReport, ForwardRefusal>
+    requires { All (λ pair. pair.port < limits.ports) first }
+    ensures ran { IfOk result (λ report. IsRunOf taking.now limits first octets.now report × NoneStopped report.stops.items) }
+    ensures refused { IfErr result (RefusesOctets taking.now limits first octets.now) }
+{
+    match taking {
+        Taking::InTurn => run_trace(rt, alloc, limits, first, observer, octets, faults),
+        Taking::ByInterface(names) => {
+            run_log(rt, alloc, limits, first, names, observer, octets, faults)
+        }
+    }
+}
+
+/// The run of a trace's octets, or their first refusal.
+fn run_trace<R: Threads + Wait + Sync, G: Observer, F: Write>(
+    rt: &R,
+    alloc: Global,
+    limits: Limits,
+    first: Batch,
+    observer: &G,
+    octets: &[u8],
+    faults: &mut Tried<F>,
+) -> Result<RunReport, ForwardRefusal>
+    requires { All (λ pair. pair.port < limits.ports) first }
+    ensures ran { IfOk result (λ report. IsRunOf InTurn limits first octets.now report × NoneStopped report.stops.items) }
+    ensures refused { IfErr result (RefusesOctets InTurn limits first octets.now) }
+{
+    let trace = match Checked::new(octets) {
+        Ok(trace) => trace,
+        Err(why) => {
+            note_log(octets, faults);
+            return Err(ForwardRefusal::Trace(why));
+        }
+    };
+    observer.begins(trace.len());
+    let ran = run_shares(rt, alloc, limits, first, &trace, observer);
+    note_dealt(limits.ports(), faults);
+    ran
+}
+
+/// The run of a log's octets, or their first refusal. A person is told of lines that no port takes.
+fn run_log<R: Threads + Wait + Sync, G: Observer, F: Write>(
+    rt: &R,
+    alloc: Global,
+    limits: Limits,
+    first: Batch,
+    names: &[NamedInterface],
+    observer: &G,
+    octets: &[u8],
+    faults: &mut Tried<F>,
+) -> Result<RunReport, ForwardRefusal>
+    requires { All (λ pair. pair.port < limits.ports) first }
+    ensures ran { IfOk result (λ report. LogRuns names.now limits first octets.now report × NoneStopped report.stops.items) }
+    ensures refused { IfErr result (RefusesLog names.now limits first octets.now) }
+{
+    if let Some(why) = no_log(octets) {
+        return Err(ForwardRefusal::NoLog(why));
+    }
+    let mut notes = LogNotes::new();
+    let ports = limits.ports() as usize;
+    let Ok(lists) = named_lists(alloc, names, ports, octets, &mut notes) else {
+        return Err(ForwardRefusal::Command(Refusal::OutOfMemory));
+    };
+    observer.begins(frame_count(lists.as_slice()));
+    let ran = run_lists(rt, alloc, limits, first, lists, observer);
+    notes.tell(faults);
+    ran
+}
+
+/// How many frames the lists have.
+fn frame_count(lists: &[Vec<Frame>]) -> usize {
+    let mut frames = 0usize;
+    for list in lists {
+        frames = frames.saturating_add(list.len());
+    }
+    frames
 }

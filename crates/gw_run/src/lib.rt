@@ -5,12 +5,17 @@ mod files;
 mod first;
 mod forwarding;
 mod lines;
+mod log;
+mod log_notes;
+mod notes;
 mod observing;
 mod octets;
 mod refusal;
 mod running;
+mod taking;
 
 pub use files::forward_named;
 pub use forwarding::forward;
 pub use observing::{NoObserver, Observer, ProgressOnStderr};
 pub use refusal::ForwardRefusal;
+pub use taking::{NamedInterface, Taking};

@@ -1,4 +1,4 @@
-//! Why a trace is not forwarded.
+//! Why a trace or a log is not forwarded.
 
 ghost use Rattle.std.specs.Prelude.{◌≡◌};
 ghost use Rattle.gw_commands.specs.declared.refusal.Refusal.TheVariants.{OutOfMemory};
@@ -7,6 +7,7 @@ ghost use Rattle.gw_run.specs.declared.refusal.ForwardRefusal.TheVariants.{Comma
 
 use gw_commands::Refusal;
 use gw_input::{Line, refused};
+use gw_judge::NoLog;
 use gw_ports::{OfferRefusal, RunRefusal};
 use gw_trace::TraceRefusal;
 use std::alloc::{AllocError, AllocFailed};
@@ -14,7 +15,10 @@ use std::error::Error;
 use std::fmt;
 use std::fmt::{Display, Formatter};
 
-/// Why a trace is not forwarded.
+/// The number of an input that is no log, where a log is to be read.
+const NO_LOG: u32 = 114;
+
+/// Why a trace or a log is not forwarded.
 #[derive(Drop, Debug)]
 pub enum ForwardRefusal {
     /// What a command refuses: 10 to 13, 20 to 30, 50 to 55 and 98 of a policy's text, 96 and 98 of its file, and 100, a growth
@@ -22,6 +26,8 @@ pub enum ForwardRefusal {
     Command(Refusal),
     /// 90 to 93, 95 and 96: octets that are no trace.
     Trace(TraceRefusal),
+    /// 114: octets that are no log, where a log is to be read.
+    NoLog(NoLog),
     /// 71, 77, 80 to 83, 85 and 86: no run of a gateway, or no report of one.
     Run(RunRefusal),
     /// 76 and 77: a port of a run stopped before its frames were at an end.
@@ -38,6 +44,7 @@ impl ForwardRefusal {
         match self {
             ForwardRefusal::Command(refusal) => refusal.line(),
             ForwardRefusal::Trace(why) => trace_line(*why),
+            ForwardRefusal::NoLog(_) => refused(NO_LOG, &[]),
             ForwardRefusal::Run(why) => refused(why.number(), &[]),
             ForwardRefusal::Stopped { why, .. } => refused(why.number(), &[]),
         }
@@ -62,9 +69,23 @@ impl Display for ForwardRefusal {
         match self {
             ForwardRefusal::Command(refusal) => write!(f, "{refusal}"),
             ForwardRefusal::Trace(why) => write!(f, "{why}"),
+            ForwardRefusal::NoLog(why) => f.write_str(no_log_words(*why)),
             ForwardRefusal::Run(why) => write!(f, "{why}"),
             ForwardRefusal::Stopped { port, why } => write!(f, "port {port} stopped: {why}"),
         }
+    }
+}
+
+/// What octets are that are no log, and what to do.
+fn no_log_words(why: NoLog) -> &'static str {
+    match why {
+        NoLog::Pcap => "the input is a pcap capture and no log of candump: leave out --interface",
+        NoLog::PcapNg => {
+            "the input is a pcapng capture and no log of candump: `editcap -F pcap` makes a pcap capture of it, which has no \
+            interfaces"
+        }
+        NoLog::Gzip =>
+            "the input is compressed and no log of candump: `gzip -dc FILE` gives what it holds",
     }
 }
 

@@ -1,16 +1,17 @@
-//! A run of a gateway on the shares of a trace.
+//! A run of a gateway on the shares of a trace, or on the lists of a log's frames.
 
-ghost use Rattle.std.specs.Prelude.{◌≡◌, ◌≤◌, ◌<◌, ℕ, List, length, slice_index, slice_index_or, vec_len};
+ghost use Rattle.std.specs.Prelude.{◌≡◌, ◌≤◌, ◌<◌, ℕ, List, length, map, slice_index, slice_index_or, vec_len};
 ghost use Rattle.std.specs.Prelude.{IfOk, IfErr, IfNone, IfSome, All};
 ghost use Rattle.gw_trace.specs.Shares.{share_of};
-ghost use Rattle.gw_run.specs.Forwarding.{AreShares, IsFirstStop, IsRunOn, NoneStopped, RefusesShares};
+ghost use Rattle.gw_run.specs.Forwarding.{AreShares, IsFirstStop, IsListRun, IsRunOn, IsStopOf, NoneStopped, RefusesInputs};
 
 use crate::observing::Observer;
 use crate::refusal::ForwardRefusal;
 use gw_commands::Refusal;
+use gw_frame::Frame;
 use gw_ledger::Limits;
 use gw_policy::Batch;
-use gw_ports::{OfferRefusal, RunReport, run_from};
+use gw_ports::{OfferRefusal, RunReport, run, run_from};
 use gw_trace::{Checked, Share};
 use std::alloc::{AllocError, Global};
 use std::marker::Sync;
@@ -29,7 +30,7 @@ pub(crate) fn run_shares<R: Threads + Wait + Sync, G: Observer>(
 ) -> Result<RunReport, ForwardRefusal>
     requires { All (λ pair. pair.port < limits.ports) first }
     ensures ran { IfOk result (λ report. IsRunOn limits first trace.now report × NoneStopped report.stops.items) }
-    ensures refused { IfErr result (RefusesShares limits first trace.now) }
+    ensures refused { IfErr result (RefusesInputs (IsRunOn limits first trace.now) limits first) }
 {
     let Ok((inputs, sizes)) = shares(alloc, trace, limits.ports() as usize) else {
         return Err(ForwardRefusal::Command(Refusal::OutOfMemory));
@@ -44,10 +45,39 @@ pub(crate) fn run_shares<R: Threads + Wait + Sync, G: Observer>(
         Vec::new(alloc),
         observer,
     );
-    let report = match ran {
-        Ok(report) => report,
-        Err(why) => return Err(ForwardRefusal::Run(why)),
-    };
+    match ran {
+        Ok(report) => unstopped(report),
+        Err(why) => Err(ForwardRefusal::Run(why)),
+    }
+}
+
+/// Offers each port the frames of its list, and tells what became of them, as `run_shares` does.
+pub(crate) fn run_lists<R: Threads + Wait + Sync, G: Observer>(
+    rt: &R,
+    alloc: Global,
+    limits: Limits,
+    first: Batch,
+    lists: Vec<Vec<Frame>>,
+    observer: &G,
+) -> Result<RunReport, ForwardRefusal>
+    requires lists { vec_len lists ≡ limits.ports }
+    requires first { All (λ pair. pair.port < limits.ports) first }
+    ensures ran { IfOk result (λ report. IsListRun limits first (map (λ list. list.items) lists.items) report
+        × NoneStopped report.stops.items) }
+    ensures refused { IfErr result
+        (RefusesInputs (IsListRun limits first (map (λ list. list.items) lists.items)) limits first) }
+{
+    match run(rt, alloc, limits, first, lists, Vec::new(alloc), observer) {
+        Ok(report) => unstopped(report),
+        Err(why) => Err(ForwardRefusal::Run(why)),
+    }
+}
+
+/// The report of a run of which no port stopped. A port that stopped is a refusal, the least port's first.
+fn unstopped(report: RunReport) -> Result<RunReport, ForwardRefusal>
+    ensures whole { IfOk result (λ whole. (whole ≡ report) × NoneStopped whole.stops.items) }
+    ensures stopped { IfErr result (IsStopOf report) }
+{
     match first_stop(&report.stops) {
         Some((port, why)) => Err(ForwardRefusal::Stopped { port, why }),
         None => Ok(report),

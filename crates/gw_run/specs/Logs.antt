@@ -1,0 +1,55 @@
+-- The frames of a log, by the ports that take them.
+use Rattle.std.specs.Prelude.{ℕ, ◌==◌, ◌&&◌, ◌||◌, nat_le, Bool, false, if◌then◌else◌, List, [], ◌∷◌, length, map, slice_index}
+use Rattle.std.specs.Prelude.{Option, Some, None, Ok, Err, option_map}
+use Rattle.std.specs.List.{find, flat_map, range_with_len}
+use Rattle.std.specs.Option.{option_map_or}
+use Rattle.std.specs.Str.{bytes_eq}
+use Rattle.gw_log.specs.LogLines.{Reading, line_of}
+use Rattle.gw_judge.specs.Judged.{log_lines}
+use Rattle.gw_judge.specs.declared.head.NoLog.{NoLog}
+use Rattle.gw_judge.specs.declared.head.NoLog.TheVariants.{Pcap, PcapNg, Gzip}
+use Rattle.gw_run.specs.declared.taking.NamedInterface.{NamedInterface}
+
+-- the port that the first of these names gives an interface
+abbrev pub names_interface : List ℕ → NamedInterface → Bool
+names_interface interface named = bytes_eq named.name.now interface
+
+abbrev pub port_named : List NamedInterface → List ℕ → Option ℕ
+port_named names interface = option_map (λ named. named.port) (find (names_interface interface) names)
+
+-- what a line gives a port: its frame, where the port takes the frames of its interface
+abbrev pub taken : (List ℕ → Option ℕ) → ℕ → Reading → List (List ℕ)
+taken takes port (Err why) = []
+taken takes port (Ok None) = []
+taken takes port (Ok (Some entry)) =
+    if option_map_or (λ taker. taker == port) (takes entry.interface) false then entry.octets ∷ [] else []
+
+-- the frames of a log that a port takes: those of its lines, in order
+unfoldable pub taken_at : (List ℕ → Option ℕ) → ℕ → List ℕ → List (List ℕ)
+taken_at takes port log = flat_map (λ line. taken takes port (line_of line)) (log_lines log)
+
+-- by port, the frames of the lines whose interface is named for it
+abbrev pub named_inputs : List NamedInterface → ℕ → List ℕ → List (List (List ℕ))
+named_inputs names ports log = map (λ port. taken_at (port_named names) port log) (range_with_len 0 ports)
+
+-- ---- what is no log
+
+-- octets that begin with these four
+abbrev pub begins : ℕ → ℕ → ℕ → ℕ → List ℕ → Bool
+begins a b c d octets =
+    nat_le 4 (length octets) && ((slice_index octets 0 == a) && ((slice_index octets 1 == b)
+    && ((slice_index octets 2 == c) && (slice_index octets 3 == d))))
+
+-- a capture of classic pcap, with times in microseconds or nanoseconds, in either order of octets
+abbrev pub is_pcap : List ℕ → Bool
+is_pcap octets =
+    (begins 0xA1 0xB2 0xC3 0xD4 octets || begins 0xD4 0xC3 0xB2 0xA1 octets)
+    || (begins 0xA1 0xB2 0x3C 0x4D octets || begins 0x4D 0x3C 0xB2 0xA1 octets)
+
+-- what octets are, as their first ones tell, where they are no log
+abbrev pub no_log : List ℕ → Option NoLog
+no_log octets =
+    if is_pcap octets then Some Pcap
+    else if begins 0x0A 0x0D 0x0D 0x0A octets then Some PcapNg
+    else if nat_le 2 (length octets) && ((slice_index octets 0 == 0x1F) && (slice_index octets 1 == 0x8B)) then Some Gzip
+    else None

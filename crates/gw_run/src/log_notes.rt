@@ -1,0 +1,123 @@
+//! What a person should know of the lines of a log that no port takes.
+
+use arrayvec::ArrayVec;
+use gw_io::Tried;
+use gw_judge::Cause;
+use gw_log::LogRefusal;
+use std::io::Write;
+use std::str;
+
+/// So many interfaces are told by their names.
+const MAX_TOLD: usize = 16;
+
+/// An interface that is not named, and how many frames its lines say.
+#[derive(Clone, Copy, Default)]
+struct Untaken<'a> {
+    interface: &'a [u8],
+    frames: u64,
+}
+
+/// What a person should know of the lines of a log that no port takes. No clause speaks of it.
+#[derive(Drop)]
+pub(crate) struct LogNotes<'a> {
+    lines: u64,
+    causes: [Cause; LogRefusal::ALL.len()],
+    untaken: ArrayVec<Untaken<'a>, MAX_TOLD>,
+    // the frames of interfaces behind those that are told by their names
+    others: u64,
+}
+
+impl<'a> LogNotes<'a> {
+    /// Before the first line.
+    pub fn new() -> LogNotes<'a> {
+        LogNotes {
+            lines: 0,
+            causes: [Cause { count: 0, first: 0 }; LogRefusal::ALL.len()],
+            untaken: ArrayVec::new(),
+            others: 0,
+        }
+    }
+
+    /// Counts a line.
+    pub fn see_line(&mut self) {
+        self.lines = self.lines.saturating_add(1);
+    }
+
+    /// Counts the last line as one that says no classic frame.
+    pub fn see_refused(&mut self, why: LogRefusal) {
+        let line = self.lines;
+        for (cause, of) in self.causes.iter_mut().zip(LogRefusal::ALL) {
+            if of == why {
+                cause.count = cause.count.saturating_add(1);
+                if cause.first == 0 {
+                    cause.first = line;
+                }
+            }
+        }
+    }
+
+    /// Counts a frame of an interface that is not named.
+    pub fn see_untaken(&mut self, interface: &'a [u8]) {
+        for known in self.untaken.as_mut_slice() {
+            if known.interface == interface {
+                known.frames = known.frames.saturating_add(1);
+                return;
+            }
+        }
+        let first = Untaken {
+            interface,
+            frames: 1,
+        };
+        if self.untaken.try_push(first).is_err() {
+            self.others = self.others.saturating_add(1);
+        }
+    }
+
+    /// Tells a person.
+    pub fn tell<F: Write>(&self, faults: &mut Tried<F>) {
+        self.tell_refused(faults);
+        for untaken in self.untaken.as_slice() {
+            tell_untaken(untaken, faults);
+        }
+        let others = self.others;
+        if others > 0 {
+            let _ = writeln!(
+                faults,
+                "gw: frames of further interfaces, not taken since no --interface names them: {others}"
+            );
+        }
+    }
+
+    // Tells for each cause how many lines say no classic frame, and which is the first; and of a log without lines.
+    fn tell_refused<F: Write>(&self, faults: &mut Tried<F>) {
+        let lines = self.lines;
+        if lines == 0 {
+            let _ = writeln!(faults, "gw: the log is empty");
+        }
+        for (cause, why) in self.causes.iter().zip(LogRefusal::ALL) {
+            let (count, first, number) = (cause.count, cause.first, why.number());
+            if count > 0 {
+                let _ = writeln!(
+                    faults,
+                    "gw: {number}: {count} of {lines} lines, the first is line {first}: {why}"
+                );
+            }
+        }
+    }
+}
+
+fn tell_untaken<F: Write>(untaken: &Untaken, faults: &mut Tried<F>) {
+    let frames = untaken.frames;
+    if untaken.interface.is_empty() {
+        let _ = writeln!(
+            faults,
+            "gw: frames of lines without an interface, not taken since no `--interface =P` is given: {frames}"
+        );
+        return;
+    }
+    let interface = str::from_utf8(untaken.interface).unwrap_or("?");
+    let _ = writeln!(
+        faults,
+        "gw: frames of interface {interface}, not taken since no --interface names it: {frames}"
+    );
+}
