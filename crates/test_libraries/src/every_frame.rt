@@ -291,7 +291,7 @@ fn is_answer(answer: &Answer, table: &Table, question: &Question, some: (bool, b
         (Answer::SomePass { passing, blocked }, (true, true)) => {
             is_sample(passing, table, question, true) && is_sample(blocked, table, question, false)
         }
-        (Answer::NoFrame, (false, false)) => true,
+        (Answer::NoFrame(_), (false, false)) => true,
         _ => false,
     }
 }
