@@ -16,6 +16,11 @@ fn breaking_readers(rt: HostRuntime) -> Result<(), Fail> {
     Ok(())
 }
 
+/// What is told of a trace whose frames are dealt in turn, where the output takes no more.
+const TOLD: &[u8] =
+    b"gw: frame i of the trace was taken at port i mod 2, whatever interface it came from\n\
+    gw: the output could not be written\n";
+
 #[test]
 fn filling_writers(rt: HostRuntime) -> Result<(), Fail> {
     let alloc = rt.alloc();
@@ -24,7 +29,8 @@ fn filling_writers(rt: HostRuntime) -> Result<(), Fail> {
     for room in [0, 1, 32, 33, whole.len() - 1] {
         let input = Source::new(trace.as_slice(), WHOLE);
         let cut = run_outcome_on(&rt, alloc, TWO_PORTS, input, room);
-        assert!(rt; cut.is_cut(&whole[..room]));
+        assert!(rt; cut.is_failure(&whole[..room]));
+        assert!(rt; cut.stderr.as_slice() == TOLD);
     }
     Ok(())
 }
