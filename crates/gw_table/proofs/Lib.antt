@@ -28,7 +28,6 @@ pub mod Searched
 pub mod Witnessed
 pub mod PartsAt
 pub mod Listing
-pub mod Guarded
 pub mod Crossed
 pub mod Asked
 pub mod PairFrames
