@@ -7,7 +7,7 @@ use Rattle.gw_table.specs.Table.{Meaning, table_passes}
 use Rattle.gw_table.specs.Difference.{DecidePair}
 
 -- requests, 59904, to every address from the tool at 249 are blocked; requests to the engine, address 0, pass
-abbrev tool : Rule
+abbrev pub tool : Rule
 tool = record {
   action = Block;
   pgn = record { low = 59904; high = 59904 };
@@ -16,7 +16,7 @@ tool = record {
   from = record { low = 0; high = 255 };
 }
 
-abbrev engine : Rule
+abbrev pub engine : Rule
 engine = record {
   action = Pass;
   pgn = record { low = 59904; high = 59904 };

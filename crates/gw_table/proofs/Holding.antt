@@ -13,6 +13,7 @@ use Rattle.gw_table.specs.declared.table.Rule.{Rule}
 use Rattle.gw_table.specs.declared.rule_set.Property.{Property}
 use Rattle.gw_table.specs.declared.rule_set.Property.TheVariants.{Holds}
 use Rattle.gw_table.specs.Table.{lies_in}
+use Rattle.gw_table.specs.PairFrames.{all_lie}
 use Rattle.gw_table.specs.RuleSets.{has_property, marks, has, IsSetOf, IsWordOf, common, IsLowest}
 use Rattle.gw_table.proofs.RuleBits.{has_past}
 
@@ -100,7 +101,7 @@ false_if_zero : (b : Bool) → one_if b ≡ 0 → b ≡ false
 false_if_zero true none = absurd (omega (arith, none))
 false_if_zero false none = refl
 
-one_more : (a b : ℕ) → a ≡ b → 1 + a ≡ suc b
+pub one_more : (a b : ℕ) → a ≡ b → 1 + a ≡ suc b
 one_more a b same = omega (arith, same)
 
 pub position_past : (p : Rule → Bool) (rules : List Rule) → ((number : ℕ) → mark p rules number ≡ 0)
@@ -125,11 +126,6 @@ mark_there p rules number one =
       | inl within ↦ within
       | inr past ↦ absurd (omega (arith, one, mark_past p rules number past))
     ]
-
--- a rule of which all four ranges hold
-abbrev pub all_lie : ℕ → ℕ → ℕ → ℕ → Rule → Bool
-all_lie pgn source destination from rule =
-    lies_in pgn rule.pgn && lies_in source rule.source && lies_in destination rule.destination && lies_in from rule.from
 
 -- the rules of all four sets are those whose four ranges hold
 pub common_marks : (rules : List Rule) (pgn source destination from : ℕ) (a b c d : List ℕ) → IsSetOf (Holds Pgn pgn) rules a

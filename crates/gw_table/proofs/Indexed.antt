@@ -14,7 +14,8 @@ use Rattle.gw_table.specs.Table.{is_pass}
 use Rattle.gw_table.specs.RuleSets.{marks, IsLowest}
 use Rattle.gw_table.specs.Sections.{start_property, pdu2_page, row_of_page}
 use Rattle.gw_table.specs.Index.{IsGroup, position_in, group_position, shared, HasSetOf, Indexes}
-use Rattle.gw_table.proofs.Holding.{one_if, mark, all_lie, common_marks, first_position, no_position, lowest_there}
+use Rattle.gw_table.specs.PairFrames.{all_lie}
+use Rattle.gw_table.proofs.Holding.{one_if, mark, common_marks, first_position, no_position, lowest_there}
 use Rattle.gw_table.proofs.Rows.{page_property, row_of_groups}
 
 module _ (rules : List Rule) (index : Index) (indexed : Indexes rules index) where

@@ -1,6 +1,6 @@
 -- The frames that two parts decide are those of which the ranges of both hold, where no rule before either shares numbers with
 -- both.
-use Rattle.std.proofs.Common.{◌≡◌, ℕ, zero, suc, ◌+◌, ◌<◌, ◌||◌, ◌&&◌, not, if◌then◌else◌, Bool, true, false, List, []}
+use Rattle.std.proofs.Common.{◌≡◌, ℕ, zero, suc, ◌<◌, ◌||◌, ◌&&◌, not, if◌then◌else◌, Bool, true, false, List, []}
 use Rattle.std.proofs.Common.{◌∷◌, length, take, get_or}
 use Rattle.std.proofs.Common.{Some, refl, sym, ap, ◌∙◌, subst, arith}
 use Rattle.std.specs.Prelude.{slice_get, All}
@@ -21,8 +21,9 @@ use Rattle.gw_table.specs.Difference.{DecidePair}
 use Rattle.gw_table.specs.Question.{is_asked, IsAsked}
 use Rattle.gw_table.specs.PairFrames.{AsksForPair, all_lie, ShareNumbers, ranges_of, rules_before, AreClear, meet_span, meet}
 use Rattle.gw_table.specs.PairFrames.{has_number, has_numbers, is_clear, asking}
-use Rattle.gw_table.proofs.NeverDecides.{inside, bounds, all_parts, all_from, decider_holds, group_of}
-use Rattle.gw_table.proofs.Universes.{destination_fits}
+use Rattle.gw_table.proofs.NeverDecides.{inside, bounds, all_parts, all_from, decider_holds}
+use Rattle.gw_table.proofs.Holding.{one_more}
+use Rattle.gw_table.proofs.Prologue.{group_fits, destination_fits}
 
 -- ---- numbers that ranges share
 
@@ -88,9 +89,6 @@ any_parts : (a b : Bool) → (a || b) ≡ false → (a ≡ false) × (b ≡ fals
 any_parts true b none = absurd (false≢true (sym none))
 any_parts false b none = (refl, none)
 
-one_more : (a b : ℕ) → a ≡ b → 1 + a ≡ suc b
-one_more a b same = omega (arith, same)
-
 none_first : (p : Rule → Bool) (rules : List Rule) → list_any p rules ≡ false → position_or_len p rules ≡ length rules
 none_first p [] none = refl
 none_first p (rule ∷ rules) none =
@@ -124,15 +122,10 @@ whole : (octets : List ℕ) (port : ℕ) (table : Meaning) (ranges : Rule) → p
     → ranges_of table part.Default ≡ Some ranges → matches octets port ranges ≡ true
 whole octets port table ranges fits of =
     let word = word_of octets in
-    let group = group_of word in
-    let group_is = group.group in
-    let format = group.format_fits in
-    let last = group.last_fits in
-    let to = destination_fits word in
     subst (λ r. matches octets port r ≡ true) (some_is _ ranges of)
-    (all_from _ _ _ _ (inside (parameter_group word) _ (omega arith) (omega (arith, group_is, format, last)))
-    (inside (source_address word) _ (omega arith) (omega arith)) (inside (destination_address word) _ (omega arith)
-    (omega (arith, to))) (inside port _ (omega arith) (omega (arith, fits))))
+    (all_from _ _ _ _ (inside (parameter_group word) _ (omega arith) (group_fits word))
+    (inside (source_address word) _ (omega arith) (omega arith))
+    (inside (destination_address word) _ (omega arith) (destination_fits word)) (inside port _ (omega arith) (omega (arith, fits))))
 
 module _ (table : Meaning) (octets : List ℕ) (port : ℕ) where
   pub holds_where_it_decides : (by : Part) (ranges : Rule) → ranges_of table by ≡ Some ranges → port < 16

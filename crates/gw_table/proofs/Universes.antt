@@ -43,7 +43,7 @@ four_in p b e f g h = rw (e, f, g, h) refl
 all_same : {a b c d e f g h : Bool} → a ≡ e → b ≡ f → c ≡ g → d ≡ h → (a && b && c && d) ≡ (e && f && g && h)
 all_same p q r s = rw (p, q, r, s) refl
 
-pub destination_fits : (word : ℕ) → destination_address word < 256
+destination_fits : (word : ℕ) → destination_address word < 256
 destination_fits word = by (is_pdu1 word)
   where
     by : (pdu1 : Bool) → (if pdu1 then pdu_specific word else 255) < 256

@@ -3,7 +3,7 @@ use Rattle.std.specs.Prelude.{IfSome, IfNone}
 use Rattle.std.specs.List.{position}
 use Rattle.gw_table.specs.RuleSets.{IsLowest}
 use Rattle.gw_table.specs.Index.{shared}
-use Rattle.gw_table.proofs.Holding.{all_lie}
+use Rattle.gw_table.specs.PairFrames.{all_lie}
 use Rattle.gw_table.proofs.Indexed.{group_set, source_set, destination_set, port_set, none_shared, first_shared}
 use Rattle.gw_table.proofs.index.Index.first_holding.Goals as goal
 

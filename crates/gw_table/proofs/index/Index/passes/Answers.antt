@@ -6,7 +6,7 @@ use Rattle.std.proofs.lemmas.Option.{slice_get_past}
 use Rattle.gw_table.specs.declared.rule_set.Property.TheVariants.{Passes}
 use Rattle.gw_table.specs.Table.{is_pass}
 use Rattle.gw_table.specs.RuleSets.{IsSetOf}
-use Rattle.gw_table.proofs.Holding.{all_lie}
+use Rattle.gw_table.specs.PairFrames.{all_lie}
 use Rattle.gw_table.proofs.NeverDecides.{position_is, position_none}
 use Rattle.gw_table.proofs.Indexed.{passing_set, action_by_mark}
 use Rattle.gw_table.proofs.index.Index.passes.Goals as goal
