@@ -1,5 +1,4 @@
 mod LinesExamples
-pub mod Callers
 pub mod ClaimLines
 pub mod DifferenceStatus
 pub mod DifferenceTexts

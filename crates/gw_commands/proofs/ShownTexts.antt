@@ -8,7 +8,7 @@ use Rattle.std.proofs.lemmas.Option.{slice_get-get_or}
 use Rattle.gw_table.specs.declared.table.Rule.{Rule}
 use Rattle.gw_table.specs.declared.table.Span.{Span}
 use Rattle.gw_commands.specs.Shown.{group_count, is_group, rule_words, words_of_rule, words_of_rules}
-use Rattle.gw_commands.proofs.Callers.{range_more}
+use Rattle.gw_input.proofs.Callers.{range_more}
 
 -- the line of a rule that is there
 pub rule_there : (rules : List Rule) (n : ℕ) (d : Rule) → n < length rules

@@ -3,3 +3,5 @@ pub mod HexDigits
 pub mod DecimalValues
 pub mod PortLists
 pub mod LineByLine
+pub mod NumberByNumber
+pub mod RulePlaces

@@ -1,6 +1,7 @@
 -- public meaning: lines and words, records, the programs of listings, tables, and the line of a refusal
 pub mod Lines
 pub mod Words
+pub mod RuleLines
 pub mod Records
 pub mod Programs
 pub mod Tables

@@ -16,7 +16,7 @@ use Rattle.gw_ledger.specs.declared.outcome.Outcome.{Outcome}
 use Rattle.gw_trace.specs.Shares.{shared_from, share_of}
 use Rattle.gw_run.specs.Forwarding.{line_of, line_to, lines_from, port_line}
 use Rattle.gw_run.specs.Forwarding.{port_lines, lane_line, lane_lines, lane_lines_from}
-use Rattle.gw_commands.proofs.Callers.{line_more}
+use Rattle.gw_input.proofs.Callers.{line_more}
 
 -- a text behind another, where a number has no line
 pub line_none : (f : ℕ → List ℕ) (n : ℕ) (before now : List ℕ) → now ≡ before ++ flat_map f (range_with_len 0 n) → f n ≡ []

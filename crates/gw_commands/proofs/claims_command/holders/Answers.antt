@@ -2,7 +2,7 @@ use Rattle.std.proofs.Common.{◌++◌, flat_map, sym, ◌∙◌, ap, string_byt
 use Rattle.std.proofs.lemmas.List.{append-nil}
 use Rattle.std.specs.List.{range_with_len}
 use Rattle.gw_commands.specs.ClaimLines.{holder_line, line_at}
-use Rattle.gw_commands.proofs.Callers.{lines_more}
+use Rattle.gw_input.proofs.Callers.{lines_more}
 use Rattle.gw_commands.proofs.ClaimLines.{lines_done, line_held, line_free}
 use Rattle.gw_commands.proofs.claims_command.holders.Goals as goal
 use Rattle.gw_commands.proofs.claims_command.holders.Goals.{in-Some+in_ok-push_holder, in_default}

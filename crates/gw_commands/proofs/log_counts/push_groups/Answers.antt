@@ -1,6 +1,6 @@
 use Rattle.std.proofs.Common.{string_bytes, ap, arith}
 use Rattle.gw_commands.specs.LogCounts.{group_line, group_text}
-use Rattle.gw_commands.proofs.Callers.{line_more}
+use Rattle.gw_input.proofs.Callers.{line_more}
 use Rattle.gw_commands.proofs.LogTexts.{groups_done}
 use Rattle.gw_commands.proofs.log_counts.push_groups.Goals as goal
 

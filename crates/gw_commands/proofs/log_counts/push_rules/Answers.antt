@@ -1,6 +1,6 @@
 use Rattle.std.proofs.Common.{string_bytes, arith}
 use Rattle.gw_commands.specs.LogCounts.{rule_line}
-use Rattle.gw_commands.proofs.Callers.{line_more}
+use Rattle.gw_input.proofs.Callers.{line_more}
 use Rattle.gw_commands.proofs.LogTexts.{rule_there, rules_done}
 use Rattle.gw_commands.proofs.log_counts.push_rules.Goals as goal
 

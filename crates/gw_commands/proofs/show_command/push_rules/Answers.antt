@@ -1,6 +1,6 @@
 use Rattle.std.proofs.Common.{string_bytes, arith}
 use Rattle.gw_commands.specs.Shown.{words_of_rule}
-use Rattle.gw_commands.proofs.Callers.{line_more}
+use Rattle.gw_input.proofs.Callers.{line_more}
 use Rattle.gw_commands.proofs.ShownTexts.{rule_there, rules_done}
 use Rattle.gw_commands.proofs.show_command.push_rules.Goals as goal
 

@@ -4,7 +4,7 @@ use Rattle.std.proofs.lemmas.Grind.{common_steps}
 use Rattle.std.proofs.lemmas.Option.{slice_get_past, slice_get_read}
 use Rattle.std.proofs.lemmas.Bool.Decides.{nat_tests}
 use Rattle.gw_run.specs.Forwarding.{lane_lines_from, lines_from}
-use Rattle.gw_commands.proofs.Callers.{line_more}
+use Rattle.gw_input.proofs.Callers.{line_more}
 use Rattle.gw_run.proofs.Forwarded.{lanes_done, lanes_there, line_none, no_lanes}
 use Rattle.gw_run.proofs.lines.push_lanes.Goals as goal
 use Rattle.gw_run.proofs.lines.push_lanes.Goals.{in-Some+in_ok-push_lanes_from, in_default}

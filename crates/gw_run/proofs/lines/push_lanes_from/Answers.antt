@@ -1,7 +1,7 @@
 use Rattle.std.proofs.Common.{◌≡◌, ◌==◌, ◌∙◌, true, false, ap, string_bytes, arith}
 use Rattle.std.proofs.lemmas.Bool.Decides.{nat_tests}
 use Rattle.gw_run.specs.Forwarding.{line_to}
-use Rattle.gw_commands.proofs.Callers.{line_more}
+use Rattle.gw_input.proofs.Callers.{line_more}
 use Rattle.gw_run.proofs.Forwarded.{lane_there, lanes_from_done, line_none, no_lane}
 use Rattle.gw_run.proofs.lines.push_lanes_from.Goals as goal
 use Rattle.gw_run.proofs.lines.push_lanes_from.Goals.{then-to-from+in_ok-push_lane, else-to-from}

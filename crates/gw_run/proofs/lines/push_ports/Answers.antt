@@ -1,6 +1,6 @@
 use Rattle.std.proofs.Common.{string_bytes, arith}
 use Rattle.gw_run.specs.Forwarding.{line_of}
-use Rattle.gw_commands.proofs.Callers.{line_more}
+use Rattle.gw_input.proofs.Callers.{line_more}
 use Rattle.gw_run.proofs.Forwarded.{line_there, ports_done}
 use Rattle.gw_run.proofs.lines.push_ports.Goals as goal
 

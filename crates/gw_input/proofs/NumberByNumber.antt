@@ -1,4 +1,4 @@
--- For whoever writes a line for each number: the lines so far, with one more.
+-- Whoever writes a line for each number: the lines so far, with one more.
 use Rattle.std.proofs.Common.{◌≡◌, ℕ, zero, suc, ◌+◌, List, [], ◌∷◌, ◌++◌, flat_map}
 use Rattle.std.proofs.Common.{ap, sym, ◌∙◌, add-zero, add-one, zero-add, append_assoc, arith}
 use Rattle.std.specs.List.{range_with_len}
