@@ -1,10 +1,10 @@
 mod LinesExamples
 pub mod ClaimLines
 pub mod DifferenceStatus
-pub mod DifferenceTexts
 pub mod EndedEarly
 pub mod LogEnds
 pub mod LogTexts
 pub mod PathsTold
 pub mod RefusalTexts
 pub mod ShownTexts
+pub mod TextsInOrder

@@ -1,13 +1,17 @@
 -- Lines of the worked examples.
-use Rattle.std.proofs.Common.{◌≡◌, [], ◌∷◌, true, false, refl}
-use Rattle.std.specs.Prelude.{codes}
+use Rattle.std.proofs.Common.{◌≡◌, [], ◌∷◌, ◌++◌, true, false, Some, refl}
+use Rattle.std.specs.Prelude.{codes, decimal}
 use Rattle.std.specs.Fmt.{digits}
 use Rattle.gw_commands.specs.Answers.{verdict_line, accepted_line, passes_line}
 use Rattle.gw_commands.specs.Checks.{path_line}
-use Rattle.gw_table.specs.declared.table.Part.TheVariants.{Rule, Default, Other}
+use Rattle.gw_table.specs.declared.table.Part.TheVariants.{Default, Other}
 use Rattle.gw_commands.specs.ClaimLines.{name_digits, holder_line}
-use Rattle.gw_commands.specs.Differences.{side_text}
+use Rattle.gw_commands.specs.declared.stated.StatedTable.{StatedTable}
+use Rattle.gw_commands.specs.Differences.{frames_line, side_text}
+use Rattle.gw_commands.specs.Stated.{line_words}
+use Rattle.gw_commands.specs.Shown.{groups_text, group_name, numbers_text}
 use Rattle.gw_input.specs.Lines.{lines_of}
+use Rattle.gw_input.specs.RuleLines.{rule_lines}
 
 pass_7 : verdict_line 7 ≡ codes "pass 7\n"
 unfolding digits
@@ -30,15 +34,25 @@ table_passes = refl
 table_blocks : passes_line false ≡ codes "block\n"
 table_blocks = refl
 
-rule_2_blocks : side_text (Rule 2) false ≡ codes "rule 2 blocks"
+rule_2_of_line_14 : codes "rule " ++ decimal 2 ++ line_words (Some 14) ≡ codes "rule 2 (line 14)"
 unfolding digits
-rule_2_blocks = refl
+rule_2_of_line_14 = refl
 
-default_passes : side_text Default true ≡ codes "default passes"
-default_passes = refl
+default_passes : (stated : StatedTable) → side_text stated Default true ≡ codes "default passes"
+default_passes stated = refl
 
-other_blocks : side_text Other false ≡ codes "other blocks"
-other_blocks = refl
+other_blocks : (stated : StatedTable) → side_text stated Other false ≡ codes "other blocks"
+other_blocks stated = refl
+
+-- a range that holds of every address is not told
+requests_of_a_tool : frames_line (Some (record {
+  pgn = Some (record { low = 59904; high = 59904 });
+  source = Some (record { low = 249; high = 250 });
+  destination = Some (record { low = 0; high = 255 });
+  from = Some (record { low = 1; high = 1 });
+})) ≡ codes "    these and no others: extended data frames, pgn 59904 (request), sources 249 to 250 (2), from port 1\n"
+unfolding digits groups_text group_name numbers_text
+requests_of_a_tool = refl
 
 name_5 : name_digits 5 ≡ codes "0000000000000005"
 unfolding digits
@@ -58,3 +72,8 @@ three_lines = refl
 
 empty_last_line : lines_of (codes "a\n") ≡ codes "a" ∷ [] ∷ []
 empty_last_line = refl
+
+-- a line in which other characters stand before begins no rule
+two_rules : rule_lines (codes "# [[rule]]\n[[rule]]\npgn = 0\n\t[[rule]] # the rest\n") ≡ 2 ∷ 4 ∷ []
+unfolding rule_lines
+two_rules = refl

@@ -1,26 +1,29 @@
 -- The lines of a table's rules in words, and groups that are counted.
 use Rattle.std.proofs.Common.{◌≡◌, ℕ, suc, ◌+◌, ◌-◌, ◌<◌, ◌≤◌, true, false, List, [], ◌∷◌, ◌++◌, length, flat_map}
-use Rattle.std.proofs.Common.{refl, ap, sym, ◌∙◌, get_or, add-zero, length-append, arith}
+use Rattle.std.proofs.Common.{refl, ap, sym, ◌∙◌, get_or, slice_get, add-zero, length-append, arith}
 use Rattle.std.specs.List.{filter, range_with_len}
 use Rattle.std.specs.Option.{option_map_or}
 use Rattle.std.proofs.lemmas.List.Elements.{filter-append}
 use Rattle.std.proofs.lemmas.Option.{slice_get-get_or}
 use Rattle.gw_table.specs.declared.table.Rule.{Rule}
 use Rattle.gw_table.specs.declared.table.Span.{Span}
+use Rattle.gw_commands.specs.declared.stated.StatedTable.{StatedTable}
 use Rattle.gw_commands.specs.Shown.{group_count, is_group, rule_words, words_of_rule, words_of_rules}
 use Rattle.gw_input.proofs.Callers.{range_more}
 
 -- the line of a rule that is there
-pub rule_there : (rules : List Rule) (n : ℕ) (d : Rule) → n < length rules
-    → rule_words n (get_or rules n d) ≡ words_of_rule rules n
-rule_there rules n d below = ap (λ o. option_map_or (rule_words n) o []) (sym (slice_get-get_or rules n d below))
+pub rule_there : (stated : StatedTable) (rules : List Rule) (n : ℕ) (d : Rule) → rules ≡ stated.table.rules → n < length rules
+    → rule_words stated n (get_or rules n d) ≡ words_of_rule stated n
+rule_there stated rules n d same below =
+    ap (λ o. option_map_or (rule_words stated n) o [])
+    (sym (slice_get-get_or rules n d below) ∙ ap (λ l. slice_get l n) same)
 
 -- all lines behind a text
-pub rules_done : (rules : List Rule) (n : ℕ) (before text : List ℕ) → n ≡ length rules
-    → text ≡ before ++ flat_map (words_of_rule rules) (range_with_len 0 n) → text ≡ before ++ words_of_rules rules
+pub rules_done : (stated : StatedTable) (n : ℕ) (before text : List ℕ) → n ≡ length stated.table.rules
+    → text ≡ before ++ flat_map (words_of_rule stated) (range_with_len 0 n) → text ≡ before ++ words_of_rules stated
 unfolding words_of_rules
-rules_done rules n before text all same =
-    same ∙ ap (λ m. before ++ flat_map (words_of_rule rules) (range_with_len 0 m)) all
+rules_done stated n before text all same =
+    same ∙ ap (λ m. before ++ flat_map (words_of_rule stated) (range_with_len 0 m)) all
 
 -- one number more is looked at
 one_more : (low n : ℕ) → low ≤ n

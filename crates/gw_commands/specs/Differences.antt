@@ -1,60 +1,94 @@
 -- What the command `diff` tells of an old table and a new one: `before` and `after` are what its writer took.
-use Rattle.std.specs.Prelude.{◌≡◌, ◌⊎◌, ◌↔◌, ℕ, Bool, false, if◌then◌else◌, List, [], ◌∷◌, ◌++◌, codes, decimal, Option, Err}
-use Rattle.std.specs.List.{flat_map}
+use Rattle.std.specs.Prelude.{◌≡◌, ◌⊎◌, ◌↔◌, ℕ, Bool, false, if◌then◌else◌, List, [], ◌∷◌, ◌++◌, codes, decimal, Option, Some}
+use Rattle.std.specs.Prelude.{None, Err}
+use Rattle.std.specs.Option.{option_map_or}
 use Rattle.gw_log.specs.LogTexts.{text_of}
 use Rattle.gw_table.specs.declared.difference.Difference.{Difference}
+use Rattle.gw_table.specs.declared.question.Question.{Question}
 use Rattle.gw_table.specs.declared.table.Part.{Part}
 use Rattle.gw_table.specs.declared.table.Part.TheVariants.{Rule, Default, Other}
 use Rattle.gw_table.specs.Table.{Meaning, table_passes}
 use Rattle.gw_table.specs.Difference.{AreAlike, AreDifferences}
+use Rattle.gw_table.specs.PairFrames.{AreClear, AsksForPair}
 use Rattle.gw_input.specs.Tables.{IsTable}
 use Rattle.gw_commands.specs.declared.refusal.Refusal.{Refusal}
 use Rattle.gw_commands.specs.declared.refusal.Refusal.TheVariants.{OutOfMemory}
 use Rattle.gw_commands.specs.Commands.{Writes, WritesText}
+use Rattle.gw_commands.specs.declared.stated.StatedTable.{StatedTable}
 use Rattle.gw_commands.specs.Policies.{RefusesFile}
+use Rattle.gw_commands.specs.Shown.{asked_line}
+use Rattle.gw_commands.specs.Stated.{IsStated, rule_name}
 use Rattle.gw_commands.specs.Tables.{RefusesText}
 
--- what decides a frame: a rule by its number, `default` or `other`
-abbrev pub part_name : Part → List ℕ
-part_name (Rule number) = codes "rule " ++ decimal number
-part_name Default = codes "default"
-part_name Other = codes "other"
+-- what decides a frame: a rule, `default` or `other`
+abbrev pub part_name : StatedTable → Part → List ℕ
+part_name stated (Rule number) = rule_name stated number
+part_name stated Default = codes "default"
+part_name stated Other = codes "other"
 
 -- what decides a frame in a table, and whether the table passes it
-abbrev pub side_text : Part → Bool → List ℕ
-side_text part passes = part_name part ++ (if passes then codes " passes" else codes " blocks")
+abbrev pub side_text : StatedTable → Part → Bool → List ℕ
+side_text stated part passes = part_name stated part ++ (if passes then codes " passes" else codes " blocks")
 
 -- a frame and its port, at the end of a line
 abbrev pub place_text : List ℕ → ℕ → List ℕ
 place_text frame port = text_of frame ++ codes " at port " ++ decimal port ++ codes "\n"
 
--- the line of a difference: the old table's side, the new one's, the frame and its port
-abbrev pub difference_line : Meaning → Meaning → Difference → List ℕ
+-- the old table's side, the new one's, the frame and its port
+abbrev pub difference_line : StatedTable → StatedTable → Difference → List ℕ
 difference_line old new d =
-    side_text d.old (table_passes old d.frame d.port) ++ codes ", " ++ side_text d.new (table_passes new d.frame d.port)
-    ++ codes ": " ++ place_text d.frame d.port
+    side_text old d.old (table_passes old.table d.frame d.port) ++ codes ", "
+    ++ side_text new d.new (table_passes new.table d.frame d.port) ++ codes ": " ++ place_text d.frame d.port
 
-unfoldable pub difference_lines : Meaning → Meaning → List Difference → List ℕ
-difference_lines old new found = flat_map (difference_line old new) found
+-- the line of the frames that the two parts decide, where a question asks for them
+abbrev pub frames_line : Option Question → List ℕ
+frames_line frames = option_map_or asked_line frames []
 
--- a line for each difference, in their order, with status 1; where there is none `alike`, with status 0
-abbrev pub differences_text : Meaning → Meaning → List Difference → List ℕ
-differences_text old new [] = codes "alike\n"
-differences_text old new (d ∷ more) = difference_lines old new (d ∷ more)
+-- a question asks for exactly the frames of two parts; there is none only where a rule before them shares numbers with both
+abbrev pub AreFrames : StatedTable → StatedTable → Difference → Option Question → Type 0
+AreFrames old new d (Some question) = AsksForPair old.table d.old new.table d.new question
+AreFrames old new d None = ¬ AreClear old.table d.old new.table d.new
 
-abbrev pub differences_status : List Difference → ℕ
-differences_status [] = 0
-differences_status (d ∷ more) = 1
+-- what is told of a difference
+pub record IsDifferenceLine (old new : StatedTable) (d : Difference) (text : List ℕ) : Type 0 where
+  pub frames : Option Question
+  pub are_frames : AreFrames old new d frames
+  pub told : text ≡ difference_line old new d ++ frames_line frames
+
+-- a text of this kind was put behind another
+abbrev pub Appends : (List ℕ → Type 0) → List ℕ → List ℕ → Type 0
+Appends IsText before after = (text : List ℕ) × IsText text × (after ≡ before ++ text)
+
+-- the texts of the elements of a list, one behind the other
+abbrev pub IsTextOf : {X : Type 0} → (X → List ℕ → Type 0) → List X → List ℕ → Type 0
+IsTextOf IsText [] text = text ≡ []
+IsTextOf IsText (x ∷ more) text =
+    (first : List ℕ) × (rest : List ℕ) × IsText x first × IsTextOf IsText more rest × (text ≡ first ++ rest)
+
+-- what is told of each difference, in their order; where there is none `alike`
+abbrev pub IsDifferencesText : StatedTable → StatedTable → List Difference → List ℕ → Type 0
+IsDifferencesText old new [] text = text ≡ codes "alike\n"
+IsDifferencesText old new (d ∷ more) text = IsTextOf (IsDifferenceLine old new) (d ∷ more) text
+
+-- the status tells whether there is one
+abbrev pub found_status : {X : Type 0} → List X → ℕ
+found_status [] = 0
+found_status (x ∷ more) = 1
+
+-- a text of this kind was written
+abbrev pub WritesOne : (List ℕ → Type 0) → ℕ → ℕ → Option (List ℕ) → Option (List ℕ) → Bool → Type 0
+WritesOne IsText done status before after failed =
+    (text : List ℕ) × IsText text × WritesText text done status before after failed
 
 -- each difference of two tables was told; the status is 0 where both pass the same frames at every port, and only there
-pub record TellsEach (old new : Meaning) (before after : Option (List ℕ)) (failed : Bool) (status : ℕ) : Type 0 where
+pub record TellsEach (old new : StatedTable) (before after : Option (List ℕ)) (failed : Bool) (status : ℕ) : Type 0 where
   pub found : List Difference
-  pub differences : AreDifferences old new found
-  pub written : WritesText (differences_text old new found) (differences_status found) status before after failed
-  pub alike : failed ≡ false → (status ≡ 0) ↔ AreAlike old new
+  pub differences : AreDifferences old.table new.table found
+  pub written : WritesOne (IsDifferencesText old new found) (found_status found) status before after failed
+  pub alike : failed ≡ false → (status ≡ 0) ↔ AreAlike old.table new.table
 
 -- the same; or memory was wanting for what is told
-abbrev pub TellsDifferences : Meaning → Meaning → Option (List ℕ) → Option (List ℕ) → Bool → ℕ → Type 0
+abbrev pub TellsDifferences : StatedTable → StatedTable → Option (List ℕ) → Option (List ℕ) → Bool → ℕ → Type 0
 TellsDifferences old new before after failed status =
     TellsEach old new before after failed status ⊎ Writes (Err OutOfMemory) status before after failed
 
@@ -65,7 +99,7 @@ RefusesEither old new refusal = RefusesText old refusal ⊎ ((table : Meaning) �
 -- the tables of two texts were compared; or a text was refused
 abbrev pub ComparesTexts : List ℕ → List ℕ → Option (List ℕ) → Option (List ℕ) → Bool → ℕ → Type 0
 ComparesTexts old_text new_text before after failed status =
-    ((old : Meaning) × (new : Meaning) × IsTable old_text old × IsTable new_text new
+    ((old : StatedTable) × (new : StatedTable) × IsStated old_text old × IsStated new_text new
     × TellsDifferences old new before after failed status)
     ⊎ ((refusal : Refusal) × RefusesEither old_text new_text refusal × Writes (Err refusal) status before after failed)
 

@@ -15,5 +15,6 @@ pub mod Questions
 pub mod Refusals
 pub mod Replays
 pub mod Shown
+pub mod Stated
 pub mod Tables
 pub mod Verdicts

@@ -1,16 +1,17 @@
 -- What `table --show` writes of a table: what each rule says in words, then `default` and `other`.
 use Rattle.std.specs.Prelude.{◌≡◌, ℕ, ◌+◌, ◌-◌, ◌/◌, ◌%◌, Bool, ◌==◌, ◌&&◌, ◌||◌, nat_le, if◌then◌else◌, List, [], ◌++◌, length}
-use Rattle.std.specs.Prelude.{codes, decimal, slice_get}
+use Rattle.std.specs.Prelude.{codes, decimal, slice_get, Option}
 use Rattle.std.specs.Option.{option_map_or}
 use Rattle.std.specs.List.{filter, flat_map, range_with_len}
+use Rattle.gw_table.specs.declared.question.Question.{Question}
 use Rattle.gw_table.specs.declared.table.Action.{Action}
 use Rattle.gw_table.specs.declared.table.Rule.{Rule}
 use Rattle.gw_table.specs.declared.table.Span.{Span}
-use Rattle.gw_table.specs.Table.{Meaning}
-use Rattle.gw_input.specs.Tables.{IsTable}
 use Rattle.gw_commands.specs.declared.answer.Answer.{Answer}
 use Rattle.gw_commands.specs.declared.answer.Answer.TheVariants.{Text}
+use Rattle.gw_commands.specs.declared.stated.StatedTable.{StatedTable}
 use Rattle.gw_commands.specs.LogCounts.{action_word}
+use Rattle.gw_commands.specs.Stated.{IsStated, rule_name}
 
 -- the name of a well-known group (docs/IDENTIFIERS.md), which stands behind its number
 unfoldable pub group_name : ℕ → List ℕ
@@ -79,30 +80,42 @@ fields_text rule =
     groups_text rule.pgn ++ numbers_text (codes "source") rule.source
     ++ numbers_text (codes "destination") rule.destination ++ numbers_text (codes "from port") rule.from
 
+-- the line of the frames that a question asks for, where it asks for extended data frames alone
+abbrev pub given_groups : Option Span → List ℕ
+given_groups range = option_map_or groups_text range []
+
+abbrev pub given_numbers : List ℕ → Option Span → List ℕ
+given_numbers word range = option_map_or (numbers_text word) range []
+
+abbrev pub asked_line : Question → List ℕ
+asked_line q =
+    codes "    these and no others: extended data frames" ++ given_groups q.pgn ++ given_numbers (codes "source") q.source
+    ++ given_numbers (codes "destination") q.destination ++ given_numbers (codes "from port") q.from ++ codes "\n"
+
 unfoldable pub ranges_text : Rule → List ℕ
 ranges_text rule = if holds_always rule then codes ", every extended data frame" else fields_text rule
 
-abbrev pub rule_words : ℕ → Rule → List ℕ
-rule_words number rule =
-    codes "rule " ++ decimal number ++ codes ": " ++ action_word rule.action ++ ranges_text rule ++ codes "\n"
+abbrev pub rule_words : StatedTable → ℕ → Rule → List ℕ
+rule_words stated number rule =
+    rule_name stated number ++ codes ": " ++ action_word rule.action ++ ranges_text rule ++ codes "\n"
 
 -- a line for each rule, in their order
-abbrev pub words_of_rule : List Rule → ℕ → List ℕ
-words_of_rule rules number = option_map_or (rule_words number) (slice_get rules number) []
+abbrev pub words_of_rule : StatedTable → ℕ → List ℕ
+words_of_rule stated number = option_map_or (rule_words stated number) (slice_get stated.table.rules number) []
 
-unfoldable pub words_of_rules : List Rule → List ℕ
-words_of_rules rules = flat_map (words_of_rule rules) (range_with_len 0 (length rules))
+unfoldable pub words_of_rules : StatedTable → List ℕ
+words_of_rules stated = flat_map (words_of_rule stated) (range_with_len 0 (length stated.table.rules))
 
 -- the line of `default` or of `other`, with the frames that get it
 abbrev pub part_words : List ℕ → Action → List ℕ → List ℕ
 part_words key action frames = key ++ codes ": " ++ action_word action ++ codes ", " ++ frames ++ codes "\n"
 
-abbrev pub shown_text : Meaning → List ℕ
-shown_text table =
-    words_of_rules table.rules
-    ++ part_words (codes "default") table.otherwise (codes "every other extended data frame")
-    ++ part_words (codes "other") table.other (codes "every frame of 11 bits, remote frame and error frame")
+abbrev pub shown_text : StatedTable → List ℕ
+shown_text stated =
+    words_of_rules stated
+    ++ part_words (codes "default") stated.table.otherwise (codes "every other extended data frame")
+    ++ part_words (codes "other") stated.table.other (codes "every frame of 11 bits, remote frame and error frame")
 
 abbrev pub AnswersShow : List ℕ → Answer → Type 0
-AnswersShow input (Text text) = (table : Meaning) × IsTable input table × (text.items ≡ shown_text table)
+AnswersShow input (Text text) = (stated : StatedTable) × IsStated input stated × (text.items ≡ shown_text stated)
 AnswersShow input _ = ⊥

@@ -7,8 +7,8 @@ ghost use Rattle.gw_commands.specs.Tables.{RefusesText};
 use crate::answer::Answer;
 use crate::answer_lines::table_answer_text;
 use crate::refusal::Refusal;
-use crate::texts::read_table;
-use gw_table::{Question, Table};
+use crate::stated::StatedTable;
+use gw_table::Question;
 use std::alloc::{AllocError, Global};
 
 /// What a text's table does to the frames that are asked for. The text is refused as by the command `table`.
@@ -16,20 +16,24 @@ pub fn ask(alloc: Global, question: &Question, input: &[u8]) -> Result<Answer, R
     ensures answered { IfOk result (AnswersAsk question.now input.now) }
     ensures refused { IfErr result (RefusesText input.now) }
 {
-    let table = match read_table(alloc, input) {
-        Ok(table) => table,
+    let stated = match StatedTable::read(alloc, input) {
+        Ok(stated) => stated,
         Err(refusal) => return Err(refusal),
     };
-    match told_answer(alloc, &table, question) {
+    match told_answer(alloc, &stated, question) {
         Ok(text) => Ok(Answer::Text(text)),
         Err(AllocError) => Err(Refusal::OutOfMemory),
     }
 }
 
 /// The text of a table's answer.
-fn told_answer(alloc: Global, table: &Table, question: &Question) -> Result<Vec<u8>, AllocError>
-    ensures { IfOk result (λ text. TellsAnswer table.now question.now text.items) }
+fn told_answer(
+    alloc: Global,
+    stated: &StatedTable,
+    question: &Question,
+) -> Result<Vec<u8>, AllocError>
+    ensures { IfOk result (λ text. TellsAnswer stated.now question.now text.items) }
 {
-    let answer = table.answers(alloc, question)?;
-    table_answer_text(alloc, &answer)
+    let answer = stated.table.answers(alloc, question)?;
+    table_answer_text(alloc, stated, &answer)
 }

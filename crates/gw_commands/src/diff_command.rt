@@ -2,27 +2,28 @@
 
 ghost use Rattle.std.specs.Prelude.{◌≡◌, ◌⊎◌, false, Err, IfOk, IfErr};
 ghost use Rattle.gw_io.specs.Tries.{inner_of, has_failed};
-ghost use Rattle.gw_input.specs.Tables.{IsTable};
 ghost use Rattle.gw_commands.specs.Commands.{Writes, WritesText};
 ghost use Rattle.gw_commands.specs.Differences.{
   ComparesNamed,
   ComparesTexts,
+  IsDifferencesText,
+  WritesOne,
   TellsDifferences,
-  differences_status,
-  differences_text,
+  found_status,
 };
 ghost use Rattle.gw_commands.specs.Policies.{RefusesFile};
+ghost use Rattle.gw_commands.specs.Stated.{IsStated};
 ghost use Rattle.gw_commands.specs.Tables.{RefusesText};
 ghost use Rattle.gw_commands.specs.declared.refusal.Refusal.TheVariants.{OutOfMemory};
 
 use crate::difference_lines::differences_text;
 use crate::files::read_file;
-use crate::notes::note_file;
+use crate::notes::{note_file, note_program};
 use crate::refusal::Refusal;
 use crate::responding::{respond, write_text};
-use crate::texts::read_table;
+use crate::stated::StatedTable;
 use gw_io::Tried;
-use gw_table::{Difference, Table};
+use gw_table::Difference;
 use std::alloc::{AllocError, Global};
 use std::io::Write;
 use std::rt::Files;
@@ -73,12 +74,12 @@ pub fn diff_texts<W: Write, F: Write>(
     ensures { ComparesTexts old.now new.now (W.contents (inner_of output.old)) (W.contents (inner_of output.new))
         (has_failed output.new) result }
 {
-    let old = match told_table(alloc, files.old, old, faults) {
-        Ok(table) => table,
+    let old = match told_stated(alloc, files.old, old, faults) {
+        Ok(stated) => stated,
         Err(refusal) => return respond(&Err(refusal), output, faults),
     };
-    let new = match told_table(alloc, files.new, new, faults) {
-        Ok(table) => table,
+    let new = match told_stated(alloc, files.new, new, faults) {
+        Ok(stated) => stated,
         Err(refusal) => return respond(&Err(refusal), output, faults),
     };
     tell_differences(alloc, &old, &new, output, faults)
@@ -102,20 +103,21 @@ pub(crate) fn told_file<R: Files, F: Write>(
     }
 }
 
-/// The table of a file's text. A person is told which file is refused.
-pub(crate) fn told_table<F: Write>(
+/// The table of a file's text, and where its rules stand. A person is told which file is refused.
+pub(crate) fn told_stated<F: Write>(
     alloc: Global,
     file: &str,
     text: &[u8],
     faults: &mut Tried<F>,
-) -> Result<Table, Refusal>
-    ensures table { IfOk result (IsTable text.now) }
+) -> Result<StatedTable, Refusal>
+    ensures table { IfOk result (IsStated text.now) }
     ensures refused { IfErr result (RefusesText text.now) }
 {
-    match read_table(alloc, text) {
-        Ok(table) => Ok(table),
+    match StatedTable::read(alloc, text) {
+        Ok(stated) => Ok(stated),
         Err(refusal) => {
             note_file(file, faults);
+            note_program(alloc, text, faults);
             Err(refusal)
         }
     }
@@ -124,8 +126,8 @@ pub(crate) fn told_table<F: Write>(
 /// Tells what two tables differ in.
 fn tell_differences<W: Write, F: Write>(
     alloc: Global,
-    old: &Table,
-    new: &Table,
+    old: &StatedTable,
+    new: &StatedTable,
     output: &mut Tried<W>,
     faults: &mut Tried<F>,
 ) -> u8
@@ -133,7 +135,7 @@ fn tell_differences<W: Write, F: Write>(
     ensures { TellsDifferences old.now new.now (W.contents (inner_of output.old)) (W.contents (inner_of output.new))
         (has_failed output.new) result }
 {
-    match old.differences(alloc, new) {
+    match old.table.differences(alloc, &new.table) {
         Ok(found) => tell_found(alloc, old, new, found.as_slice(), output, faults),
         Err(AllocError) => respond(&Err(Refusal::OutOfMemory), output, faults),
     }
@@ -142,14 +144,14 @@ fn tell_differences<W: Write, F: Write>(
 /// Tells the differences that were found, and gives the status.
 fn tell_found<W: Write, F: Write>(
     alloc: Global,
-    old: &Table,
-    new: &Table,
+    old: &StatedTable,
+    new: &StatedTable,
     found: &[Difference],
     output: &mut Tried<W>,
     faults: &mut Tried<F>,
 ) -> u8
     requires { has_failed output.old ≡ false }
-    ensures { WritesText (differences_text old.now new.now found.now) (differences_status found.now) result
+    ensures { WritesOne (IsDifferencesText old.now new.now found.now) (found_status found.now) result
         (W.contents (inner_of output.old)) (W.contents (inner_of output.new)) (has_failed output.new)
         ⊎ Writes (Err OutOfMemory) result (W.contents (inner_of output.old)) (W.contents (inner_of output.new))
         (has_failed output.new) }

@@ -1,68 +1,81 @@
 //! What two tables differ in, as text.
 
-ghost use Rattle.std.specs.Prelude.{◌≡◌, ◌+◌, ◌≤◌, ◌++◌, codes, length, IfOk, OnOk};
-ghost use Rattle.gw_table.specs.Table.{table_passes};
+ghost use Rattle.std.specs.Prelude.{◌≡◌, ◌+◌, ◌≤◌, ◌++◌, length, IfOk, OnOk};
+ghost use Rattle.gw_commands.specs.Stated.{rule_name};
 ghost use Rattle.gw_commands.specs.Differences.{
-  difference_line,
-  difference_lines,
-  differences_text,
+  Appends,
+  IsDifferenceLine,
+  IsDifferencesText,
+  IsTextOf,
+  frames_line,
   place_text,
   side_text,
 };
 
+use crate::frames_line::asked_line;
+use crate::stated::StatedTable;
 use gw_frame::Frame;
 use gw_input::Line;
 use gw_log::frame_text;
-use gw_table::{Difference, Part, Table};
+use gw_table::{Difference, Part, Question};
 use std::alloc::{AllocError, Global};
 
 /// A line for each difference of two tables, in their order, or `alike` where there is none.
 pub fn differences_text(
     alloc: Global,
-    old: &Table,
-    new: &Table,
+    old: &StatedTable,
+    new: &StatedTable,
     found: &[Difference],
 ) -> Result<Vec<u8>, AllocError>
-    ensures { IfOk result (λ text. text.items ≡ differences_text old.now new.now found.now) }
+    ensures { IfOk result (λ text. IsDifferencesText old.now new.now found.now text.items) }
 {
     let mut text = Vec::new(alloc);
     if found.is_empty() {
         text.extend_from_slice(b"alike\n")?;
     } else {
-        push_lines(&mut text, old, new, found)?;
+        push_lines(alloc, &mut text, old, new, found)?;
     }
     Ok(text)
 }
 
 /// A line for each difference.
 fn push_lines(
+    alloc: Global,
     text: &mut Vec<u8>,
-    old: &Table,
-    new: &Table,
+    old: &StatedTable,
+    new: &StatedTable,
     found: &[Difference],
 ) -> Result<(), AllocError>
-    ensures { OnOk result (text.new.items ≡ text.old.items ++ difference_lines old.now new.now found.now) }
+    ensures { OnOk result (Appends (IsTextOf (IsDifferenceLine old.now new.now) found.now) text.old.items text.new.items) }
 {
     for difference in found {
-        push_line(text, old, new, difference)?;
+        push_difference(alloc, text, old, new, difference)?;
     }
     Ok(())
 }
 
-/// The line of a difference: what decides the frame in each table and what it does, the frame, and its port.
-fn push_line(
+/// The line of a difference: what decides the frame in each table and what it does, the frame, and its port. A second line tells
+/// which frames the two parts decide, where ranges say it.
+pub fn push_difference(
+    alloc: Global,
     text: &mut Vec<u8>,
-    old: &Table,
-    new: &Table,
+    old: &StatedTable,
+    new: &StatedTable,
     difference: &Difference,
 ) -> Result<(), AllocError>
-    ensures { OnOk result (text.new.items ≡ text.old.items ++ difference_line old.now new.now difference.now) }
+    ensures { OnOk result (Appends (IsDifferenceLine old.now new.now difference.now) text.old.items text.new.items) }
 {
     let (frame, port) = (&difference.frame, difference.port);
-    let sides = with_side(Line::new(), difference.old, old.verdict(frame, port)).text(", ");
-    let sides = with_side(sides, difference.new, new.verdict(frame, port)).text(": ");
-    text.extend_from_slice(sides.as_bytes())?;
-    push_place(text, frame, port)
+    let did = old.table.verdict(frame, port);
+    let does = new.table.verdict(frame, port);
+    let line = with_side(Line::new(), old, difference.old, did).text(", ");
+    let line = with_side(line, new, difference.new, does).text(": ");
+    text.extend_from_slice(line.as_bytes())?;
+    push_place(text, frame, port)?;
+    let frames = old
+        .table
+        .pair_frames(difference.old, &new.table, difference.new);
+    push_frames(alloc, text, frames)
 }
 
 /// A frame and its port, at the end of a line.
@@ -75,16 +88,43 @@ pub fn push_place(text: &mut Vec<u8>, frame: &Frame, port: u8) -> Result<(), All
     Ok(())
 }
 
-/// A line with what decides a frame in a table, and what it does, behind it.
-pub fn with_side(line: Line, part: Part, passes: bool) -> Line
-    requires { length line + 32 ≤ 192 }
-    ensures octets { result ≡ line ++ side_text part passes }
-    ensures len { length result ≤ length line + 32 }
+/// The line of the frames that a question asks for, where there is one.
+fn push_frames(
+    alloc: Global,
+    text: &mut Vec<u8>,
+    frames: Option<Question>,
+) -> Result<(), AllocError>
+    ensures { OnOk result (text.new.items ≡ text.old.items ++ frames_line frames) }
+{
+    if let Some(question) = frames {
+        text.extend_from_slice(asked_line(alloc, &question)?.as_bytes())?;
+    }
+    Ok(())
+}
+
+/// A line with what decides a frame in a table, where that stands, and what it does, behind it.
+pub fn with_side(line: Line, stated: &StatedTable, part: Part, passes: bool) -> Line
+    requires { length line + 60 ≤ 192 }
+    ensures octets { result ≡ line ++ side_text stated.now part passes }
+    ensures len { length result ≤ length line + 60 }
 {
     let line = match part {
-        Part::Rule(number) => line.text("rule ").digits(number as u64),
+        Part::Rule(number) => with_rule(line, stated, number),
         Part::Default => line.text("default"),
         Part::Other => line.text("other"),
     };
     line.text(if passes { " passes" } else { " blocks" })
+}
+
+/// A line with the number of a rule behind it, and the line of the table's text at which it stands.
+fn with_rule(line: Line, stated: &StatedTable, number: usize) -> Line
+    requires { length line + 60 ≤ 192 }
+    ensures octets { result ≡ line ++ rule_name stated.now number }
+    ensures len { length result ≤ length line + 53 }
+{
+    let line = line.text("rule ").digits(number as u64);
+    match stated.line_of(number) {
+        Some(place) => line.text(" (line ").digits(place as u64).text(")"),
+        None => line,
+    }
 }

@@ -7,7 +7,7 @@ ghost use Rattle.gw_judge.specs.Grouped.{no_groups};
 ghost use Rattle.gw_judge.specs.declared.groups.Grouping.TheVariants.{Nothing};
 ghost use Rattle.gw_commands.specs.LogDifferences.{ChangesLog, DiffsLog, DiffsNamed, changed_status};
 
-use crate::diff_command::{TableFiles, told_file, told_table};
+use crate::diff_command::{TableFiles, told_file, told_stated};
 use crate::judge_command::{Shown, tell_end};
 use crate::notes::{note_no_log, note_refused_lines};
 use crate::responding::respond;
@@ -64,17 +64,17 @@ pub fn diff_log<I: Read, W: Write, F: Write>(
         (has_failed input.new)
         (W.contents (inner_of output.old)) (W.contents (inner_of output.new)) (has_failed output.new) result }
 {
-    let old = match told_table(alloc, files.old, old, faults) {
-        Ok(table) => table,
+    let old = match told_stated(alloc, files.old, old, faults) {
+        Ok(stated) => stated,
         Err(refusal) => return respond(&Err(refusal), output, faults),
     };
-    let new = match told_table(alloc, files.new, new, faults) {
-        Ok(table) => table,
+    let new = match told_stated(alloc, files.new, new, faults) {
+        Ok(stated) => stated,
         Err(refusal) => return respond(&Err(refusal), output, faults),
     };
     let changed = Changed {
-        old: &old,
-        new: &new,
+        old: &old.table,
+        new: &new.table,
     };
     write_changed(alloc, &changed, port, input, output, faults)
 }

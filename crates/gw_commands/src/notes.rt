@@ -3,10 +3,12 @@
 use crate::refusal::Refusal;
 use gw_frame::Frame;
 use gw_ident::{EXTENDED_FLAG, GREATEST_EXTENDED, GREATEST_STANDARD};
+use gw_insn::read_listing;
 use gw_io::Tried;
 use gw_judge::{Head, NoLog, Tally};
 use gw_log::LogRefusal;
 use gw_table::Table;
+use std::alloc::Global;
 use std::io::Write;
 
 /// Whether the identifier word has bits above the eleven of a standard frame and no flag of an extended one: mostly an
@@ -60,6 +62,17 @@ pub fn note_dead_rules<F: Write>(table: &Table, faults: &mut Tried<F>) {
 /// Tells which file is refused, before its refusal.
 pub fn note_file<F: Write>(file: &str, faults: &mut Tried<F>) {
     let _ = writeln!(faults, "gw: the file {file} is refused:");
+}
+
+/// Tells of a text that is to be a table, and lists a program.
+pub fn note_program<F: Write>(alloc: Global, text: &[u8], faults: &mut Tried<F>) {
+    if read_listing(alloc, text).is_ok() {
+        let _ = writeln!(
+            faults,
+            "gw: it lists a program, which may read the payload, so it is not compared over every frame; `gw judge --listing FILE` \
+            judges a log by it"
+        );
+    }
 }
 
 /// Tells which file is refused, but for a refusal of the frame that a word of the command line says.

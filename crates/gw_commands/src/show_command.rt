@@ -19,15 +19,16 @@ ghost use Rattle.gw_commands.specs.Shown.{
   size_of,
   words_of_rules,
 };
+ghost use Rattle.gw_commands.specs.Stated.{rule_name};
 ghost use Rattle.gw_commands.specs.Tables.{RefusesText};
 
 use crate::answer::Answer;
 use crate::log_counts::action_word;
 use crate::notes::note_dead_rules;
 use crate::refusal::Refusal;
-use crate::texts::read_table;
+use crate::stated::StatedTable;
 use gw_io::Tried;
-use gw_table::{Action, Rule, Span, Table};
+use gw_table::{Action, Rule, Span};
 use std::alloc::{AllocError, Global};
 use std::io::Write;
 
@@ -48,46 +49,64 @@ pub fn show<F: Write>(alloc: Global, input: &[u8], faults: &mut Tried<F>) -> Res
     ensures answered { IfOk result (AnswersShow input.now) }
     ensures refused { IfErr result (RefusesText input.now) }
 {
-    let table = match read_table(alloc, input) {
-        Ok(table) => table,
+    let stated = match StatedTable::read(alloc, input) {
+        Ok(stated) => stated,
         Err(refusal) => return Err(refusal),
     };
-    note_dead_rules(&table, faults);
-    match shown_text(alloc, &table) {
+    note_dead_rules(&stated.table, faults);
+    match shown_text(alloc, &stated) {
         Ok(text) => Ok(Answer::Text(text.into_bytes())),
         Err(AllocError) => Err(Refusal::OutOfMemory),
     }
 }
 
 /// The lines of a table's rules, of `default` and of `other`.
-fn shown_text(alloc: Global, table: &Table) -> Result<String, AllocError>
-    ensures { IfOk result (λ text. string_bytes text ≡ shown_text table.now) }
+fn shown_text(alloc: Global, stated: &StatedTable) -> Result<String, AllocError>
+    ensures { IfOk result (λ text. string_bytes text ≡ shown_text stated.now) }
 {
     let mut text = String::new(alloc);
-    push_rules(&mut text, table.rules())?;
-    push_part(&mut text, "default", table.default(), DEFAULT_FRAMES)?;
-    push_part(&mut text, "other", table.other(), OTHER_FRAMES)?;
+    push_rules(&mut text, stated)?;
+    push_part(&mut text, "default", stated.table.default(), DEFAULT_FRAMES)?;
+    push_part(&mut text, "other", stated.table.other(), OTHER_FRAMES)?;
     Ok(text)
 }
 
 /// A line for each rule, in their order.
-fn push_rules(text: &mut String, rules: &[Rule]) -> Result<(), AllocError>
-    ensures { OnOk result (string_bytes text.new ≡ string_bytes text.old ++ words_of_rules rules.now) }
+fn push_rules(text: &mut String, stated: &StatedTable) -> Result<(), AllocError>
+    ensures { OnOk result (string_bytes text.new ≡ string_bytes text.old ++ words_of_rules stated.now) }
 {
+    let rules = stated.table.rules();
     for number in 0..rules.len() {
-        push_rule(text, number, &rules[number])?;
+        push_rule(text, stated, number, &rules[number])?;
     }
     Ok(())
 }
 
 /// The line of a rule.
-fn push_rule(text: &mut String, number: usize, rule: &Rule) -> Result<(), AllocError>
-    ensures { OnOk result (string_bytes text.new ≡ string_bytes text.old ++ rule_words number rule.now) }
+fn push_rule(
+    text: &mut String,
+    stated: &StatedTable,
+    number: usize,
+    rule: &Rule,
+) -> Result<(), AllocError>
+    ensures { OnOk result (string_bytes text.new ≡ string_bytes text.old ++ rule_words stated.now number rule.now) }
 {
+    push_name(text, stated, number)?;
     let action = action_word(rule.action);
-    write!(text, "rule {number}: {action}")?;
+    write!(text, ": {action}")?;
     push_ranges(text, rule)?;
     text.push_str("\n")
+}
+
+/// The number of a rule, and the line of the table's text at which it stands.
+fn push_name(text: &mut String, stated: &StatedTable, number: usize) -> Result<(), AllocError>
+    ensures { OnOk result (string_bytes text.new ≡ string_bytes text.old ++ rule_name stated.now number) }
+{
+    write!(text, "rule {number}")?;
+    match stated.line_of(number) {
+        Some(line) => write!(text, " (line {line})"),
+        None => Ok(()),
+    }
 }
 
 /// The ranges of a rule that leave something out.
@@ -131,7 +150,7 @@ fn is_whole(greatest: u32, range: Span) -> bool
 
 /// A range of parameter groups, unless each is in it.
 #[tactic(auto, unfolding(crate::specs::Shown::groups_text))]
-fn push_groups(text: &mut String, range: Span) -> Result<(), AllocError>
+pub(crate) fn push_groups(text: &mut String, range: Span) -> Result<(), AllocError>
     ensures { OnOk result (string_bytes text.new ≡ string_bytes text.old ++ groups_text range) }
 {
     if is_whole(GREATEST_GROUP, range) {
@@ -159,7 +178,7 @@ fn push_group_range(text: &mut String, range: Span) -> Result<(), AllocError>
 
 /// A range of addresses or ports, unless each is in it.
 #[tactic(auto, unfolding(crate::specs::Shown::numbers_text))]
-fn push_numbers(text: &mut String, word: &str, range: Span) -> Result<(), AllocError>
+pub(crate) fn push_numbers(text: &mut String, word: &str, range: Span) -> Result<(), AllocError>
     ensures { OnOk result (string_bytes text.new ≡ string_bytes text.old ++ numbers_text word.now range) }
 {
     let Span { low, high } = range;
