@@ -5,6 +5,7 @@ mod arguments;
 mod ask_arguments;
 mod diff_arguments;
 mod judge_arguments;
+mod port_files;
 mod run_arguments;
 mod taking_arguments;
 

@@ -3,6 +3,7 @@
 ghost use Rattle.std.specs.Prelude.{◌≡◌, length, vec_len, IfOk};
 
 use crate::arguments::{described, flag, matched, valued};
+use crate::port_files::{WordFault, port_file, told};
 use crate::taking_arguments::asked_interfaces;
 use clap::error::ErrorKind;
 use clap::{Arg, ArgAction, ArgMatches, Command, Error, value_parser};
@@ -74,14 +75,16 @@ pub fn run_arguments<'a>(alloc: Global) -> Result<Command<'a>, AllocError> {
 }
 
 fn ports_option<'a>(alloc: Global) -> Arg<'a> {
-    valued(
+    port_count(
         alloc,
-        "ports",
-        "N",
         "The number of ports, 2 to 16; frame i of a trace is taken at port i mod N",
     )
     .required(true)
-    .value_parser(value_parser!(u32).range(2..=MAX_PORTS as i64))
+}
+
+/// The option that tells how many ports a gateway has.
+pub(crate) fn port_count<'a>(alloc: Global, help: &'a str) -> Arg<'a> {
+    valued(alloc, "ports", "N", help).value_parser(value_parser!(u32).range(2..=MAX_PORTS as i64))
 }
 
 fn lane_option<'a>(alloc: Global) -> Arg<'a> {
@@ -105,7 +108,7 @@ fn interface_option<'a>(alloc: Global) -> Arg<'a> {
 }
 
 /// An option that names a file for a port, once for each.
-fn file_option<'a>(alloc: Global, name: &'a str, help: &'a str) -> Arg<'a> {
+pub(crate) fn file_option<'a>(alloc: Global, name: &'a str, help: &'a str) -> Arg<'a> {
     valued(alloc, name, "P=FILE", help).action(ArgAction::Append)
 }
 
@@ -185,7 +188,16 @@ fn name_files<'a>(
     for word in words {
         let (port, file) = match named_port(word, sources) {
             Ok(named) => named,
-            Err(fault) => return Err(wrong(alloc, &told(alloc, word, sources.len(), fault)?)),
+            Err(fault) => {
+                let text = told(
+                    alloc,
+                    word,
+                    sources.len(),
+                    fault,
+                    "one table or one listing",
+                )?;
+                return Err(wrong(alloc, &text));
+            }
         };
         if let Some(place) = sources.get_mut(port) {
             *place = match kind {
@@ -197,50 +209,12 @@ fn name_files<'a>(
     Ok(())
 }
 
-/// Why a word names no port and its file.
-#[derive(Clone, Copy)]
-enum WordFault<'a> {
-    /// It is no `P=FILE`.
-    NoFile,
-    /// The port is not there.
-    NoPort,
-    /// A file is named for this port before.
-    Twice(&'a str),
-}
-
-/// The port and the file of `P=FILE`, where the port is there and no file is named for it before.
-fn named_port<'a>(
-    word: &'a str,
-    sources: &[PolicySource],
-) -> Result<(usize, &'a str), WordFault<'a>> {
-    let Some((number, file)) = word.split_once('=') else {
-        return Err(WordFault::NoFile);
-    };
-    let Ok(port) = number.parse::<usize>() else {
-        return Err(WordFault::NoPort);
-    };
+/// The port and the file of `P=FILE`, where no file is named for the port before.
+fn named_port<'a>(word: &'a str, sources: &[PolicySource]) -> Result<(usize, &'a str), WordFault> {
+    let (port, file) = port_file(word, sources.len())?;
     match sources.get(port) {
-        Some(PolicySource::Table(_) | PolicySource::Listing(_)) => Err(WordFault::Twice(number)),
-        Some(_) => Ok((port, file)),
-        None => Err(WordFault::NoPort),
-    }
-}
-
-/// What is told of a word that names no one of so many ports.
-fn told(alloc: Global, word: &str, ports: usize, fault: WordFault) -> Result<String, AllocError> {
-    match fault {
-        WordFault::NoFile => format!(in alloc;
-            "`{word}` is no `P=FILE`: write the number of a port, `=` and the name of a file"
-        ),
-        WordFault::NoPort => {
-            let most = ports.saturating_sub(1);
-            format!(in alloc;
-                "`{word}` names no port of {ports}: write a number from 0 to {most} before the `=`"
-            )
-        }
-        WordFault::Twice(port) => format!(in alloc;
-            "port {port} is named twice: give it one table or one listing"
-        ),
+        Some(PolicySource::Table(_) | PolicySource::Listing(_)) => Err(WordFault::Twice(port)),
+        _ => Ok((port, file)),
     }
 }
 

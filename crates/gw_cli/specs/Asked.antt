@@ -8,10 +8,12 @@ use Rattle.gw_commands.specs.Commands.{Does, Writes, WritesText}
 use Rattle.gw_run.specs.Forwarding.{ForwardsNamed}
 use Rattle.gw_run.specs.declared.taking.Taking.{Taking}
 use Rattle.gw_commands.specs.Differences.{ComparesNamed}
+use Rattle.gw_commands.specs.PortDifferences.{ComparesNamedPorts}
 use Rattle.gw_commands.specs.Judgings.{JudgesNamed}
 use Rattle.gw_commands.specs.LogDifferences.{DiffsNamed}
 use Rattle.gw_commands.specs.Replays.{Replays}
 use Rattle.gw_commands.specs.Queries.{AnswersNamed, AnswersQuery, RefusesQuery, tells_blocked}
+use Rattle.gw_commands.specs.declared.diff_ports_command.PortFiles.{PortFiles}
 use Rattle.gw_commands.specs.declared.judge_command.LogQuery.{LogQuery}
 use Rattle.gw_commands.specs.declared.query.Query.{Query}
 use Rattle.gw_commands.specs.declared.policies.PolicySource.{PolicySource}
@@ -67,11 +69,12 @@ JudgesWords before after failed old new write_failed told_old told_new tell_fail
     ((query : LogQuery) × JudgesNamed query before after failed old new write_failed status)
     ⊎ OnlyAnswersWords before after old new write_failed told_old told_new tell_failed status
 
--- the tables of two files were compared, over every frame and nothing was read, or on a log, or a file or a table was refused; or
--- the arguments were answered and nothing was read
+-- the tables of two files, or of a gateway's ports, were compared over every frame, and nothing was read; or those of two files
+-- on a log; or a file or a table was refused; or the arguments were answered and nothing was read
 abbrev pub ComparesWords : Option (List ℕ) → Option (List ℕ) → Bool → Option (List ℕ) → Option (List ℕ) → Bool
     → Option (List ℕ) → Option (List ℕ) → Bool → ℕ → Type 0
 ComparesWords before after failed old new write_failed told_old told_new tell_failed status =
     ((after ≡ before) × ComparesNamed old new write_failed status)
+    ⊎ ((files : List PortFiles) × (after ≡ before) × ComparesNamedPorts files old new write_failed status)
     ⊎ ((port : ℕ) × DiffsNamed port before after failed old new write_failed status)
     ⊎ OnlyAnswersWords before after old new write_failed told_old told_new tell_failed status

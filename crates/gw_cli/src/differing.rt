@@ -5,8 +5,8 @@ ghost use Rattle.gw_io.specs.Tries.{inner_of, has_failed};
 ghost use Rattle.gw_cli.specs.Asked.{ComparesWords};
 
 use crate::dispatch::answer_words;
-use gw_arguments::read_diff;
-use gw_commands::{diff_log_named, diff_named};
+use gw_arguments::{DiffRequest, read_diff};
+use gw_commands::{diff_log_named, diff_named, diff_ports_named};
 use gw_io::Tried;
 use std::alloc::Global;
 use std::convert::AsStr;
@@ -32,10 +32,13 @@ pub fn diff_command<R: Files, S: AsStr, I: Read, W: Write, F: Write>(
         (F.contents (inner_of faults.old)) (F.contents (inner_of faults.new)) (has_failed faults.new) result }
 {
     match read_diff(alloc, words) {
-        Ok(asked) => match asked.log {
-            Some(port) => diff_log_named(rt, alloc, asked.files, port, input, output, faults),
-            None => diff_named(rt, alloc, asked.files, output, faults),
-        },
+        Ok(DiffRequest::Tables(files)) => diff_named(rt, alloc, files, output, faults),
+        Ok(DiffRequest::Log(files, port)) => {
+            diff_log_named(rt, alloc, files, port, input, output, faults)
+        }
+        Ok(DiffRequest::Ports(files)) => {
+            diff_ports_named(rt, alloc, files.as_slice(), output, faults)
+        }
         Err(error) => answer_words(alloc, &error, output, faults),
     }
 }

@@ -5,6 +5,8 @@ pub mod EndedEarly
 pub mod LogEnds
 pub mod LogTexts
 pub mod PathsTold
+pub mod PlaceByPlace
+pub mod PortsTold
 pub mod RefusalTexts
 pub mod ShownTexts
 pub mod TextsInOrder

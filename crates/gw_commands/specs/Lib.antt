@@ -5,6 +5,7 @@ pub mod Checks
 pub mod ClaimLines
 pub mod Commands
 pub mod Differences
+pub mod PortDifferences
 pub mod Frames
 pub mod Judgings
 pub mod LogCounts

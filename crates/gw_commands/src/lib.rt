@@ -7,7 +7,9 @@ mod ask_command;
 mod asm_command;
 mod check_command;
 mod claims_command;
+mod crossing_lines;
 mod diff_command;
+mod diff_ports_command;
 mod difference_lines;
 mod explanation;
 mod files;
@@ -32,6 +34,7 @@ mod verdict_command;
 
 pub use answer::Answer;
 pub use diff_command::{TableFiles, diff_named, diff_texts};
+pub use diff_ports_command::{PortFiles, PortTexts, diff_ports, diff_ports_named};
 pub use files::read_file;
 pub use frames::FrameWord;
 pub use gw_judge::Grouping;

@@ -10,7 +10,8 @@ use crate::programs::{
 };
 use crate::runs::{make_threads, make_threads_from};
 use crate::tables::{
-    make_absorb, make_answers, make_compile, make_differences, make_from_table, make_read_table,
+    make_absorb, make_answers, make_compile, make_crossings, make_differences, make_from_table,
+    make_read_table,
 };
 use crate::traces::{make_feed, make_frames};
 use std::alloc::Global;
@@ -46,6 +47,8 @@ pub enum Call {
     Differences,
     /// `Table::answers`.
     Answers,
+    /// `crossings`.
+    Crossings,
     /// `Policy::from_table`.
     FromTable,
     /// `PolicySet::absorb`, which copies an `Arc` and so takes no memory of the allocator.
@@ -78,7 +81,7 @@ pub enum Call {
 
 impl Call {
     /// Every call.
-    pub const ALL: [Call; 26] = [
+    pub const ALL: [Call; 27] = [
         Call::ReadListing,
         Call::ReadCutListing,
         Call::WriteListing,
@@ -91,6 +94,7 @@ impl Call {
         Call::Compile,
         Call::Differences,
         Call::Answers,
+        Call::Crossings,
         Call::FromTable,
         Call::Absorb,
         Call::NewCore,
@@ -122,6 +126,7 @@ impl Call {
             Call::Compile => "compile",
             Call::Differences => "differences",
             Call::Answers => "answers",
+            Call::Crossings => "crossings",
             Call::FromTable => "from_table",
             Call::Absorb => "absorb",
             Call::NewCore => "core_new",
@@ -164,6 +169,7 @@ impl Call {
             Call::Compile => make_compile(alloc, output),
             Call::Differences => make_differences(alloc, output),
             Call::Answers => make_answers(alloc, output),
+            Call::Crossings => make_crossings(alloc, output),
             Call::FromTable => make_from_table(alloc, output),
             Call::Absorb => make_absorb(alloc, output),
             Call::NewCore => make_core(alloc, output),

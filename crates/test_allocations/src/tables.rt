@@ -5,7 +5,7 @@ use crate::fault::Fault;
 use crate::inputs::{ENGINE_SPEED, PASS, PORT, batch_of, say_ready};
 use gw_frame::Frame;
 use gw_policy::{Policy, PolicySet};
-use gw_table::{Answer as Answered, Question, Span, Table, compile};
+use gw_table::{Answer as Answered, Change, Question, Span, Table, compile, crossings};
 use std::alloc::Global;
 use std::io::Write;
 
@@ -116,6 +116,20 @@ pub fn make_answers<W: Write>(alloc: Global, output: &mut W) -> Result<Answer, F
     say_ready(output)?;
     Ok(match table.answers(alloc, &of_group) {
         Ok(found) => Answer::Count(samples_of(&found), "samples"),
+        Err(_) => Answer::OUT_OF_MEMORY,
+    })
+}
+
+pub fn make_crossings<W: Write>(alloc: Global, output: &mut W) -> Result<Answer, Fault> {
+    let old = Table::read(alloc, TABLE).map_err(|_| Fault::Unprepared)?;
+    let new = Table::read(alloc, INDEXED).map_err(|_| Fault::Unprepared)?;
+    let change = Change {
+        old: &old,
+        new: &new,
+    };
+    say_ready(output)?;
+    Ok(match crossings(alloc, &[change, change]) {
+        Ok(found) => Answer::Count(found.len(), "crossings"),
         Err(_) => Answer::OUT_OF_MEMORY,
     })
 }
