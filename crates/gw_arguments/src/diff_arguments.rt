@@ -10,33 +10,45 @@ use std::convert::AsStr;
 
 /// The command `diff`, as `clap` reads it and shows its help.
 pub fn diff_arguments<'a>(alloc: Global) -> Result<Command<'a>, AllocError> {
-    described(
+    let command = described(
         alloc,
         "diff",
         "Compares two policy tables, or the tables of a gateway's ports: `alike`, or each pair of rules that decide some frame \
         unlike, with an example",
         "gw diff ([--log [--port P]] OLD.toml NEW.toml | --ports N [--old P=FILE].. [--new P=FILE]..)",
         "Example: gw diff examples/display.toml examples/display-others.toml",
-    )
-    .arg(table_file(alloc, "old-file", "OLD.toml", "The file of the old table")?)?
-    .arg(table_file(alloc, "new-file", "NEW.toml", "The file of the new table")?)?
-    .arg(flag(
+    );
+    let command = with_tables(alloc, command)?;
+    with_ports(alloc, command)
+}
+
+/// The command with the files of two tables, and the options that compare them on a log.
+fn with_tables<'a>(alloc: Global, command: Command<'a>) -> Result<Command<'a>, AllocError> {
+    let old = table_file(alloc, "old-file", "OLD.toml", "The file of the old table")?;
+    let new = table_file(alloc, "new-file", "NEW.toml", "The file of the new table")?;
+    let port = ingress_port(alloc).requires_arg("log")?;
+    let log = flag(
         alloc,
         "log",
         "Compares them on the log on the standard input: writes each line whose frame they treat unlike, behind what NEW does",
-    ))?
-    .arg(ingress_port(alloc).requires_arg("log")?)?
-    .arg(gateway_ports(alloc)?)?
-    .arg(side_file(
+    );
+    command.arg(old)?.arg(new)?.arg(log)?.arg(port)
+}
+
+/// The command with the options that name the tables of a gateway's ports.
+fn with_ports<'a>(alloc: Global, command: Command<'a>) -> Result<Command<'a>, AllocError> {
+    let ports = gateway_ports(alloc)?;
+    let old = side_file(
         alloc,
         "old",
         "The table that decided what leaves at port P, once for each port; a port without one let nothing leave",
-    )?)?
-    .arg(side_file(
+    )?;
+    let new = side_file(
         alloc,
         "new",
         "The table that is to decide it; a port without one will let nothing leave",
-    )?)
+    )?;
+    command.arg(ports)?.arg(old)?.arg(new)
 }
 
 /// How many ports a gateway has, whose tables are compared.
