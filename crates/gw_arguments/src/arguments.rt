@@ -1,6 +1,7 @@
 //! The arguments of the command line.
 
 use crate::ask_arguments::{ask_arguments, asked_question};
+use crate::building::Building;
 use crate::diff_arguments::diff_arguments;
 use crate::judge_arguments::judge_arguments;
 use crate::run_arguments::{run_arguments, wrong};
@@ -85,8 +86,8 @@ pub fn reading<'a>(
     about: &'a str,
     usage: &'a str,
     example: &'a str,
-) -> Result<Command<'a>, AllocError> {
-    described(alloc, name, about, usage, example).arg(input_file(alloc))
+) -> Building<'a> {
+    Building::of(described(alloc, name, about, usage, example)).arg(input_file(alloc))
 }
 
 /// The option that has the exit status tell that a frame is blocked.
@@ -98,14 +99,14 @@ fn exit_code<'a>(alloc: Global) -> Arg<'a> {
     )
 }
 
+/// The group of the arguments that say a frame: that of this name, and candump's form.
+fn said_group<'a>(alloc: Global, record: &'a str) -> Result<ArgGroup<'a>, AllocError> {
+    ArgGroup::new(alloc, SAID).arg(record)?.arg("can")
+}
+
 /// The command with the option that says a frame in candump's form, in place of the argument of this name.
-fn with_can<'a>(
-    alloc: Global,
-    command: Command<'a>,
-    record: &'a str,
-) -> Result<Command<'a>, AllocError> {
-    let group = ArgGroup::new(alloc, SAID).arg(record)?.arg("can")?;
-    command.group(group)?.arg(valued(
+fn with_can<'a>(alloc: Global, command: Building<'a>, record: &'a str) -> Building<'a> {
+    command.group(said_group(alloc, record)).arg(valued(
         alloc,
         "can",
         "FRAME",
@@ -117,20 +118,22 @@ fn verdict_command<'a>(alloc: Global) -> Result<Command<'a>, AllocError> {
     let record = Arg::new(alloc, "record").value_name("HEX").help(
         "The record in hexadecimal digits; without it, the first line of the input is the record",
     );
-    let command = described(
+    let listing = input_file(alloc).long("listing").help(
+        "The file with the listing, in place of the standard input",
+    );
+    let command = Building::of(described(
         alloc,
         "verdict",
         "Runs a program's listing on a record: `pass <answer>` or `block`",
         "gw verdict [(HEX | --can FRAME) [--listing FILE]] [--port P] [--exit-code]",
         "Example: gw verdict 98FEF10008000000FFFFFFFFFFFFFFFF <<< '4,48 0 0 1,21 0 1 254,6 0 0 1,6 0 0 0,'",
-    )
-    .arg(ingress_port(alloc))?
-    .arg(record)?
-    .arg(exit_code(alloc))?;
-    let listing = input_file(alloc).long("listing").help(
-        "The file with the listing, in place of the standard input",
-    );
-    with_can(alloc, command, "record")?.arg(listing.requires_arg(SAID)?)
+    ))
+    .arg(ingress_port(alloc))
+    .arg(record)
+    .arg(exit_code(alloc));
+    with_can(alloc, command, "record")
+        .made_arg(listing.requires_arg(SAID))
+        .done()
 }
 
 fn table_command<'a>(alloc: Global) -> Result<Command<'a>, AllocError> {
@@ -145,28 +148,26 @@ fn table_command<'a>(alloc: Global) -> Result<Command<'a>, AllocError> {
         "why",
         "Tells on stderr which rule decides the frame, counted from 0",
     );
-    let command = described(
+    let show = flag(
+        alloc,
+        "show",
+        "Tells in words what each rule says, in place of the program's listing",
+    );
+    let command = reading(
         alloc,
         "table",
         "Compiles a policy table to a program's listing, or tells `pass` or `block` for a frame",
         "gw table [FILE] [--show | (--frame HEX | --can FRAME) [--why] [--exit-code]] [--port P]",
         "Example: gw table examples/diagnostics-port.toml --port 1 --can 18EA00F9#EBFE00",
     )
-    .arg(ingress_port(alloc))?
-    .arg(frame)?
-    .arg(input_file(alloc))?;
-    let show = flag(
-        alloc,
-        "show",
-        "Tells in words what each rule says, in place of the program's listing",
-    );
-    with_can(alloc, command, "frame")?
-        .arg(show.conflicts_with(SAID)?)?
-        .arg(why.requires_arg(SAID)?)?
-        .arg(exit_code(alloc).requires_arg(SAID)?)
+    .arg(ingress_port(alloc))
+    .arg(frame);
+    with_can(alloc, command, "frame")
+        .made_arg(show.conflicts_with(SAID))
+        .made_arg(why.requires_arg(SAID))
+        .made_arg(exit_code(alloc).requires_arg(SAID))
+        .done()
 }
-
-// A function has few commands in hand: each `?` behind them pays for letting them go.
 
 /// The program without its commands.
 fn bare_program<'a>(alloc: Global) -> Command<'a> {
@@ -185,54 +186,60 @@ fn bare_program<'a>(alloc: Global) -> Command<'a> {
 }
 
 /// The program with the commands that take a file alone, or nothing, behind those that it has.
-fn with_plain<'a>(alloc: Global, program: Command<'a>) -> Result<Command<'a>, AllocError> {
+fn with_plain<'a>(alloc: Global, program: Building<'a>) -> Building<'a> {
+    let check = reading(
+        alloc,
+        "check",
+        "Checks a program's listing: `accepted <count>`, or why it is refused",
+        "gw check [FILE]",
+        "Example: gw check <<< '2,48 0 0 1,22 0 0 0,'",
+    );
+    let asm = reading(
+        alloc,
+        "asm",
+        "Assembles a program's text to its listing",
+        "gw asm [FILE]",
+        "Example: gw asm examples/speed-limit.asm",
+    );
+    let list = reading(
+        alloc,
+        "list",
+        "Writes the text of a listing's program, which `asm` reads back",
+        "gw list [FILE]",
+        "Example: gw list <<< '2,48 0 0 1,22 0 0 0,'",
+    );
+    let claims = reading(
+        alloc,
+        "claims",
+        "Tells who holds which address after the records heard, one in hexadecimal digits a line",
+        "gw claims [FILE]",
+        "Example: gw claims <<< 98EEFF80080000000500000000000000",
+    );
+    let replay = described(
+        alloc,
+        "replay",
+        "Runs a script of a gateway's events, and writes the answer of each line",
+        "gw replay < SCRIPT",
+        "Example: gw replay < examples/replay/full-lane.script",
+    );
     program
-        .subcommand(reading(
-            alloc,
-            "check",
-            "Checks a program's listing: `accepted <count>`, or why it is refused",
-            "gw check [FILE]",
-            "Example: gw check <<< '2,48 0 0 1,22 0 0 0,'",
-        )?)?
-        .subcommand(reading(
-            alloc,
-            "asm",
-            "Assembles a program's text to its listing",
-            "gw asm [FILE]",
-            "Example: gw asm examples/speed-limit.asm",
-        )?)?
-        .subcommand(reading(
-            alloc,
-            "list",
-            "Writes the text of a listing's program, which `asm` reads back",
-            "gw list [FILE]",
-            "Example: gw list <<< '2,48 0 0 1,22 0 0 0,'",
-        )?)?
-        .subcommand(reading(
-            alloc,
-            "claims",
-            "Tells who holds which address after the records heard, one in hexadecimal digits a line",
-            "gw claims [FILE]",
-            "Example: gw claims <<< 98EEFF80080000000500000000000000",
-        )?)?
-        .subcommand(described(
-            alloc,
-            "replay",
-            "Runs a script of a gateway's events, and writes the answer of each line",
-            "gw replay < SCRIPT",
-            "Example: gw replay < examples/replay/full-lane.script",
-        ))
+        .subcommand(check.done())
+        .subcommand(asm.done())
+        .subcommand(list.done())
+        .subcommand(claims.done())
+        .subcommand(Ok(replay))
 }
 
 /// The commands, as `clap` reads them and shows their help.
 fn commands<'a>(alloc: Global) -> Result<Command<'a>, AllocError> {
-    let program = bare_program(alloc).subcommand(verdict_command(alloc)?)?;
-    with_plain(alloc, program)?
-        .subcommand(table_command(alloc)?)?
-        .subcommand(ask_arguments(alloc)?)?
-        .subcommand(diff_arguments(alloc)?)?
-        .subcommand(judge_arguments(alloc)?)?
-        .subcommand(run_arguments(alloc)?)
+    let program = Building::of(bare_program(alloc)).subcommand(verdict_command(alloc));
+    with_plain(alloc, program)
+        .subcommand(table_command(alloc))
+        .subcommand(ask_arguments(alloc))
+        .subcommand(diff_arguments(alloc))
+        .subcommand(judge_arguments(alloc))
+        .subcommand(run_arguments(alloc))
+        .done()
 }
 
 /// What `clap` finds in the arguments, or its answer to them: help, or what is wrong.
@@ -245,16 +252,23 @@ pub fn matched<'a, S: AsStr>(alloc: Global, words: &'a [S]) -> Result<ArgMatches
 pub fn read_arguments<'a, S: AsStr>(alloc: Global, words: &'a [S]) -> Result<Request<'a>, Error> {
     let matches = matched(alloc, words)?;
     match matches.subcommand() {
-        Some(("replay", _)) => Ok(Request::Replay),
-        Some(("run", _)) => Err(wrong(alloc, "`run` must be the first word")),
-        Some(("judge", _)) => Err(wrong(alloc, "`judge` must be the first word")),
-        Some(("diff", _)) => Err(wrong(alloc, "`diff` must be the first word")),
-        Some(("ask", found)) => {
+        Some((name, found)) => asked(alloc, name, found),
+        None => Ok(Request::Query(Query::Check)),
+    }
+}
+
+/// What the arguments behind the name of a command ask for.
+fn asked<'a>(alloc: Global, name: &str, found: &ArgMatches<'a>) -> Result<Request<'a>, Error> {
+    match name {
+        "replay" => Ok(Request::Replay),
+        "run" => Err(wrong(alloc, "`run` must be the first word")),
+        "judge" => Err(wrong(alloc, "`judge` must be the first word")),
+        "diff" => Err(wrong(alloc, "`diff` must be the first word")),
+        "ask" => {
             let question = asked_question(alloc, found)?;
             Ok(on_input(Query::Ask(question), found))
         }
-        Some((name, found)) => Ok(on_input(named_query(name, found), found)),
-        None => Ok(Request::Query(Query::Check)),
+        _ => Ok(on_input(named_query(name, found), found)),
     }
 }
 

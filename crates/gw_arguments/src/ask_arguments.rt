@@ -27,31 +27,32 @@ pub fn ask_arguments<'a>(alloc: Global) -> Result<Command<'a>, AllocError> {
         "Tells whether a policy table passes all frames that are asked for, or none, or shows a frame of each kind",
         "gw ask [FILE] [--pgn A[-B]] [--source A[-B]] [--destination A[-B]] [--from P[-Q]]",
         "Example: gw ask examples/engine-control.toml --pgn 0 --destination 0 --from 1",
-    )?
+    )
     .arg(valued(
         alloc,
         "pgn",
         "A[-B]",
         "The parameter groups asked for, a number or a range, 0 to 262143 or 0x3FFFF [default: every frame, with a group or not]",
-    ))?
+    ))
     .arg(valued(
         alloc,
         "source",
         "A[-B]",
         "The source addresses asked for, 0 to 255",
-    ))?
+    ))
     .arg(valued(
         alloc,
         "destination",
         "A[-B]",
         "The destinations asked for, 0 to 255; frames of PDU format 240 and above go to 255 alone",
-    ))?
+    ))
     .arg(valued(
         alloc,
         "from",
         "P[-Q]",
         "The ports asked for at which the frame was taken, 0 to 15 [default: each]",
     ))
+    .done()
 }
 
 /// What the arguments behind `ask` ask of a table.

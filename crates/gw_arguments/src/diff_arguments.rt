@@ -1,6 +1,7 @@
 //! The arguments of `gw diff`.
 
 use crate::arguments::{described, flag, ingress_port, matched};
+use crate::building::Building;
 use crate::port_files::{WordFault, port_file, told};
 use crate::run_arguments::{file_option, port_count, wrong_in};
 use clap::{Arg, ArgMatches, Command, Error};
@@ -18,37 +19,41 @@ pub fn diff_arguments<'a>(alloc: Global) -> Result<Command<'a>, AllocError> {
         "gw diff ([--log [--port P]] OLD.toml NEW.toml | --ports N [--old P=FILE].. [--new P=FILE]..)",
         "Example: gw diff examples/display.toml examples/display-others.toml",
     );
-    let command = with_tables(alloc, command)?;
-    with_ports(alloc, command)
+    with_ports(alloc, with_tables(alloc, Building::of(command))).done()
 }
 
 /// The command with the files of two tables, and the options that compare them on a log.
-fn with_tables<'a>(alloc: Global, command: Command<'a>) -> Result<Command<'a>, AllocError> {
-    let old = table_file(alloc, "old-file", "OLD.toml", "The file of the old table")?;
-    let new = table_file(alloc, "new-file", "NEW.toml", "The file of the new table")?;
-    let port = ingress_port(alloc).requires_arg("log")?;
+fn with_tables<'a>(alloc: Global, command: Building<'a>) -> Building<'a> {
+    let old = table_file(alloc, "old-file", "OLD.toml", "The file of the old table");
+    let new = table_file(alloc, "new-file", "NEW.toml", "The file of the new table");
     let log = flag(
         alloc,
         "log",
         "Compares them on the log on the standard input: writes each line whose frame they treat unlike, behind what NEW does",
     );
-    command.arg(old)?.arg(new)?.arg(log)?.arg(port)
+    command
+        .made_arg(old)
+        .made_arg(new)
+        .arg(log)
+        .made_arg(ingress_port(alloc).requires_arg("log"))
 }
 
 /// The command with the options that name the tables of a gateway's ports.
-fn with_ports<'a>(alloc: Global, command: Command<'a>) -> Result<Command<'a>, AllocError> {
-    let ports = gateway_ports(alloc)?;
+fn with_ports<'a>(alloc: Global, command: Building<'a>) -> Building<'a> {
     let old = side_file(
         alloc,
         "old",
         "The table that decided what leaves at port P, once for each port; a port without one let nothing leave",
-    )?;
+    );
     let new = side_file(
         alloc,
         "new",
         "The table that is to decide it; a port without one will let nothing leave",
-    )?;
-    command.arg(ports)?.arg(old)?.arg(new)
+    );
+    command
+        .made_arg(gateway_ports(alloc))
+        .made_arg(old)
+        .made_arg(new)
 }
 
 /// How many ports a gateway has, whose tables are compared.
@@ -93,9 +98,14 @@ pub enum DiffRequest<'a> {
 /// What is asked for, where the arguments name the command `diff`, or `clap`'s answer to them: help, or what is wrong.
 pub fn read_diff<'a, S: AsStr>(alloc: Global, words: &'a [S]) -> Result<DiffRequest<'a>, Error> {
     let matches = matched(alloc, words)?;
-    let Some(("diff", found)) = matches.subcommand() else {
-        return Err(wrong(alloc, "this is not the command `diff`"));
-    };
+    match matches.subcommand() {
+        Some(("diff", found)) => asked(alloc, found),
+        _ => Err(wrong(alloc, "this is not the command `diff`")),
+    }
+}
+
+/// What the arguments behind `diff` ask for.
+fn asked<'a>(alloc: Global, found: &ArgMatches<'a>) -> Result<DiffRequest<'a>, Error> {
     if let Some(ports) = found.get_one::<u32>("ports") {
         return Ok(DiffRequest::Ports(asked_files(alloc, found, ports as usize)?));
     }

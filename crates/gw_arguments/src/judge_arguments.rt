@@ -1,6 +1,7 @@
 //! The arguments of `gw judge`.
 
 use crate::arguments::{described, flag, ingress_port, matched, valued};
+use crate::building::Building;
 use crate::run_arguments::wrong;
 use clap::{Arg, ArgGroup, ArgMatches, Command, Error};
 use gw_commands::{Grouping, LogQuery, PolicyKind, Shown};
@@ -24,30 +25,31 @@ pub fn judge_arguments<'a>(alloc: Global) -> Result<Command<'a>, AllocError> {
         "gw judge (--table FILE | --listing FILE) [--port P] [--by WHAT | --passed | --blocked | --each] [--strict] < LOG",
         "Example: gw judge --table examples/display.toml < examples/traces/diagnostics.log",
     );
-    let command = with_policy(alloc, command)?;
-    let command = command.arg(counted_by(alloc)?)?;
-    let command = with_shown(alloc, command)?;
-    with_taking(alloc, command)
+    let command = with_policy(alloc, Building::of(command)).made_arg(counted_by(alloc));
+    with_taking(alloc, with_shown(alloc, command)).done()
 }
 
 /// The command with the options that name the policy's file, of which one is given.
-fn with_policy<'a>(alloc: Global, command: Command<'a>) -> Result<Command<'a>, AllocError> {
-    let group = ArgGroup::new(alloc, "policy").required(true);
-    let group = group.arg("table")?.arg("listing")?;
+fn with_policy<'a>(alloc: Global, command: Building<'a>) -> Building<'a> {
     command
-        .group(group)?
+        .group(policy_group(alloc))
         .arg(valued(
             alloc,
             "table",
             "FILE",
             "A file with the policy table that decides each frame",
-        ))?
+        ))
         .arg(valued(
             alloc,
             "listing",
             "FILE",
             "A file with a program's listing that decides each frame",
         ))
+}
+
+fn policy_group<'a>(alloc: Global) -> Result<ArgGroup<'a>, AllocError> {
+    let group = ArgGroup::new(alloc, "policy").required(true);
+    group.arg("table")?.arg("listing")
 }
 
 /// The option that says in which groups frames are counted.
@@ -63,21 +65,19 @@ fn counted_by<'a>(alloc: Global) -> Result<Arg<'a>, AllocError> {
 }
 
 /// The command with the options that say which lines are written, of which one at most is given.
-fn with_shown<'a>(alloc: Global, command: Command<'a>) -> Result<Command<'a>, AllocError> {
-    let group = ArgGroup::new(alloc, "shown");
-    let group = group.arg("passed")?.arg("blocked")?.arg("each")?;
+fn with_shown<'a>(alloc: Global, command: Building<'a>) -> Building<'a> {
     command
-        .group(group)?
+        .group(shown_group(alloc))
         .arg(flag(
             alloc,
             "passed",
             "Writes the lines whose frame passes, unchanged, in place of the counts",
-        ))?
+        ))
         .arg(flag(
             alloc,
             "blocked",
             "Writes the lines whose frame is blocked, unchanged, in place of the counts",
-        ))?
+        ))
         .arg(flag(
             alloc,
             "each",
@@ -85,9 +85,14 @@ fn with_shown<'a>(alloc: Global, command: Command<'a>) -> Result<Command<'a>, Al
         ))
 }
 
+fn shown_group<'a>(alloc: Global) -> Result<ArgGroup<'a>, AllocError> {
+    let group = ArgGroup::new(alloc, "shown");
+    group.arg("passed")?.arg("blocked")?.arg("each")
+}
+
 /// The command with the options that say how frames were taken, and what ends the judging.
-fn with_taking<'a>(alloc: Global, command: Command<'a>) -> Result<Command<'a>, AllocError> {
-    command.arg(ingress_port(alloc))?.arg(flag(
+fn with_taking<'a>(alloc: Global, command: Building<'a>) -> Building<'a> {
+    command.arg(ingress_port(alloc)).arg(flag(
         alloc,
         "strict",
         "Ends with the first line that says no classic frame; without it such lines are counted",

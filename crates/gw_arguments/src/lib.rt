@@ -3,6 +3,7 @@
 
 mod arguments;
 mod ask_arguments;
+mod building;
 mod diff_arguments;
 mod judge_arguments;
 mod port_files;

@@ -3,6 +3,7 @@
 ghost use Rattle.std.specs.Prelude.{◌≡◌, length, vec_len, IfOk};
 
 use crate::arguments::{described, flag, matched, valued};
+use crate::building::Building;
 use crate::port_files::{WordFault, port_file, told};
 use crate::taking_arguments::asked_interfaces;
 use clap::error::ErrorKind;
@@ -33,7 +34,7 @@ pub struct RunRequest<'a> {
 
 /// The command `run`, as `clap` reads it and shows its help.
 pub fn run_arguments<'a>(alloc: Global) -> Result<Command<'a>, AllocError> {
-    described(
+    Building::of(described(
         alloc,
         "run",
         "Forwards the frames of a trace or a log in threads, and tells what each port took and what of it the others let leave",
@@ -42,36 +43,37 @@ pub fn run_arguments<'a>(alloc: Global) -> Result<Command<'a>, AllocError> {
         "A port's line counts the frames taken there; those of them that were for its own segment, as local; and as allowed the \
         copies of its frames that the policies of other ports let leave there.\n\
         Example: gw run --ports 2 --program '1,6 0 0 1,' < TRACE",
-    )
-    .arg(ports_option(alloc))?
-    .arg(lane_option(alloc))?
+    ))
+    .arg(ports_option(alloc))
+    .arg(lane_option(alloc))
     .arg(valued(
         alloc,
         "program",
         "LISTING",
         "The listing of a program that decides what leaves at each port that no other option names",
-    ))?
+    ))
     .arg(file_option(
         alloc,
         "table",
         "A table that decides what leaves at port P; once for each port",
-    ))?
+    ))
     .arg(file_option(
         alloc,
         "listing",
         "A file with a program's listing that decides what leaves at port P; once for each port",
-    ))?
-    .arg(interface_option(alloc))?
+    ))
+    .arg(interface_option(alloc))
     .arg(flag(
         alloc,
         "lanes",
         "Tells behind the ports what was placed and lost on the way from each port to each other",
-    ))?
+    ))
     .arg(flag(
         alloc,
         "progress",
         "Tells on stderr, once a second, how many frames are done",
     ))
+    .done()
 }
 
 fn ports_option<'a>(alloc: Global) -> Arg<'a> {
