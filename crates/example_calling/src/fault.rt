@@ -30,48 +30,35 @@ pub enum Fault {
     NotClosed(CloseRefusal),
     /// 86: no thread could be started.
     NoThread,
-    /// A write failed.
+    /// 99: a write failed.
     WriteFailed,
+}
+
+impl Fault {
+    /// The number by which the fault is known.
+    fn number(&self) -> u32 {
+        match self {
+            Fault::Record(why) => why.number(),
+            Fault::Listing(why) => why.number(),
+            Fault::Program { why, .. } => why.number(),
+            Fault::Table(why) => why.number(),
+            Fault::OutOfMemory => 100,
+            Fault::NotMade(why) => why.number(),
+            Fault::NotPublished(why) => why.number(),
+            Fault::NotTaken(why) => why.number(),
+            Fault::NotClosed(why) => why.number(),
+            Fault::NoThread => 86,
+            Fault::WriteFailed => 99,
+        }
+    }
 }
 
 impl Display for Fault {
     fn fmt<W: fmt::Write>(&self, f: &mut Formatter<W>) -> fmt::Result {
+        let number = self.number();
         match self {
-            Fault::Record(why) => {
-                let number = why.number();
-                write!(f, "refused {number}")
-            }
-            Fault::Listing(why) => {
-                let number = why.number();
-                write!(f, "refused {number}")
-            }
-            Fault::Program { why, place } => {
-                let number = why.number();
-                write!(f, "refused {number} {place}")
-            }
-            Fault::Table(why) => {
-                let number = why.number();
-                write!(f, "refused {number}")
-            }
-            Fault::OutOfMemory => f.write_str("refused 100"),
-            Fault::NotMade(why) => {
-                let number = why.number();
-                write!(f, "refused {number}")
-            }
-            Fault::NotPublished(why) => {
-                let number = why.number();
-                write!(f, "refused {number}")
-            }
-            Fault::NotTaken(why) => {
-                let number = why.number();
-                write!(f, "refused {number}")
-            }
-            Fault::NotClosed(why) => {
-                let number = why.number();
-                write!(f, "refused {number}")
-            }
-            Fault::NoThread => f.write_str("refused 86"),
-            Fault::WriteFailed => f.write_str("a write failed"),
+            Fault::Program { place, .. } => write!(f, "refused {number} {place}"),
+            _ => write!(f, "refused {number}"),
         }
     }
 }

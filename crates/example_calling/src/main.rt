@@ -15,7 +15,7 @@ mod threads;
 use every_order::finished;
 use fault::Fault;
 use gateway::{batch_for, judge};
-use j1939_gateway::{Frame, FrameCopy, Outcome};
+use j1939_gateway::{Batch, Frame, FrameCopy, Outcome, Report};
 use policies::{program_policy, table_policy};
 use replacing::replace_between;
 use std::alloc::Global;
@@ -95,18 +95,27 @@ fn verdict_word(passes: bool) -> &'static str {
 /// Writes a line for each offer of EEC1: before the table that is port 1's policy is replaced by the program, and after.
 fn tell_outcomes<R: Wait, W: Write>(rt: &R, alloc: Global, output: &mut W) -> Result<(), Fault> {
     let frame = Frame::read(&EEC1).map_err(|why| Fault::Record(why))?;
-    let table = batch_for(alloc, PORT, table_policy(alloc, TABLE)?)?;
-    let program = batch_for(alloc, PORT, program_policy(alloc, PROGRAM)?)?;
+    let (table, program) = batches(alloc)?;
     let replaced = replace_between(rt, alloc, frame, table, program)?;
     tell_outcome(&replaced.before, output)?;
     tell_outcome(&replaced.after, output)
 }
 
+/// The batches with the table, and with the program, as port 1's policy.
+fn batches(alloc: Global) -> Result<(Batch, Batch), Fault> {
+    let table = batch_for(alloc, PORT, table_policy(alloc, TABLE)?)?;
+    Ok((table, program_batch(alloc)?))
+}
+
+/// The batch with the program as port 1's policy.
+fn program_batch(alloc: Global) -> Result<Batch, Fault> {
+    batch_for(alloc, PORT, program_policy(alloc, PROGRAM)?)
+}
+
 /// Writes a line for EEC1 in the model of every order of events, where the program is port 1's policy.
 fn tell_model<W: Write>(alloc: Global, output: &mut W) -> Result<(), Fault> {
     let frame = Frame::read(&EEC1).map_err(|why| Fault::Record(why))?;
-    let program = batch_for(alloc, PORT, program_policy(alloc, PROGRAM)?)?;
-    match finished(alloc, frame, program)? {
+    match finished(alloc, frame, program_batch(alloc)?)? {
         Some(outcome) => tell_outcome(&outcome, output),
         None => Ok(()),
     }
@@ -118,13 +127,23 @@ fn tell_threads<R: Threads + Wait + Sync, W: Write>(
     alloc: Global,
     output: &mut W,
 ) -> Result<(), Fault> {
+    let forwarded = forward_hours(rt, alloc)?;
+    tell_report(&forwarded.report, output)?;
+    tell_copies(&forwarded, output)
+}
+
+/// Offers the engine's hours four times in a thread, while the program replaces the table.
+fn forward_hours<R: Threads + Wait + Sync>(rt: &R, alloc: Global) -> Result<Forwarded, Fault> {
     let frame = Frame::read(&ENGINE_HOURS).map_err(|why| Fault::Record(why))?;
     let frames = Vec::from_slice(alloc, &[frame; 4]).map_err(|_| Fault::OutOfMemory)?;
-    let table = batch_for(alloc, PORT, table_policy(alloc, TABLE)?)?;
-    let program = batch_for(alloc, PORT, program_policy(alloc, PROGRAM)?)?;
-    let forwarded = forward_in_threads(rt, alloc, frames, table, program)?;
-    let front = forwarded.report.front;
-    let Some(counts) = forwarded.report.ins.first() else {
+    let (table, program) = batches(alloc)?;
+    forward_in_threads(rt, alloc, frames, table, program)
+}
+
+/// Writes how many batches were published, and what became of the frames of port 0.
+fn tell_report<W: Write>(report: &Report, output: &mut W) -> Result<(), Fault> {
+    let front = report.front;
+    let Some(counts) = report.ins.first() else {
         return Ok(());
     };
     let (taken, placed, lost) = (counts.taken, counts.placed, counts.lost);
@@ -132,7 +151,7 @@ fn tell_threads<R: Threads + Wait + Sync, W: Write>(
         output,
         "threads: front {front}, taken {taken}, placed {placed}, lost {lost}"
     )?;
-    tell_copies(&forwarded, output)
+    Ok(())
 }
 
 /// Writes the numbers of the copies, those that were taken out and then those that are left.

@@ -1,7 +1,7 @@
 //! The ends of a gateway in threads of the caller's own: one offers frames, one takes their copies out, and the calling thread
 //! replaces a policy meanwhile.
 
-ghost use Rattle.std.specs.Prelude.{◌≡◌, ◌++◌, ◌∷◌, [], IfOk, IfErr, MatchBool, vec_len, All};
+ghost use Rattle.std.specs.Prelude.{◌≡◌, ◌⊎◌, ◌++◌, ◌∷◌, [], Ok, Err, IfOk, IfErr, MatchBool, vec_len, All};
 ghost use Rattle.j1939_gateway.specs.PortEnds.{end_out};
 ghost use Rattle.j1939_gateway.specs.Making.{AreOfOneGateway};
 ghost use Rattle.j1939_gateway.specs.Closing.{Closes};
@@ -138,6 +138,13 @@ fn set_apart(alloc: Global, parts: Parts, frames: Vec<Frame>) -> Result<(Ends, I
     ensures apart { IfOk result (λ made. AreApart parts.operator parts.ins.items parts.outs.items frames.items made.0 made.1) }
     ensures refused { IfErr result (λ fault. fault ≡ OutOfMemory) }
 {
+    // Room comes first: a way out behind the parts would drop each of them.
+    let Ok(outcomes) = Vec::with_capacity(alloc, frames.len()) else {
+        return Err(Fault::OutOfMemory);
+    };
+    let Ok(copies) = Vec::with_capacity(alloc, frames.len()) else {
+        return Err(Fault::OutOfMemory);
+    };
     let Parts {
         operator,
         ins,
@@ -147,12 +154,6 @@ fn set_apart(alloc: Global, parts: Parts, frames: Vec<Frame>) -> Result<(Ends, I
     let (other_out, port_out) = pair(outs);
     let told = operator.tell();
     port_in.learn(&told);
-    let Ok(outcomes) = Vec::with_capacity(alloc, frames.len()) else {
-        return Err(Fault::OutOfMemory);
-    };
-    let Ok(copies) = Vec::with_capacity(alloc, frames.len()) else {
-        return Err(Fault::OutOfMemory);
-    };
     let feed = Feed {
         port: port_in,
         frames,
@@ -249,7 +250,20 @@ fn run_ends<'s, E, R: Threads + Wait + Sync>(
     let published = publish(rt, &mut operator, batch);
     let offered = offering.join(rt);
     is_over.store(true, Ordering::SeqCst);
-    let drain = sending.join(rt);
+    put_together(operator, published, offered, sending.join(rt))
+}
+
+/// The ends that the threads hand back, unless the batch or a frame was refused.
+fn put_together(
+    operator: Operator,
+    published: Result<(), Fault>,
+    offered: Result<Feed, Fault>,
+    drain: Drain,
+) -> Result<Ends, Fault>
+    ensures ran { IfOk result (λ ends. (ends.operator ≡ operator) × (published ≡ Ok (record {}))
+        × (offered ≡ Ok ends.feed) × (ends.drain ≡ drain)) }
+    ensures refused { IfErr result (λ fault. (published ≡ Err fault) ⊎ (offered ≡ Err fault)) }
+{
     published?;
     let feed = offered?;
     Ok(Ends {
