@@ -5,3 +5,4 @@ pub mod PortLists
 pub mod LineByLine
 pub mod NumberByNumber
 pub mod RulePlaces
+pub mod FirstOctet

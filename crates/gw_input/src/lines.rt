@@ -5,17 +5,14 @@ ghost use Rattle.std.specs.List.{position_or_len};
 ghost use Rattle.gw_input.specs.Lines.{is_octet, first_line, behind_first, ended_line, without_return};
 ghost use Rattle.gw_input.specs.Words.{first_word, behind_word};
 
+use memchr::memchr;
+
 /// Returns the index of the first octet of this value, or the text's length where there is none.
 pub fn position_of(octet: u8, text: &[u8]) -> usize
     ensures place { result ≡ position_or_len (is_octet octet) text.now }
     ensures bound { result ≤ length text.now }
 {
-    for (i, c) in text.iter().enumerate() {
-        if *c == octet {
-            return i;
-        }
-    }
-    text.len()
+    memchr(octet, text).unwrap_or(text.len())
 }
 
 /// Parts a text into its first line, without its end, and what stands behind the line feed that ends it, if one does. A
