@@ -1,6 +1,6 @@
 -- Lines of the worked examples.
-use Rattle.std.proofs.Common.{◌≡◌, [], ◌∷◌, ◌++◌, true, false, Some, refl}
-use Rattle.std.specs.Prelude.{codes, decimal}
+use Rattle.std.proofs.Common.{◌≡◌, [], ◌∷◌, true, false, Some, refl}
+use Rattle.std.specs.Prelude.{codes}
 use Rattle.std.specs.Fmt.{digits}
 use Rattle.gw_commands.specs.Answers.{verdict_line, accepted_line, passes_line}
 use Rattle.gw_commands.specs.Checks.{path_line}
@@ -8,10 +8,9 @@ use Rattle.gw_table.specs.declared.table.Part.TheVariants.{Default, Other}
 use Rattle.gw_commands.specs.ClaimLines.{name_digits, holder_line}
 use Rattle.gw_commands.specs.declared.stated.StatedTable.{StatedTable}
 use Rattle.gw_commands.specs.Differences.{frames_line, side_text}
-use Rattle.gw_commands.specs.Stated.{line_words}
 use Rattle.gw_commands.specs.Shown.{groups_text, group_name, numbers_text}
 use Rattle.gw_input.specs.Lines.{lines_of}
-use Rattle.gw_input.specs.RuleLines.{rule_lines}
+use Rattle.gw_input.specs.RuleLines.{rule_lines, rule_name}
 
 pass_7 : verdict_line 7 ≡ codes "pass 7\n"
 unfolding digits
@@ -34,9 +33,13 @@ table_passes = refl
 table_blocks : passes_line false ≡ codes "block\n"
 table_blocks = refl
 
-rule_2_of_line_14 : codes "rule " ++ decimal 2 ++ line_words (Some 14) ≡ codes "rule 2 (line 14)"
+rule_2_of_line_14 : rule_name (1 ∷ 8 ∷ 14 ∷ []) 2 ≡ codes "rule 2 (line 14)"
 unfolding digits
 rule_2_of_line_14 = refl
+
+rule_of_no_line : rule_name [] 2 ≡ codes "rule 2"
+unfolding digits
+rule_of_no_line = refl
 
 default_passes : (stated : StatedTable) → side_text stated Default true ≡ codes "default passes"
 default_passes stated = refl

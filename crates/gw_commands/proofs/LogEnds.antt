@@ -11,15 +11,15 @@ use Rattle.gw_commands.specs.declared.judge_command.Shown.{Shown}
 use Rattle.gw_commands.specs.LogCounts.{told_counts}
 use Rattle.gw_commands.specs.Judgings.{EndsEarly, IsEnded, TellsCounts, TellsEnd, wanted_of}
 
-pub ended : (fate : List ℕ → Fate) (counts : Tally → List ℕ) (by : Grouping) (shown : Shown) (strict : Bool)
+pub ended : (fate : List ℕ → Fate) (lines : List ℕ) (counts : Tally → List ℕ) (by : Grouping) (shown : Shown) (strict : Bool)
     (before after old middle new : Option (List ℕ)) (failed : Bool) (status : ℕ) (tally : Tally) (w : Wanted)
-    → w ≡ wanted_of shown → IsJudged fate (wanted_front w) strict before after old middle tally → tally.groups.grouping ≡ by
-    → TellsCounts (told_counts counts by) shown tally middle new failed status
-    → IsEnded fate counts by shown strict before after old new failed status
-ended fate counts by shown strict before after old middle new failed status tally w same judged grouped told = record {
+    → w ≡ wanted_of shown → IsJudged fate (wanted_front lines w) strict before after old middle tally
+    → tally.groups.grouping ≡ by → TellsCounts (told_counts counts by) shown tally middle new failed status
+    → IsEnded fate lines counts by shown strict before after old new failed status
+ended fate lines counts by shown strict before after old middle new failed status tally w same judged grouped told = record {
   tally = tally;
   middle = middle;
-  judged = subst (λ w. IsJudged fate (wanted_front w) strict before after old middle tally) same judged;
+  judged = subst (λ w. IsJudged fate (wanted_front lines w) strict before after old middle tally) same judged;
   grouped = grouped;
   told = told;
 }
@@ -45,16 +45,18 @@ judged_later fate front strict before after old new read_failed failed later why
   fault = fault_later fate front strict read_failed failed later part.log old new why stays part.fault;
 }
 
-pub ended_early : (fate : List ℕ → Fate) (shown : Shown) (strict : Bool) (before after : Option (List ℕ)) (read_failed : Bool)
+pub ended_early : (fate : List ℕ → Fate) (lines : List ℕ) (shown : Shown) (strict : Bool)
+    (before after : Option (List ℕ)) (read_failed : Bool)
     (old middle new : Option (List ℕ)) (failed later : Bool) (status : ℕ) (why : JudgeFault) (w : Wanted)
     → w ≡ wanted_of shown
-    → IsPartlyJudged fate (wanted_front w) strict before after old middle read_failed failed why
+    → IsPartlyJudged fate (wanted_front lines w) strict before after old middle read_failed failed why
     → (failed ≡ true → later ≡ true) → TellsEnd shown why middle new later status
-    → EndsEarly fate shown strict before after read_failed old new later status
-ended_early fate shown strict before after read_failed old middle new failed later status why w same part stays told = record {
-  fault = why;
-  middle = middle;
-  judged = subst (λ w. IsPartlyJudged fate (wanted_front w) strict before after old middle read_failed later why) same
-      (judged_later fate (wanted_front w) strict before after old middle read_failed failed later why stays part);
-  told = told;
-}
+    → EndsEarly fate lines shown strict before after read_failed old new later status
+ended_early fate lines shown strict before after read_failed old middle new failed later status why w same part stays told =
+    record {
+      fault = why;
+      middle = middle;
+      judged = subst (λ w. IsPartlyJudged fate (wanted_front lines w) strict before after old middle read_failed later why) same
+          (judged_later fate (wanted_front lines w) strict before after old middle read_failed failed later why stays part);
+      told = told;
+    }

@@ -10,6 +10,7 @@ use Rattle.gw_table.specs.declared.table.Part.TheVariants.{Rule, Default, Other}
 use Rattle.gw_table.specs.Table.{Meaning, table_passes}
 use Rattle.gw_table.specs.Difference.{AreAlike, AreDifferences}
 use Rattle.gw_table.specs.PairFrames.{AreClear, AsksForPair}
+use Rattle.gw_input.specs.RuleLines.{rule_name}
 use Rattle.gw_input.specs.Tables.{IsTable}
 use Rattle.gw_commands.specs.declared.refusal.Refusal.{Refusal}
 use Rattle.gw_commands.specs.declared.refusal.Refusal.TheVariants.{OutOfMemory}
@@ -17,12 +18,12 @@ use Rattle.gw_commands.specs.Commands.{Writes, WritesText}
 use Rattle.gw_commands.specs.declared.stated.StatedTable.{StatedTable}
 use Rattle.gw_commands.specs.Policies.{RefusesFile}
 use Rattle.gw_commands.specs.Shown.{asked_line}
-use Rattle.gw_commands.specs.Stated.{IsStated, rule_name}
+use Rattle.gw_commands.specs.Stated.{IsStated}
 use Rattle.gw_commands.specs.Tables.{RefusesText}
 
 -- what decides a frame: a rule, `default` or `other`
 abbrev pub part_name : StatedTable → Part → List ℕ
-part_name stated (Rule number) = rule_name stated number
+part_name stated (Rule number) = rule_name stated.lines.items number
 part_name stated Default = codes "default"
 part_name stated Other = codes "other"
 

@@ -27,6 +27,7 @@ use Rattle.gw_commands.specs.declared.refusal.Refusal.TheVariants.{OutOfMemory}
 use Rattle.gw_commands.specs.Commands.{Writes, WritesText}
 use Rattle.gw_commands.specs.LogCounts.{policy_counts, table_counts, told_counts}
 use Rattle.gw_commands.specs.Policies.{RefusesFile}
+use Rattle.gw_commands.specs.Stated.{known_lines}
 use Rattle.gw_commands.specs.Tables.{RefusesText}
 use Rattle.gw_commands.specs.Verdicts.{IsProgramRefusal}
 
@@ -65,48 +66,49 @@ TellsCounts counts shown tally old new failed status =
 abbrev pub TellsEnd : Shown → JudgeFault → Option (List ℕ) → Option (List ℕ) → Bool → ℕ → Type 0
 TellsEnd shown fault old new failed status = WritesText (fault_behind shown fault) 1 status old new failed
 
--- the log was judged to its end, its frames were counted in these groups, and the counts told
-pub record IsEnded (fate : List ℕ → Fate) (counts : Tally → List ℕ) (by : Grouping) (shown : Shown) (strict : Bool)
-    (before after old new : Option (List ℕ)) (failed : Bool) (status : ℕ) : Type 0 where
+-- the log was judged to its end, its frames were counted in these groups, and the counts told; a rule stands at its line
+pub record IsEnded (fate : List ℕ → Fate) (lines : List ℕ) (counts : Tally → List ℕ) (by : Grouping) (shown : Shown)
+    (strict : Bool) (before after old new : Option (List ℕ)) (failed : Bool) (status : ℕ) : Type 0 where
   pub tally : Tally
   pub middle : Option (List ℕ)
-  pub judged : IsJudged fate (wanted_front (wanted_of shown)) strict before after old middle tally
+  pub judged : IsJudged fate (wanted_front lines (wanted_of shown)) strict before after old middle tally
   pub grouped : tally.groups.grouping ≡ by
   pub told : TellsCounts (told_counts counts by) shown tally middle new failed status
 
 -- the log ended early, and it is told why
-pub record EndsEarly (fate : List ℕ → Fate) (shown : Shown) (strict : Bool) (before after : Option (List ℕ)) (read_failed : Bool)
-    (old new : Option (List ℕ)) (failed : Bool) (status : ℕ) : Type 0 where
+pub record EndsEarly (fate : List ℕ → Fate) (lines : List ℕ) (shown : Shown) (strict : Bool)
+    (before after : Option (List ℕ)) (read_failed : Bool) (old new : Option (List ℕ)) (failed : Bool) (status : ℕ) : Type 0 where
   pub fault : JudgeFault
   pub middle : Option (List ℕ)
-  pub judged : IsPartlyJudged fate (wanted_front (wanted_of shown)) strict before after old middle read_failed failed fault
+  pub judged : IsPartlyJudged fate (wanted_front lines (wanted_of shown)) strict before after old middle read_failed failed fault
   pub told : TellsEnd shown fault middle new failed status
 
-abbrev pub EndsLog : (List ℕ → Fate) → (Tally → List ℕ) → Grouping → Shown → Bool → Option (List ℕ) → Option (List ℕ) → Bool
-    → Option (List ℕ) → Option (List ℕ) → Bool → ℕ → Type 0
-EndsLog fate counts by shown strict before after read_failed old new failed status =
-    (IsEnded fate counts by shown strict before after old new failed status × (read_failed ≡ false))
-    ⊎ EndsEarly fate shown strict before after read_failed old new failed status
+abbrev pub EndsLog : (List ℕ → Fate) → List ℕ → (Tally → List ℕ) → Grouping → Shown → Bool → Option (List ℕ)
+    → Option (List ℕ) → Bool → Option (List ℕ) → Option (List ℕ) → Bool → ℕ → Type 0
+EndsLog fate lines counts by shown strict before after read_failed old new failed status =
+    (IsEnded fate lines counts by shown strict before after old new failed status × (read_failed ≡ false))
+    ⊎ EndsEarly fate lines shown strict before after read_failed old new failed status
 
 -- a refusal was written, and nothing was read
 abbrev pub OnlyRefuses : Refusal → Option (List ℕ) → Option (List ℕ) → Option (List ℕ) → Option (List ℕ) → Bool → ℕ → Type 0
 OnlyRefuses refusal before after old new failed status = (after ≡ before) × Writes (Err refusal) status old new failed
 
 -- the same; or memory was wanting for groups that are asked for, and nothing was read
-abbrev pub JudgesGroups : (List ℕ → Fate) → (Tally → List ℕ) → Grouping → Shown → Bool → Option (List ℕ) → Option (List ℕ)
-    → Bool → Option (List ℕ) → Option (List ℕ) → Bool → ℕ → Type 0
-JudgesGroups fate counts by shown strict before after read_failed old new failed status =
-    EndsLog fate counts by shown strict before after read_failed old new failed status
+abbrev pub JudgesGroups : (List ℕ → Fate) → List ℕ → (Tally → List ℕ) → Grouping → Shown → Bool → Option (List ℕ)
+    → Option (List ℕ) → Bool → Option (List ℕ) → Option (List ℕ) → Bool → ℕ → Type 0
+JudgesGroups fate lines counts by shown strict before after read_failed old new failed status =
+    EndsLog fate lines counts by shown strict before after read_failed old new failed status
     ⊎ ((by ≢ grouping.Nothing) × OnlyRefuses OutOfMemory before after old new failed status)
 
--- what becomes of each line, and how it is told: by the table of a text, or by the program of a listing
-abbrev pub Decides : PolicyKind → ℕ → List ℕ → (List ℕ → Fate) → (Tally → List ℕ) → Type 0
-Decides kind.Table port text fate counts =
-    (table : Meaning) × IsTable text table × (fate ≡ fate_of (table_fate table port)) × (counts ≡ table_counts table)
-Decides kind.Listing port text fate counts =
+-- what becomes of each line, where the rules stand, and how it is told: by the table of a text, or by the program of a listing
+abbrev pub Decides : PolicyKind → ℕ → List ℕ → (List ℕ → Fate) → List ℕ → (Tally → List ℕ) → Type 0
+Decides kind.Table port text fate lines counts =
+    (table : Meaning) × IsTable text table × (fate ≡ fate_of (table_fate table port))
+    × (lines ≡ known_lines text table) × (counts ≡ table_counts table lines)
+Decides kind.Listing port text fate lines counts =
     (program : List Insn) × NamesProgram text program
     × (fate ≡ fate_of (policy_fate (record { code = program; table = None }) port))
-    × (counts ≡ policy_counts (record { code = program; table = None }))
+    × (lines ≡ []) × (counts ≡ policy_counts (record { code = program; table = None }) lines)
 
 abbrev pub RefusesPolicy : PolicyKind → List ℕ → Refusal → Type 0
 RefusesPolicy kind.Table text refusal = RefusesText text refusal
@@ -116,8 +118,9 @@ RefusesPolicy kind.Listing text refusal = IsProgramRefusal text refusal
 abbrev pub JudgesLog : LogQuery → List ℕ → Option (List ℕ) → Option (List ℕ) → Bool → Option (List ℕ) → Option (List ℕ) → Bool
     → ℕ → Type 0
 JudgesLog query text before after read_failed old new failed status =
-    ((fate : List ℕ → Fate) × (counts : Tally → List ℕ) × Decides query.kind query.port text fate counts
-    × JudgesGroups fate counts query.by query.shown query.strict before after read_failed old new failed status)
+    ((fate : List ℕ → Fate) × (lines : List ℕ) × (counts : Tally → List ℕ)
+    × Decides query.kind query.port text fate lines counts
+    × JudgesGroups fate lines counts query.by query.shown query.strict before after read_failed old new failed status)
     ⊎ ((refusal : Refusal) × RefusesPolicy query.kind text refusal × OnlyRefuses refusal before after old new failed status)
 
 -- the same, whatever the policy's file holds; or the file was refused, and nothing was read

@@ -13,6 +13,7 @@ use Rattle.gw_table.specs.declared.table.Rule.{Rule}
 use Rattle.gw_table.specs.Table.{Meaning}
 use Rattle.gw_table.specs.TableText.{greatest, key_of}
 use Rattle.gw_policy.specs.Filter.{Filter}
+use Rattle.gw_input.specs.RuleLines.{rule_name}
 use Rattle.gw_judge.specs.declared.groups.Grouping.{Grouping}
 use Rattle.gw_judge.specs.declared.groups.Grouping.TheVariants as by
 use Rattle.gw_judge.specs.declared.groups.Verdicts.{Verdicts}
@@ -36,17 +37,18 @@ rule_text rule =
     action_word rule.action ++ range_text Pgn rule.pgn ++ range_text Source rule.source
     ++ range_text Destination rule.destination ++ range_text From rule.from
 
--- how many frames a rule decided, and what it says
-abbrev pub rule_count : ℕ → ℕ → Rule → List ℕ
-rule_count number count rule =
-    codes "rule " ++ decimal number ++ codes " decided " ++ decimal count ++ codes ": " ++ rule_text rule ++ codes "\n"
+-- a rule, which stands at its line of the table's text: how many frames it decided, and what it says
+abbrev pub rule_count : List ℕ → ℕ → ℕ → Rule → List ℕ
+rule_count lines number count rule =
+    rule_name lines number ++ codes " decided " ++ decimal count ++ codes ": " ++ rule_text rule ++ codes "\n"
 
 -- a line for each rule, in their order
-abbrev pub rule_line : Tally → List Rule → ℕ → List ℕ
-rule_line tally rules number = option_map_or (rule_count number (slice_index tally.by_rule number)) (slice_get rules number) []
+abbrev pub rule_line : List ℕ → Tally → List Rule → ℕ → List ℕ
+rule_line lines tally rules number =
+    option_map_or (rule_count lines number (slice_index tally.by_rule number)) (slice_get rules number) []
 
-unfoldable pub rule_counts : Tally → List Rule → List ℕ
-rule_counts tally rules = flat_map (rule_line tally rules) (range_with_len 0 (length rules))
+unfoldable pub rule_counts : List ℕ → Tally → List Rule → List ℕ
+rule_counts lines tally rules = flat_map (rule_line lines tally rules) (range_with_len 0 (length rules))
 
 -- the line of `default` or of `other`
 abbrev pub part_line : List ℕ → ℕ → Action → List ℕ
@@ -58,14 +60,14 @@ totals_line tally =
     codes "lines " ++ decimal tally.lines ++ codes " passed " ++ decimal tally.counts.passed
     ++ codes " blocked " ++ decimal tally.counts.blocked ++ codes " refused " ++ decimal tally.counts.refused ++ codes "\n"
 
--- of a table the lines of its parts, and then that of all; of a program this alone
-abbrev pub table_counts : Meaning → Tally → List ℕ
-table_counts table tally =
-    rule_counts tally table.rules ++ part_line (codes "default") tally.by_default table.otherwise
+-- of a table whose rules stand at these lines, the lines of its parts, and then that of all; of a program this alone
+abbrev pub table_counts : Meaning → List ℕ → Tally → List ℕ
+table_counts table lines tally =
+    rule_counts lines tally table.rules ++ part_line (codes "default") tally.by_default table.otherwise
     ++ part_line (codes "other") tally.by_other table.other ++ totals_line tally
 
-abbrev pub policy_counts : Filter → Tally → List ℕ
-policy_counts filter tally = totals_line tally
+abbrev pub policy_counts : Filter → List ℕ → Tally → List ℕ
+policy_counts filter lines tally = totals_line tally
 
 -- how many frames of a group passed, and how many were blocked
 abbrev pub verdicts_text : Verdicts → List ℕ

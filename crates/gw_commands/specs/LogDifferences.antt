@@ -14,30 +14,34 @@ use Rattle.gw_commands.specs.declared.refusal.Refusal.{Refusal}
 use Rattle.gw_commands.specs.Differences.{RefusesEither}
 use Rattle.gw_commands.specs.Judgings.{EndsEarly, OnlyRefuses}
 use Rattle.gw_commands.specs.Policies.{RefusesFile}
+use Rattle.gw_commands.specs.Stated.{known_lines}
 
 -- 0 where no line has a verdict, and every write succeeded
 abbrev pub changed_status : Counts → Bool → ℕ
 changed_status counts true = 1
 changed_status counts false = if (counts.passed == 0) && (counts.blocked == 0) then 0 else 1
 
--- the log was judged to its end, each line with a verdict was written behind it, and the status says whether there was one
-pub record IsChanged (fate : List ℕ → Fate) (before after old new : Option (List ℕ)) (failed : Bool) (status : ℕ) : Type 0 where
+-- the log was judged to its end, each line with a verdict was written behind it, and the status says whether there was one; a
+-- rule of the new table stands at its line
+pub record IsChanged (fate : List ℕ → Fate) (lines : List ℕ) (before after old new : Option (List ℕ)) (failed : Bool)
+    (status : ℕ) : Type 0 where
   pub tally : Tally
-  pub judged : IsJudged fate (wanted_front wanted.Each) false before after old new tally
+  pub judged : IsJudged fate (wanted_front lines wanted.Each) false before after old new tally
   pub told : status ≡ changed_status tally.counts failed
 
-abbrev pub ChangesLog : (List ℕ → Fate) → Option (List ℕ) → Option (List ℕ) → Bool → Option (List ℕ) → Option (List ℕ) → Bool
-    → ℕ → Type 0
-ChangesLog fate before after read_failed old new failed status =
-    (IsChanged fate before after old new failed status × (read_failed ≡ false))
-    ⊎ EndsEarly fate Each false before after read_failed old new failed status
+abbrev pub ChangesLog : (List ℕ → Fate) → List ℕ → Option (List ℕ) → Option (List ℕ) → Bool → Option (List ℕ)
+    → Option (List ℕ) → Bool → ℕ → Type 0
+ChangesLog fate lines before after read_failed old new failed status =
+    (IsChanged fate lines before after old new failed status × (read_failed ≡ false))
+    ⊎ EndsEarly fate lines Each false before after read_failed old new failed status
 
 -- the log was judged by the tables of two texts; or a text was refused, and nothing was read
 abbrev pub DiffsLog : ℕ → List ℕ → List ℕ → Option (List ℕ) → Option (List ℕ) → Bool → Option (List ℕ) → Option (List ℕ) → Bool
     → ℕ → Type 0
 DiffsLog port old_text new_text before after read_failed old new failed status =
     ((was : Meaning) × (now : Meaning) × IsTable old_text was × IsTable new_text now
-    × ChangesLog (fate_of (changed_fate was now port)) before after read_failed old new failed status)
+    × ChangesLog (fate_of (changed_fate was now port)) (known_lines new_text now) before after read_failed old new failed
+    status)
     ⊎ ((refusal : Refusal) × RefusesEither old_text new_text refusal × OnlyRefuses refusal before after old new failed status)
 
 -- the same, whatever the files hold; or a file was refused, and nothing was read

@@ -7,11 +7,12 @@ use Rattle.gw_table.specs.declared.question.Question.{Question}
 use Rattle.gw_table.specs.declared.table.Action.{Action}
 use Rattle.gw_table.specs.declared.table.Rule.{Rule}
 use Rattle.gw_table.specs.declared.table.Span.{Span}
+use Rattle.gw_input.specs.RuleLines.{rule_name}
 use Rattle.gw_commands.specs.declared.answer.Answer.{Answer}
 use Rattle.gw_commands.specs.declared.answer.Answer.TheVariants.{Text}
 use Rattle.gw_commands.specs.declared.stated.StatedTable.{StatedTable}
 use Rattle.gw_commands.specs.LogCounts.{action_word}
-use Rattle.gw_commands.specs.Stated.{IsStated, rule_name}
+use Rattle.gw_commands.specs.Stated.{IsStated}
 
 -- the name of a well-known group (docs/IDENTIFIERS.md), which stands behind its number
 unfoldable pub group_name : ℕ → List ℕ
@@ -97,7 +98,7 @@ ranges_text rule = if holds_always rule then codes ", every extended data frame"
 
 abbrev pub rule_words : StatedTable → ℕ → Rule → List ℕ
 rule_words stated number rule =
-    rule_name stated number ++ codes ": " ++ action_word rule.action ++ ranges_text rule ++ codes "\n"
+    rule_name stated.lines.items number ++ codes ": " ++ action_word rule.action ++ ranges_text rule ++ codes "\n"
 
 -- a line for each rule, in their order
 abbrev pub words_of_rule : StatedTable → ℕ → List ℕ

@@ -1,7 +1,6 @@
 //! What two tables differ in, as text.
 
 ghost use Rattle.std.specs.Prelude.{◌≡◌, ◌+◌, ◌≤◌, ◌++◌, length, IfOk, OnOk};
-ghost use Rattle.gw_commands.specs.Stated.{rule_name};
 ghost use Rattle.gw_commands.specs.Differences.{
   Appends,
   IsDifferenceLine,
@@ -109,22 +108,9 @@ pub fn with_side(line: Line, stated: &StatedTable, part: Part, passes: bool) -> 
     ensures len { length result ≤ length line + 60 }
 {
     let line = match part {
-        Part::Rule(number) => with_rule(line, stated, number),
+        Part::Rule(number) => line.rule(number, stated.lines.as_slice()),
         Part::Default => line.text("default"),
         Part::Other => line.text("other"),
     };
     line.text(if passes { " passes" } else { " blocks" })
-}
-
-/// A line with the number of a rule behind it, and the line of the table's text at which it stands.
-fn with_rule(line: Line, stated: &StatedTable, number: usize) -> Line
-    requires { length line + 60 ≤ 192 }
-    ensures octets { result ≡ line ++ rule_name stated.now number }
-    ensures len { length result ≤ length line + 53 }
-{
-    let line = line.text("rule ").digits(number as u64);
-    match stated.line_of(number) {
-        Some(place) => line.text(" (line ").digits(place as u64).text(")"),
-        None => line,
-    }
 }

@@ -36,7 +36,11 @@ impl Display for Refusal {
                 Err(_) => write!(f, "{why}"),
             },
             Refusal::ReadFault => f.write_str("the input could not be read"),
-            Refusal::Table(why) => write!(f, "{why}"),
+            Refusal::Table {
+                why,
+                line: Some(line),
+            } => write!(f, "line {line}: {why}"),
+            Refusal::Table { why, .. } => write!(f, "{why}"),
             Refusal::NotUtf8 => f.write_str("the input is no text: it is not UTF-8"),
             Refusal::TooMuchInput => f.write_str(
                 "the input has more than 1048576 octets, the most that are read",

@@ -22,12 +22,13 @@ use crate::log_counts::{TellsParts, told_text};
 use crate::notes::{note_file, note_no_log, note_refused_lines};
 use crate::refusal::Refusal;
 use crate::responding::{respond, write_refusal};
-use crate::texts::{program, read_table};
+use crate::stated::StatedTable;
+use crate::texts::program;
 use gw_input::{Line, refused};
 use gw_io::Tried;
-use gw_judge::{Asked, Grouping, Groups, Head, JudgeFault, Tally, Wanted, judge};
+use gw_judge::{Asked, Grouping, Groups, Head, JudgeFault, Named, Tally, Wanted, judge};
 use gw_policy::Policy;
-use gw_table::{IndexedTable, Table};
+use gw_table::IndexedTable;
 use std::alloc::{AllocError, Global};
 use std::io::{Read, Write};
 use std::rt::Files;
@@ -50,6 +51,14 @@ pub enum Shown {
     Blocked,
     /// The lines that say a frame, each behind its verdict and what decides it.
     Each,
+}
+
+/// What judges a log.
+#[derive(Clone, Copy)]
+struct LogPolicy<'a, D> {
+    decider: &'a D,
+    /// The lines at which the rules of a table stand, where they are known.
+    rule_lines: &'a [usize],
 }
 
 /// What is asked of a log.
@@ -108,14 +117,18 @@ pub fn judge_log<I: Read, W: Write, F: Write>(
         (W.contents (inner_of output.old)) (W.contents (inner_of output.new)) (has_failed output.new) result }
 {
     match query.kind {
-        PolicyKind::Table => match read_table(alloc, text) {
-            Ok(table) => judge_table(alloc, query, table, input, output, faults),
+        PolicyKind::Table => match StatedTable::read(alloc, text) {
+            Ok(stated) => judge_table(alloc, query, stated, input, output, faults),
             Err(refusal) => respond(&Err(refusal), output, faults),
         },
         PolicyKind::Listing => match program(alloc, text) {
             Ok(program) => {
-                let policy = Policy::from_program(program);
-                judge_by(alloc, query, &policy, input, output, faults)
+                let decider = &Policy::from_program(program);
+                let policy = LogPolicy {
+                    decider,
+                    rule_lines: &[],
+                };
+                judge_by(alloc, query, policy, input, output, faults)
             }
             Err(refusal) => respond(&Err(refusal), output, faults),
         },
@@ -126,20 +139,37 @@ pub fn judge_log<I: Read, W: Write, F: Write>(
 fn judge_table<I: Read, W: Write, F: Write>(
     alloc: Global,
     query: LogQuery,
-    table: Table,
+    stated: StatedTable,
     input: &mut Tried<I>,
     output: &mut Tried<W>,
     faults: &mut Tried<F>,
 ) -> u8
     requires input { has_failed input.old ≡ false }
     requires output { has_failed output.old ≡ false }
-    ensures { JudgesGroups (fate_of (table_fate table query.port)) (table_counts table) query.by query.shown query.strict
+    ensures { JudgesGroups (fate_of (table_fate stated.table query.port)) stated.lines.items
+        (table_counts stated.table stated.lines.items) query.by query.shown query.strict
         (I.remaining (inner_of input.old)) (I.remaining (inner_of input.new)) (has_failed input.new)
         (W.contents (inner_of output.old)) (W.contents (inner_of output.new)) (has_failed output.new) result }
 {
+    let StatedTable { table, lines } = stated;
+    let rule_lines = lines.as_slice();
     match IndexedTable::new(alloc, table) {
-        Ok(indexed) => judge_by(alloc, query, &indexed, input, output, faults),
-        Err(table) => judge_by(alloc, query, &table, input, output, faults),
+        Ok(indexed) => {
+            let decider = &indexed;
+            let policy = LogPolicy {
+                decider,
+                rule_lines,
+            };
+            judge_by(alloc, query, policy, input, output, faults)
+        }
+        Err(table) => {
+            let decider = &table;
+            let policy = LogPolicy {
+                decider,
+                rule_lines,
+            };
+            judge_by(alloc, query, policy, input, output, faults)
+        }
     }
 }
 
@@ -147,19 +177,20 @@ fn judge_table<I: Read, W: Write, F: Write>(
 fn judge_by<D: TellsParts, I: Read, W: Write, F: Write>(
     alloc: Global,
     query: LogQuery,
-    decider: &D,
+    policy: LogPolicy<D>,
     input: &mut Tried<I>,
     output: &mut Tried<W>,
     faults: &mut Tried<F>,
 ) -> u8
     requires input { has_failed input.old ≡ false }
     requires output { has_failed output.old ≡ false }
-    ensures { JudgesGroups (fate_of (D.fate_by decider.now query.port)) (D.counts_by decider.now) query.by query.shown
-        query.strict (I.remaining (inner_of input.old)) (I.remaining (inner_of input.new)) (has_failed input.new)
+    ensures { JudgesGroups (fate_of (D.fate_by policy.entry.decider.now query.port)) policy.entry.rule_lines.now
+        (D.counts_by policy.entry.decider.now policy.entry.rule_lines.now) query.by query.shown query.strict
+        (I.remaining (inner_of input.old)) (I.remaining (inner_of input.new)) (has_failed input.new)
         (W.contents (inner_of output.old)) (W.contents (inner_of output.new)) (has_failed output.new) result }
 {
     match Groups::new(alloc, query.by) {
-        Ok(groups) => judge_grouped(alloc, query, decider, groups, input, output, faults),
+        Ok(groups) => judge_grouped(alloc, query, policy, groups, input, output, faults),
         Err(AllocError) => respond(&Err(Refusal::OutOfMemory), output, faults),
     }
 }
@@ -168,7 +199,7 @@ fn judge_by<D: TellsParts, I: Read, W: Write, F: Write>(
 fn judge_grouped<D: TellsParts, I: Read, W: Write, F: Write>(
     alloc: Global,
     query: LogQuery,
-    decider: &D,
+    policy: LogPolicy<D>,
     groups: Groups,
     input: &mut Tried<I>,
     output: &mut Tried<W>,
@@ -177,13 +208,17 @@ fn judge_grouped<D: TellsParts, I: Read, W: Write, F: Write>(
     requires input { has_failed input.old ≡ false }
     requires output { has_failed output.old ≡ false }
     requires groups { groups ≡ no_groups query.by }
-    ensures { EndsLog (fate_of (D.fate_by decider.now query.port)) (D.counts_by decider.now) query.by query.shown query.strict
+    ensures { EndsLog (fate_of (D.fate_by policy.entry.decider.now query.port)) policy.entry.rule_lines.now
+        (D.counts_by policy.entry.decider.now policy.entry.rule_lines.now) query.by query.shown query.strict
         (I.remaining (inner_of input.old)) (I.remaining (inner_of input.new)) (has_failed input.new)
         (W.contents (inner_of output.old)) (W.contents (inner_of output.new)) (has_failed output.new) result }
 {
-    let report = wanted(query.shown);
+    let report = Named {
+        wanted: wanted(query.shown),
+        rule_lines: policy.rule_lines,
+    };
     let asked = Asked {
-        decider,
+        decider: policy.decider,
         from: query.port,
         report: &report,
         strict: query.strict,
@@ -193,7 +228,7 @@ fn judge_grouped<D: TellsParts, I: Read, W: Write, F: Write>(
         Ok(tally) => {
             note_no_log(&head, faults);
             note_refused_lines(&tally, faults);
-            tell_counts(alloc, query, decider, &tally, output, faults)
+            tell_counts(alloc, query, policy, &tally, output, faults)
         }
         Err(fault) => {
             note_no_log(&head, faults);
@@ -218,12 +253,13 @@ fn wanted(shown: Shown) -> Wanted
 fn tell_counts<D: TellsParts, W: Write, F: Write>(
     alloc: Global,
     query: LogQuery,
-    decider: &D,
+    policy: LogPolicy<D>,
     tally: &Tally,
     output: &mut Tried<W>,
     faults: &mut Tried<F>,
 ) -> u8
-    ensures { TellsCounts (told_counts (D.counts_by decider.now) query.by) query.shown tally.now
+    ensures { TellsCounts (told_counts (D.counts_by policy.entry.decider.now policy.entry.rule_lines.now) query.by) query.shown
+        tally.now
         (W.contents (inner_of output.old)) (W.contents (inner_of output.new)) (has_failed output.new) result }
 {
     if output.failed() {
@@ -232,7 +268,7 @@ fn tell_counts<D: TellsParts, W: Write, F: Write>(
     if !matches!(query.shown, Shown::Counts) {
         return 0;
     }
-    match told_text(alloc, query.by, decider, tally) {
+    match told_text(alloc, query.by, policy.decider, policy.rule_lines, tally) {
         Ok(text) => respond(&Ok(Answer::Text(text.into_bytes())), output, faults),
         Err(AllocError) => respond(&Err(Refusal::OutOfMemory), output, faults),
     }

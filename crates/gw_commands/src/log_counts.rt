@@ -2,6 +2,7 @@
 
 ghost use Rattle.std.specs.Prelude.{◌≡◌, ◌≤◌, ℕ, List, ◌++◌, string_bytes, length, IfOk, OnOk};
 ghost use Rattle.gw_judge.specs.declared.tally.Tally.{Tally};
+ghost use Rattle.gw_input.specs.RuleLines.{rule_name};
 ghost use Rattle.gw_judge.specs.Grouped.{other_group};
 ghost use Rattle.gw_commands.specs.LogCounts.{
   action_word,
@@ -20,6 +21,7 @@ ghost use Rattle.gw_commands.specs.LogCounts.{
   verdicts_text,
 };
 
+use gw_input::line_of_rule;
 use gw_judge::{Decider, Grouping, Groups, Tally, Verdicts};
 use gw_policy::Policy;
 use gw_table::{Action, Field, IndexedTable, Rule, Span, Table};
@@ -27,18 +29,28 @@ use std::alloc::{AllocError, Global};
 
 /// What decides the frames of a log, and tells how many each of its parts decided.
 pub trait TellsParts: Decider {
-    /// The text of a tally.
-    ghost counts_by: { Self → Tally → List ℕ };
+    /// The text of a tally, where the rules stand at these lines.
+    ghost counts_by: { Self → List ℕ → Tally → List ℕ };
 
-    /// The lines that tell what was counted.
-    fn counts_text(&self, alloc: Global, tally: &Tally) -> Result<String, AllocError>
-        ensures { IfOk result (λ text. string_bytes text ≡ counts_by self.now tally.now) };
+    /// The lines that tell what was counted. `lines` are those at which the rules of a table stand.
+    fn counts_text(
+        &self,
+        alloc: Global,
+        lines: &[usize],
+        tally: &Tally,
+    ) -> Result<String, AllocError>
+        ensures { IfOk result (λ text. string_bytes text ≡ counts_by self.now lines.now tally.now) };
 }
 
 impl TellsParts for Policy {
     ghost counts_by = { policy_counts };
 
-    fn counts_text(&self, alloc: Global, tally: &Tally) -> Result<String, AllocError> {
+    fn counts_text(
+        &self,
+        alloc: Global,
+        _lines: &[usize],
+        tally: &Tally,
+    ) -> Result<String, AllocError> {
         let mut text = String::new(alloc);
         push_totals(&mut text, tally)?;
         Ok(text)
@@ -48,9 +60,14 @@ impl TellsParts for Policy {
 impl TellsParts for Table {
     ghost counts_by = { table_counts };
 
-    fn counts_text(&self, alloc: Global, tally: &Tally) -> Result<String, AllocError> {
+    fn counts_text(
+        &self,
+        alloc: Global,
+        lines: &[usize],
+        tally: &Tally,
+    ) -> Result<String, AllocError> {
         let mut text = String::new(alloc);
-        push_rules(&mut text, self.rules(), tally)?;
+        push_rules(&mut text, lines, self.rules(), tally)?;
         push_part(&mut text, "default", self.default(), tally.by_default)?;
         push_part(&mut text, "other", self.other(), tally.by_other)?;
         push_totals(&mut text, tally)?;
@@ -61,8 +78,13 @@ impl TellsParts for Table {
 impl TellsParts for IndexedTable {
     ghost counts_by = { table_counts };
 
-    fn counts_text(&self, alloc: Global, tally: &Tally) -> Result<String, AllocError> {
-        self.table().counts_text(alloc, tally)
+    fn counts_text(
+        &self,
+        alloc: Global,
+        lines: &[usize],
+        tally: &Tally,
+    ) -> Result<String, AllocError> {
+        self.table().counts_text(alloc, lines, tally)
     }
 }
 
@@ -71,12 +93,13 @@ pub fn told_text<D: TellsParts>(
     alloc: Global,
     by: Grouping,
     decider: &D,
+    lines: &[usize],
     tally: &Tally,
 ) -> Result<String, AllocError>
-    ensures { IfOk result (λ text. string_bytes text ≡ told_counts (D.counts_by decider.now) by tally.now) }
+    ensures { IfOk result (λ text. string_bytes text ≡ told_counts (D.counts_by decider.now lines.now) by tally.now) }
 {
     match by {
-        Grouping::Nothing => decider.counts_text(alloc, tally),
+        Grouping::Nothing => decider.counts_text(alloc, lines, tally),
         Grouping::Pgn => groups_text(alloc, "pgn", tally),
         Grouping::Source => groups_text(alloc, "source", tally),
     }
@@ -136,23 +159,46 @@ fn push_verdicts(text: &mut String, verdicts: Verdicts) -> Result<(), AllocError
 }
 
 /// A line for each rule, in their order.
-fn push_rules(text: &mut String, rules: &[Rule], tally: &Tally) -> Result<(), AllocError>
+fn push_rules(
+    text: &mut String,
+    lines: &[usize],
+    rules: &[Rule],
+    tally: &Tally,
+) -> Result<(), AllocError>
     requires { length rules.now ≤ 256 }
-    ensures { OnOk result (string_bytes text.new ≡ string_bytes text.old ++ rule_counts tally.now rules.now) }
+    ensures { OnOk result (string_bytes text.new ≡ string_bytes text.old ++ rule_counts lines.now tally.now rules.now) }
 {
     for number in 0..rules.len() {
-        push_rule(text, number, &rules[number], tally.by_rule[number])?;
+        push_rule(text, lines, number, &rules[number], tally.by_rule[number])?;
     }
     Ok(())
 }
 
-/// The line of a rule: how many frames it decided, and what it says.
-fn push_rule(text: &mut String, number: usize, rule: &Rule, count: u64) -> Result<(), AllocError>
-    ensures { OnOk result (string_bytes text.new ≡ string_bytes text.old ++ rule_count number count rule.now) }
+/// The line of a rule: where it stands, how many frames it decided, and what it says.
+fn push_rule(
+    text: &mut String,
+    lines: &[usize],
+    number: usize,
+    rule: &Rule,
+    count: u64,
+) -> Result<(), AllocError>
+    ensures { OnOk result (string_bytes text.new ≡ string_bytes text.old ++ rule_count lines.now number count rule.now) }
 {
-    write!(text, "rule {number} decided {count}: ")?;
+    push_name(text, lines, number)?;
+    write!(text, " decided {count}: ")?;
     push_what(text, rule)?;
     text.push_str("\n")
+}
+
+/// The number of a rule, and the line of the table's text at which it stands.
+pub fn push_name(text: &mut String, lines: &[usize], number: usize) -> Result<(), AllocError>
+    ensures { OnOk result (string_bytes text.new ≡ string_bytes text.old ++ rule_name lines.now number) }
+{
+    write!(text, "rule {number}")?;
+    match line_of_rule(lines, number) {
+        Some(line) => write!(text, " (line {line})"),
+        None => Ok(()),
+    }
 }
 
 /// What a rule says: its action, and each range that leaves something out.

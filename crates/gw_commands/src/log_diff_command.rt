@@ -12,7 +12,7 @@ use crate::judge_command::{Shown, tell_end};
 use crate::notes::{note_no_log, note_refused_lines};
 use crate::responding::respond;
 use gw_io::Tried;
-use gw_judge::{Asked, Changed, Grouping, Groups, Head, Tally, Wanted, judge};
+use gw_judge::{Asked, Changed, Grouping, Groups, Head, Named, Tally, Wanted, judge};
 use std::alloc::Global;
 use std::io::{Read, Write};
 use std::rt::Files;
@@ -76,13 +76,15 @@ pub fn diff_log<I: Read, W: Write, F: Write>(
         old: &old.table,
         new: &new.table,
     };
-    write_changed(alloc, &changed, port, input, output, faults)
+    let lines = new.lines.as_slice();
+    write_changed(alloc, &changed, lines, port, input, output, faults)
 }
 
-/// Writes the lines of a log whose frame two tables treat unlike.
+/// Writes the lines of a log whose frame two tables treat unlike. `rule_lines` are those of the new table's rules.
 fn write_changed<I: Read, W: Write, F: Write>(
     alloc: Global,
     changed: &Changed,
+    rule_lines: &[usize],
     port: u8,
     input: &mut Tried<I>,
     output: &mut Tried<W>,
@@ -90,17 +92,21 @@ fn write_changed<I: Read, W: Write, F: Write>(
 ) -> u8
     requires input { has_failed input.old ≡ false }
     requires output { has_failed output.old ≡ false }
-    ensures { ChangesLog (fate_of (changed_fate changed.now.old.now changed.now.new.now port))
+    ensures { ChangesLog (fate_of (changed_fate changed.now.old.now changed.now.new.now port)) rule_lines.now
         (I.remaining (inner_of input.old)) (I.remaining (inner_of input.new)) (has_failed input.new)
         (W.contents (inner_of output.old)) (W.contents (inner_of output.new)) (has_failed output.new) result }
 {
     let Ok(groups) = Groups::new(alloc, Grouping::Nothing) else {
         unreachable!()
     };
+    let report = Named {
+        wanted: Wanted::Each,
+        rule_lines,
+    };
     let asked = Asked {
         decider: changed,
         from: port,
-        report: &Wanted::Each,
+        report: &report,
         strict: false,
     };
     let mut head = Head::new();

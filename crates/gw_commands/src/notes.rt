@@ -1,13 +1,15 @@
 //! What a person should know of an input that is not refused.
 
 use crate::refusal::Refusal;
+use crate::stated::StatedTable;
 use gw_frame::Frame;
 use gw_ident::{EXTENDED_FLAG, GREATEST_EXTENDED, GREATEST_STANDARD};
+use gw_input::line_of_rule;
 use gw_insn::read_listing;
 use gw_io::Tried;
 use gw_judge::{Head, NoLog, Tally};
 use gw_log::LogRefusal;
-use gw_table::Table;
+use gw_table::Part;
 use std::alloc::Global;
 use std::io::Write;
 
@@ -45,17 +47,37 @@ pub fn note_uncounted<F: Write>(frame: &Frame, line: usize, faults: &mut Tried<F
 }
 
 /// Tells which rule of a table decides a frame that was taken at a port, or that `default` or `other` does.
-pub fn note_decision<F: Write>(table: &Table, frame: &Frame, port: u8, faults: &mut Tried<F>) {
-    let part = table.decides(frame, port);
-    let _ = writeln!(faults, "gw: {part} decides");
+pub fn note_decision<F: Write>(
+    stated: &StatedTable,
+    frame: &Frame,
+    port: u8,
+    faults: &mut Tried<F>,
+) {
+    let part = stated.table.decides(frame, port);
+    let _ = match place_of(stated, part) {
+        Some(line) => writeln!(faults, "gw: {part} (line {line}) decides"),
+        None => writeln!(faults, "gw: {part} decides"),
+    };
 }
 
 /// Tells of each rule of a table that can never decide.
-pub fn note_dead_rules<F: Write>(table: &Table, faults: &mut Tried<F>) {
-    for rule in 0..table.rules().len() {
-        if let Some(why) = table.why_dead(rule) {
-            let _ = writeln!(faults, "gw: rule {rule} never decides: {why}");
+pub fn note_dead_rules<F: Write>(stated: &StatedTable, faults: &mut Tried<F>) {
+    for rule in 0..stated.table.rules().len() {
+        if let Some(why) = stated.table.why_dead(rule) {
+            let part = Part::Rule(rule);
+            let _ = match place_of(stated, part) {
+                Some(line) => writeln!(faults, "gw: {part} (line {line}) never decides: {why}"),
+                None => writeln!(faults, "gw: {part} never decides: {why}"),
+            };
         }
+    }
+}
+
+/// The line of a table's text at which a part of it stands, where that is a rule.
+fn place_of(stated: &StatedTable, part: Part) -> Option<usize> {
+    match part {
+        Part::Rule(number) => line_of_rule(stated.lines.as_slice(), number),
+        Part::Default | Part::Other => None,
     }
 }
 

@@ -47,8 +47,12 @@ pub enum Refusal {
         why: AsmRefusal,
         text: Vec<u8>,
     },
-    /// 50 to 55: a text that is no table.
-    Table(TableRefusal),
+    /// 50 to 55: a text that is no table, and the line at which the rule begins that is wrong, unless no line begins it or memory
+    /// was refused.
+    Table {
+        why: TableRefusal,
+        line: Option<usize>,
+    },
     /// 98: an input of more than 1048576 octets.
     TooMuchInput,
     /// 98: a text that is not UTF-8.
@@ -74,7 +78,7 @@ impl Refusal {
                 .number(),
             Refusal::Assembler { why, .. } => why.number(),
             Refusal::ReadFault => 96,
-            Refusal::Table(why) => why.number(),
+            Refusal::Table { why, .. } => why.number(),
             Refusal::TooMuchInput => 98,
             Refusal::NotUtf8 => 98,
             Refusal::OutOfMemory => 100,
@@ -90,7 +94,10 @@ impl Refusal {
             Refusal::RecordOnLine { line, .. } => refused(number, &[*line as u64]),
             Refusal::Listing(ListRefusal::BadField { index }) => refused(number, &[*index as u64]),
             Refusal::Assembler { why, .. } => refused_on_line(number, why.line()),
-            Refusal::Table(TableRefusal::BadRange { rule, .. }) => refused(number, &[*rule as u64]),
+            Refusal::Table {
+                why: TableRefusal::BadRange { rule, .. },
+                ..
+            } => refused(number, &[*rule as u64]),
             Refusal::Program { refused, .. } | Refusal::Explained { refused, .. } => {
                 refused_code(refused.why, refused.place)
             }

@@ -19,11 +19,10 @@ ghost use Rattle.gw_commands.specs.Shown.{
   size_of,
   words_of_rules,
 };
-ghost use Rattle.gw_commands.specs.Stated.{rule_name};
 ghost use Rattle.gw_commands.specs.Tables.{RefusesText};
 
 use crate::answer::Answer;
-use crate::log_counts::action_word;
+use crate::log_counts::{action_word, push_name};
 use crate::notes::note_dead_rules;
 use crate::refusal::Refusal;
 use crate::stated::StatedTable;
@@ -53,7 +52,7 @@ pub fn show<F: Write>(alloc: Global, input: &[u8], faults: &mut Tried<F>) -> Res
         Ok(stated) => stated,
         Err(refusal) => return Err(refusal),
     };
-    note_dead_rules(&stated.table, faults);
+    note_dead_rules(&stated, faults);
     match shown_text(alloc, &stated) {
         Ok(text) => Ok(Answer::Text(text.into_bytes())),
         Err(AllocError) => Err(Refusal::OutOfMemory),
@@ -91,22 +90,11 @@ fn push_rule(
 ) -> Result<(), AllocError>
     ensures { OnOk result (string_bytes text.new ≡ string_bytes text.old ++ rule_words stated.now number rule.now) }
 {
-    push_name(text, stated, number)?;
+    push_name(text, stated.lines.as_slice(), number)?;
     let action = action_word(rule.action);
     write!(text, ": {action}")?;
     push_ranges(text, rule)?;
     text.push_str("\n")
-}
-
-/// The number of a rule, and the line of the table's text at which it stands.
-fn push_name(text: &mut String, stated: &StatedTable, number: usize) -> Result<(), AllocError>
-    ensures { OnOk result (string_bytes text.new ≡ string_bytes text.old ++ rule_name stated.now number) }
-{
-    write!(text, "rule {number}")?;
-    match stated.line_of(number) {
-        Some(line) => write!(text, " (line {line})"),
-        None => Ok(()),
-    }
 }
 
 /// The ranges of a rule that leave something out.

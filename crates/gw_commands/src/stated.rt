@@ -1,8 +1,7 @@
 //! Tables as their texts state them.
 
 ghost use Rattle.std.specs.Prelude.{◌≡◌, IfOk, IfErr};
-ghost use Rattle.gw_commands.specs.Stated.{IsStated, line_of};
-ghost use Rattle.gw_commands.specs.Tables.{RefusesText};
+ghost use Rattle.gw_commands.specs.Stated.{known_lines};
 
 use crate::refusal::Refusal;
 use crate::texts::read_table;
@@ -10,16 +9,17 @@ use gw_input::rule_lines;
 use gw_table::Table;
 use std::alloc::{AllocError, Global};
 
-/// A table, and the numbers of the lines of its text that begin a rule.
+/// A table, and where its rules stand in its text.
 #[derive(Drop)]
 pub struct StatedTable {
     pub table: Table,
-    lines: Vec<usize>,
+    /// The numbers of the lines that begin a rule, in the order of the rules; none where not each rule has such a line.
+    pub lines: Vec<usize>,
 }
 
 impl StatedTable {
     ghost use Rattle.std.specs.Prelude.{◌≡◌, IfOk, IfErr};
-    ghost use Rattle.gw_commands.specs.Stated.{IsStated, line_of};
+    ghost use Rattle.gw_commands.specs.Stated.{IsStated};
     ghost use Rattle.gw_commands.specs.Tables.{RefusesText};
 
     /// Reads a table from its text.
@@ -31,20 +31,20 @@ impl StatedTable {
             Ok(table) => table,
             Err(refusal) => return Err(refusal),
         };
-        match rule_lines(alloc, text) {
+        match known_lines(alloc, text, &table) {
             Ok(lines) => Ok(StatedTable { table, lines }),
             Err(AllocError) => Err(Refusal::OutOfMemory),
         }
     }
+}
 
-    /// The line that begins a rule, where as many lines begin one as the table has rules.
-    pub fn line_of(&self, rule: usize) -> Option<usize>
-        ensures { result ≡ line_of self.now rule }
-    {
-        if self.lines.len() == self.table.rules().len() {
-            self.lines.get(rule).copied()
-        } else {
-            None
-        }
+/// The lines that begin a rule, where as many do as the table has rules.
+fn known_lines(alloc: Global, text: &[u8], table: &Table) -> Result<Vec<usize>, AllocError>
+    ensures { IfOk result (λ lines. lines.items ≡ known_lines text.now table.now) }
+{
+    let mut lines = rule_lines(alloc, text)?;
+    if lines.len() != table.rules().len() {
+        lines.clear();
     }
+    Ok(lines)
 }

@@ -8,7 +8,7 @@ use crate::answer::Answer;
 use crate::frames::{FrameWord, word_frame};
 use crate::notes::{note_dead_rules, note_decision};
 use crate::refusal::Refusal;
-use crate::texts::read_table;
+use crate::stated::StatedTable;
 use gw_insn::{Raw, encode, write_listing};
 use gw_io::Tried;
 use gw_table::{Table, compile};
@@ -50,14 +50,14 @@ fn judged<F: Write>(
         Ok(frame) => frame,
         Err(refusal) => return Err(refusal),
     };
-    let table = match read_table(alloc, input) {
-        Ok(table) => table,
+    let stated = match StatedTable::read(alloc, input) {
+        Ok(stated) => stated,
         Err(refusal) => return Err(refusal),
     };
     if why {
-        note_decision(&table, &frame, port, faults);
+        note_decision(&stated, &frame, port, faults);
     }
-    Ok(Answer::Passes(table.verdict(&frame, port)))
+    Ok(Answer::Passes(stated.table.verdict(&frame, port)))
 }
 
 /// The listing of a table's program.
@@ -65,12 +65,12 @@ fn compiled<F: Write>(alloc: Global, input: &[u8], faults: &mut Tried<F>) -> Res
     ensures answered { (port : ℕ) → IfOk result (AnswersTable None port input.now) }
     ensures refused { IfErr result (RefusesTable None input.now) }
 {
-    let table = match read_table(alloc, input) {
-        Ok(table) => table,
+    let stated = match StatedTable::read(alloc, input) {
+        Ok(stated) => stated,
         Err(refusal) => return Err(refusal),
     };
-    note_dead_rules(&table, faults);
-    match compiled_listing(alloc, &table) {
+    note_dead_rules(&stated, faults);
+    match compiled_listing(alloc, &stated.table) {
         Ok(listing) => Ok(Answer::Text(listing)),
         Err(AllocError) => Err(Refusal::OutOfMemory),
     }

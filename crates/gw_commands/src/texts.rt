@@ -1,8 +1,8 @@
 //! What a text means, or why it is refused: a record, the program of a listing, and the table of a table's text.
 
-ghost use Rattle.std.specs.Prelude.{IfOk, IfErr};
+ghost use Rattle.std.specs.Prelude.{◌≡◌, IfOk, IfErr};
 ghost use Rattle.gw_commands.specs.Frames.{RefusesRecord};
-ghost use Rattle.gw_commands.specs.Tables.{RefusesText};
+ghost use Rattle.gw_commands.specs.Tables.{RefusesText, TellsPlace, refused_rule};
 ghost use Rattle.gw_commands.specs.Verdicts.{IsProgramRefusal};
 ghost use Rattle.gw_input.specs.Programs.{NamesProgram};
 ghost use Rattle.gw_input.specs.Records.{NamesRecord};
@@ -11,11 +11,11 @@ ghost use Rattle.gw_input.specs.Tables.{IsTable};
 use crate::notes::note_standard_identifier;
 use crate::refusal::Refusal;
 use gw_frame::Frame;
-use gw_input::{ProgramFault, TableFault, record};
+use gw_input::{ProgramFault, TableFault, line_of_rule, record, rule_lines};
 use gw_io::Tried;
-use gw_table::Table;
+use gw_table::{KeyLocation, Part, Table, TableRefusal};
 use gw_verify::Program;
-use std::alloc::Global;
+use std::alloc::{AllocError, Global};
 use std::io::Write;
 
 /// The record that a text names. A person is told where it may be meant as another frame.
@@ -55,7 +55,39 @@ pub fn read_table(alloc: Global, text: &[u8]) -> Result<Table, Refusal>
     match gw_input::table(alloc, text) {
         Ok(table) => Ok(table),
         Err(TableFault::NotUtf8) => Err(Refusal::NotUtf8),
-        Err(TableFault::Text(why)) => Err(Refusal::Table(why)),
+        Err(TableFault::Text(why)) => {
+            let line = refused_line(alloc, text, &why);
+            Err(Refusal::Table { why, line })
+        }
         Err(TableFault::OutOfMemory) => Err(Refusal::OutOfMemory),
+    }
+}
+
+/// The line at which the rule begins that a refusal names.
+fn refused_line(alloc: Global, text: &[u8], why: &TableRefusal) -> Option<usize>
+    ensures { TellsPlace text.now why.now result }
+{
+    let rule = refused_rule(why)?;
+    match rule_lines(alloc, text) {
+        Ok(lines) => line_of_rule(lines.as_slice(), rule),
+        Err(AllocError) => None,
+    }
+}
+
+/// The rule that a refusal names.
+fn refused_rule(why: &TableRefusal) -> Option<usize>
+    ensures { result ≡ refused_rule why.now }
+{
+    match why {
+        TableRefusal::UnknownKey {
+            location: KeyLocation::Rule(rule),
+            ..
+        }
+        | TableRefusal::BadAction {
+            of: Part::Rule(rule),
+            ..
+        }
+        | TableRefusal::BadRange { rule, .. } => Some(*rule),
+        _ => None,
     }
 }

@@ -19,5 +19,5 @@ pub use numbers::{number, number_before, port, port_before};
 pub use programs::{ProgramFault, program, program_policy};
 pub use records::{RecordFault, record};
 pub use refusing::{refused, refused_code};
-pub use rule_places::rule_lines;
+pub use rule_places::{line_of_rule, rule_lines};
 pub use tables::{TableFault, table, table_policy};

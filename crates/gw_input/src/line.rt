@@ -3,7 +3,9 @@
 ghost use Rattle.std.specs.Prelude.{◌≡◌, ◌+◌, ◌≤◌, [], ◌∷◌, ◌++◌, if◌then◌else◌, length, decimal};
 ghost use Rattle.hex.specs.Hex.{encode_lower};
 ghost use Rattle.gw_input.specs.PortTexts.{ports_text};
+ghost use Rattle.gw_input.specs.RuleLines.{line_words, rule_name};
 
+use crate::rule_places::line_of_rule;
 use arrayvec::ArrayVec;
 use gw_frame::Frame;
 use gw_ledger::PortSet;
@@ -117,6 +119,30 @@ impl Line {
             self.text(",").port(port)
         } else {
             self.port(port)
+        }
+    }
+
+    /// Appends a rule by its number, and the line at which it stands: `rule 2 (line 14)`. `lines` are those of the rules, in
+    /// their order; a rule behind the last of them is named by its number alone.
+    pub fn rule(self, number: usize, lines: &[usize]) -> Line
+        requires { length self + 53 ≤ 192 }
+        ensures octets { result ≡ self ++ rule_name lines.now number }
+        ensures len { length result ≤ length self + 53 }
+    {
+        self.text("rule ")
+            .digits(number as u64)
+            .place(line_of_rule(lines, number))
+    }
+
+    /// Appends the line at which a rule stands, where it is known.
+    fn place(self, place: Option<usize>) -> Line
+        requires { length self + 28 ≤ 192 }
+        ensures octets { result ≡ self ++ line_words place }
+        ensures len { length result ≤ length self + 28 }
+    {
+        match place {
+            Some(place) => self.text(" (line ").digits(place as u64).text(")"),
+            None => self,
         }
     }
 

@@ -1,6 +1,6 @@
 //! Where the rules of a table stand in its text.
 
-ghost use Rattle.std.specs.Prelude.{◌≡◌, ◌≤◌, ◌++◌, not, length, IfOk, OnOk};
+ghost use Rattle.std.specs.Prelude.{◌≡◌, ◌≤◌, ◌++◌, not, length, slice_get, IfOk, OnOk};
 ghost use Rattle.std.specs.List.{position_or_len};
 ghost use Rattle.gw_input.specs.RuleLines.{begins_rule, is_blank, rule_lines, rule_number};
 
@@ -20,6 +20,13 @@ pub fn rule_lines(alloc: Global, text: &[u8]) -> Result<Vec<usize>, AllocError>
         push_rule(&mut lines, line, number)?;
     }
     Ok(lines)
+}
+
+/// The line at which a rule stands, where it is known. `lines` are those of the rules, in their order.
+pub fn line_of_rule(lines: &[usize], number: usize) -> Option<usize>
+    ensures { result ≡ slice_get lines.now number }
+{
+    lines.get(number).copied()
 }
 
 /// Appends the number of a line that begins a rule.

@@ -51,22 +51,23 @@ fates_are : map (fate_of (table_fate not_33 0)) (log_lines log) ≡ all_fates
 unfolding fate_of log_lines line_of words_of is_blank is_marked frame_of digit
 fates_are = refl
 
-passed : written_of (fate_of (table_fate not_33 0)) (wanted_front Passed) (log_lines log) ≡ codes "(1.1) can0 18FEF100#01\n"
+passed : written_of (fate_of (table_fate not_33 0)) (wanted_front [] Passed) (log_lines log) ≡ codes "(1.1) can0 18FEF100#01\n"
 unfolding written_of fate_of log_lines line_of words_of is_blank is_marked frame_of digit
 passed = refl
 
-blocked : written_of (fate_of (table_fate not_33 0)) (wanted_front Blocked) (log_lines log)
+blocked : written_of (fate_of (table_fate not_33 0)) (wanted_front [] Blocked) (log_lines log)
     ≡ codes "(1.0) can0 123#01\r\n(1.2) can0 0CFEF121#\n(1.3) can1 123#0A"
 unfolding written_of fate_of log_lines line_of words_of is_blank is_marked frame_of digit
 blocked = refl
 
-each : written_of (fate_of (table_fate not_33 0)) (wanted_front Each) (log_lines log)
-    ≡ codes "block other (1.0) can0 123#01\r\npass default (1.1) can0 18FEF100#01\nblock rule 0 (1.2) can0 0CFEF121#\n"
+each : written_of (fate_of (table_fate not_33 0)) (wanted_front (12 ∷ []) Each) (log_lines log)
+    ≡ codes "block other (1.0) can0 123#01\r\npass default (1.1) can0 18FEF100#01\nblock rule 0 (line 12) (1.2) "
+    ++ codes "can0 0CFEF121#\n"
     ++ codes "block other (1.3) can1 123#0A"
 unfolding written_of fate_of log_lines line_of words_of is_blank is_marked frame_of digit digits
 each = refl
 
-nothing : written_of (fate_of (table_fate not_33 0)) (wanted_front Nothing) (log_lines log) ≡ []
+nothing : written_of (fate_of (table_fate not_33 0)) (wanted_front [] Nothing) (log_lines log) ≡ []
 unfolding written_of fate_of log_lines line_of words_of is_blank is_marked frame_of digit
 nothing = refl
 

@@ -1,32 +1,25 @@
 -- A log whose lines are judged, with one judged line more; and the line that is unfinished.
-use Rattle.std.proofs.Common.{◌≡◌, ℕ, ◌-◌, ◌<◌, ◌==◌, Bool, true, false, true≢false, List, [], ◌∷◌, ◌++◌, length, take}
+use Rattle.std.proofs.Common.{◌≡◌, ℕ, ◌-◌, Bool, true, false, List, [], ◌∷◌, ◌++◌, length, take}
 use Rattle.std.proofs.Common.{zero, suc, map, Option, Result, Ok, Err, refl, sym, ap, ◌∙◌, subst}
-use Rattle.std.proofs.Common.{append_assoc, append-nil, arith}
-use Rattle.std.specs.Prelude.{OnOk}
+use Rattle.std.proofs.Common.{append_assoc, append-nil}
 use Rattle.std.specs.Io.KnownBytes.{Appends}
-use Rattle.std.proofs.lemmas.List.{length-take, length-append, length-map, map_push}
-use Rattle.std.proofs.lemmas.List.Elements.{All-append, All-nil, All-push}
+use Rattle.std.proofs.lemmas.List.{length-append, length-map, map_push}
+use Rattle.std.proofs.lemmas.List.Elements.{All-append, All-push}
 use native.Mathlib.Numerals.{unary_clauses}
 use Rattle.gw_input.specs.Lines.{is_line_feed}
-use Rattle.gw_log.specs.declared.refusal.LogRefusal.{LogRefusal}
 use Rattle.gw_judge.specs.declared.fate.Fate.{Fate}
-use Rattle.gw_judge.specs.declared.fate.Fate.TheVariants as fates
 use Rattle.gw_judge.specs.declared.tally.Tally.{Tally}
-use Rattle.gw_judge.specs.declared.fault.RefusedLine.{RefusedLine}
 use Rattle.gw_judge.specs.declared.fault.JudgeFault.{JudgeFault}
 use Rattle.gw_judge.specs.declared.fault.JudgeFault.TheVariants.{ReadFault, WriteFault, Refused}
-use Rattle.gw_judge.specs.declared.judging.Judging.{Judging}
-use Rattle.gw_judge.specs.Grouped.{Grouped, no_groups}
 use Rattle.gw_judge.specs.Fates.{is_refused, fate_of}
 use Rattle.gw_judge.specs.Tallies.{up_to_most, IsTally}
-use Rattle.gw_judge.specs.Counting.{no_tally, tally_with}
-use Rattle.gw_judge.specs.Judged.{log_lines, last_line, line_text, written_of}
+use Rattle.gw_judge.specs.Counting.{tally_with}
+use Rattle.gw_judge.specs.Judged.{log_lines, line_text, written_of}
 use Rattle.gw_judge.specs.LineParts.{IsEndless, IsLinePart, ends_line}
-use Rattle.gw_judge.specs.UnderWay.{Puts, Judges, Refuses, AreJudged, HasJudged, Begins, Fails, Reaches, Closes}
-use Rattle.gw_judge.proofs.Gathering.{appended_nothing}
-use Rattle.gw_judge.proofs.Lines.{ended_line_first, rest_alone, written_more, written_first, written_none, fate_kept, text_kept}
-use Rattle.gw_judge.proofs.Lines.{part_ended, part_endless}
-use Rattle.gw_judge.proofs.Counting.{tally_more, none_told}
+use Rattle.gw_judge.specs.UnderWay.{Judges, AreJudged, Fails}
+use Rattle.gw_judge.proofs.Lines.{ended_line_first, written_more, written_first, written_none, fate_kept, text_kept}
+use Rattle.gw_judge.proofs.Lines.{part_ended}
+use Rattle.gw_judge.proofs.Counting.{tally_more}
 
 -- ---- one line more
 

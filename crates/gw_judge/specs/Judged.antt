@@ -1,10 +1,11 @@
 -- What judging a log writes and counts: `before` and `after` are what its reader has left, `old` and `new` what its writer took.
 use Rattle.std.specs.Prelude.{◌≡◌, ◌⊎◌, ◌≤◌, ℕ, ◌+◌, Bool, true, false, if◌then◌else◌, List, [], ◌∷◌, ◌++◌, length, map, All}
-use Rattle.std.specs.Prelude.{Option, Some, None, codes, decimal}
+use Rattle.std.specs.Prelude.{Option, Some, None, codes}
 use Rattle.std.specs.List.{flat_map, slice_split}
 use Rattle.std.specs.Io.KnownBytes.{Appends, Consumes, IsAtEnd}
 use Rattle.gw_io.specs.Written.{WritesPart}
 use Rattle.gw_input.specs.Lines.{is_line_feed}
+use Rattle.gw_input.specs.RuleLines.{rule_name}
 use Rattle.gw_log.specs.LogFrames.{refusal_number}
 use Rattle.gw_table.specs.declared.table.Part.{Part}
 use Rattle.gw_table.specs.declared.table.Part.TheVariants.{Rule, Default, Other}
@@ -33,26 +34,30 @@ with_ends (line ∷ next ∷ more) = (line ++ 10 ∷ []) ∷ with_ends (next ∷
 unfoldable pub log_lines : List ℕ → List (List ℕ)
 log_lines log = with_ends (slice_split is_line_feed log)
 
--- what decides a frame, in words: a rule by its number, `default` or `other`; a program has no parts
-abbrev pub part_text : Option Part → List ℕ
-part_text (Some (Rule number)) = codes " rule " ++ decimal number
-part_text (Some Default) = codes " default"
-part_text (Some Other) = codes " other"
-part_text None = []
+-- what decides a frame, in words: a rule by its number and the line at which it stands, `default` or `other`; a program has no
+-- parts
+abbrev pub part_text : List ℕ → Option Part → List ℕ
+part_text lines (Some (Rule number)) = rule_name lines number ++ codes " "
+part_text lines (Some Default) = codes "default "
+part_text lines (Some Other) = codes "other "
+part_text lines None = []
+
+abbrev pub front_line : List ℕ → List ℕ → Option Part → List ℕ
+front_line verdict lines part = verdict ++ codes " " ++ part_text lines part
 
 -- the verdict on a frame, and what decides it; no other line is written
-abbrev pub verdict_front : Fate → Option (List ℕ)
-verdict_front (Passed frame) = Some (codes "pass" ++ part_text frame.part ++ codes " ")
-verdict_front (Blocked frame) = Some (codes "block" ++ part_text frame.part ++ codes " ")
-verdict_front Silent = None
-verdict_front (Refused why) = None
+abbrev pub verdict_front : List ℕ → Fate → Option (List ℕ)
+verdict_front lines (Passed frame) = Some (front_line (codes "pass") lines frame.part)
+verdict_front lines (Blocked frame) = Some (front_line (codes "block") lines frame.part)
+verdict_front lines Silent = None
+verdict_front lines (Refused why) = None
 
 -- nothing stands in front of the lines that pass or are blocked, and no other line is written; or of each frame the verdict
-abbrev pub wanted_front : Wanted → Fate → Option (List ℕ)
-wanted_front wanted.Passed fate = if is_passed fate then Some [] else None
-wanted_front wanted.Blocked fate = if is_blocked fate then Some [] else None
-wanted_front wanted.Each fate = verdict_front fate
-wanted_front wanted.Nothing fate = None
+abbrev pub wanted_front : List ℕ → Wanted → Fate → Option (List ℕ)
+wanted_front lines wanted.Passed fate = if is_passed fate then Some [] else None
+wanted_front lines wanted.Blocked fate = if is_blocked fate then Some [] else None
+wanted_front lines wanted.Each fate = verdict_front lines fate
+wanted_front lines wanted.Nothing fate = None
 
 -- what is written of a line: it stands unchanged behind its front; a line that is refused, or has no front, is not written
 abbrev pub behind_front : Option (List ℕ) → List ℕ → List ℕ

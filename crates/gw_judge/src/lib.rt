@@ -23,6 +23,6 @@ pub use fault::{JudgeFault, RefusedLine};
 pub use groups::{Grouping, Groups, Verdicts};
 pub use head::{Head, NoLog};
 pub use judging::Asked;
-pub use report::{Report, Wanted};
+pub use report::{Named, Report, Wanted};
 pub use tally::{Cause, MAX_RULES, Tally};
 pub use whole::judge;

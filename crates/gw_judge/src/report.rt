@@ -2,7 +2,7 @@
 
 ghost use Rattle.std.specs.Prelude.{◌≡◌, ◌+◌, ◌≤◌, ◌++◌, ℕ, List, Option, length, if◌then◌else◌, Some, None, []};
 ghost use Rattle.gw_judge.specs.declared.fate.Fate.{Fate};
-ghost use Rattle.gw_judge.specs.Judged.{part_text, verdict_front, wanted_front};
+ghost use Rattle.gw_judge.specs.Judged.{front_line, verdict_front, wanted_front};
 
 use crate::fate::Fate;
 use gw_input::Line;
@@ -25,20 +25,28 @@ pub enum Wanted {
     Passed,
     /// Those that say a frame that is blocked.
     Blocked,
-    /// Those that say a frame, each behind its verdict and what decides it: `pass rule 0 (1.0) can0 18FEF100#`.
+    /// Those that say a frame, each behind its verdict and what decides it: `pass rule 0 (line 12) (1.0) can0 18FEF100#`.
     Each,
     /// None.
     Nothing,
 }
 
-impl Report for Wanted {
-    ghost front_of = { wanted_front };
+/// The lines that are wanted, and where the rules stand that are named in front of them.
+#[derive(Clone, Copy)]
+pub struct Named<'a> {
+    pub wanted: Wanted,
+    /// The line at which each rule of the table stands, by its number. A rule behind the last of them is named without one.
+    pub rule_lines: &'a [usize],
+}
+
+impl<'a> Report for Named<'a> {
+    ghost front_of = { λ n. wanted_front n.rule_lines.now n.wanted };
 
     fn front(&self, fate: Fate) -> Option<Line> {
-        match self {
+        match self.wanted {
             Wanted::Passed => unchanged_if(matches!(fate, Fate::Passed(_))),
             Wanted::Blocked => unchanged_if(matches!(fate, Fate::Blocked(_))),
-            Wanted::Each => verdict_front(fate),
+            Wanted::Each => verdict_front(self.rule_lines, fate),
             Wanted::Nothing => None,
         }
     }
@@ -52,26 +60,26 @@ fn unchanged_if(wanted: bool) -> Option<Line>
 }
 
 /// The verdict on a frame and what decides it.
-fn verdict_front(fate: Fate) -> Option<Line>
-    ensures { result ≡ verdict_front fate }
+fn verdict_front(lines: &[usize], fate: Fate) -> Option<Line>
+    ensures { result ≡ verdict_front lines.now fate }
 {
     match fate {
-        Fate::Passed(frame) => Some(with_part(Line::new().text("pass"), frame.part).text(" ")),
-        Fate::Blocked(frame) => Some(with_part(Line::new().text("block"), frame.part).text(" ")),
+        Fate::Passed(frame) => Some(front_line("pass", lines, frame.part)),
+        Fate::Blocked(frame) => Some(front_line("block", lines, frame.part)),
         Fate::Silent | Fate::Refused(_) => None,
     }
 }
 
-/// A line with what decides a frame behind it.
-fn with_part(line: Line, part: Option<Part>) -> Line
-    requires { length line + 26 ≤ 192 }
-    ensures octets { result ≡ line ++ part_text part }
-    ensures len { length result ≤ length line + 26 }
+/// A verdict and what gave it, with a space behind each.
+fn front_line(verdict: &str, lines: &[usize], part: Option<Part>) -> Line
+    requires { length verdict.now ≤ 5 }
+    ensures { result ≡ front_line verdict.now lines.now part }
 {
+    let line = Line::new().text(verdict).text(" ");
     match part {
-        Some(Part::Rule(number)) => line.text(" rule").number(number as u64),
-        Some(Part::Default) => line.text(" default"),
-        Some(Part::Other) => line.text(" other"),
+        Some(Part::Rule(number)) => line.rule(number, lines).text(" "),
+        Some(Part::Default) => line.text("default "),
+        Some(Part::Other) => line.text("other "),
         None => line,
     }
 }

@@ -8,7 +8,8 @@ use Rattle.gw_commands.proofs.log_diff_command.write_changed.Goals as goal
 
 pub returns-in-Err : goal.returns-in-Err
 returns-in-Err g c =
-    inr (ended_early (fate_of (changed_fate c.args.changed.now.old.now c.args.changed.now.new.now c.args.port)) Each false
+    inr (ended_early (fate_of (changed_fate c.args.changed.now.old.now c.args.changed.now.new.now c.args.port))
+    c.args.rule_lines.now Each false
     (g.I.Read.remaining (inner_of c.args.input.now)) (g.I.Read.remaining (inner_of c.judge-judged.new.reader))
     (has_failed c.judge-judged.new.reader)
     (g.W.Write.contents (inner_of c.args.output.now)) (g.W.Write.contents (inner_of c.judge-judged.new.writer))
