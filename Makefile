@@ -63,7 +63,7 @@ crates/test_soak/out/test_soak:
 	@cd crates/test_soak && rt run -- $$(cat args)
 
 # Our loop beside libpcap's on the same programs and records, and the times of tables, scripts, traces and threads
-# (docs/BENCHMARKS.md). Debian: libpcap-dev.
+# (docs/BENCHMARKS.md). Debian: libpcap-dev, and can-utils for log2asc.
 .PHONY: bench
 bench:
 	@$(MAKE) --no-print-directory -C bench

@@ -182,7 +182,8 @@ static bool time_rules(const char *name, const uint8_t (*records)[16])
     printf("| %zu | %.1f | %d of %d | %.1f | %.1f | %.1f | %.2f | %.2f |\n", length, (double)steps / RECORDS, passed, RECORDS,
            rules_best / frames, our_best / frames, their_best / frames, our_best / rules_best, our_best / their_best);
     return time_tables(text, text_length, records) && time_events(text, text_length, records)
-           && time_scripts(text, text_length, records) && time_runs(name, text, text_length, records);
+           && time_scripts(text, text_length, records) && time_logs(name, text, text_length, records)
+           && time_runs(name, text, text_length, records);
 }
 
 /* One part alone, with the table of a file where it needs one. */
@@ -206,6 +207,8 @@ static bool time_part(const char *part, const char *name, const uint8_t (*record
         return time_traces(records);
     if (strcmp(part, "scripts") == 0)
         return time_scripts(text, length, records);
+    if (strcmp(part, "logs") == 0)
+        return time_logs(name, text, length, records);
     if (strcmp(part, "runs") == 0)
         return time_runs(name, text, length, records);
     return is_refused(part, "no such part");
@@ -215,7 +218,7 @@ int main(int argc, char **argv)
 {
     static uint8_t records[RECORDS][16];
     if (argc != 2 && argc != 3) {
-        fprintf(stderr, "usage: bench TABLE.toml [programs|tables|differences|events|texts|traces|scripts|runs]\n");
+        fprintf(stderr, "usage: bench TABLE.toml [programs|tables|differences|events|texts|traces|scripts|logs|runs]\n");
         return 2;
     }
     write_records(records);

@@ -64,6 +64,18 @@ uint64_t steps_on(const struct bpf_insn *code, const uint8_t *record);
 /* Times `gw replay`, with the table of a text for sixteen ports. */
 bool time_scripts(const char *text, size_t length, const uint8_t (*records)[16]);
 
+/* What a process took: on the clock, and of all its threads' processors. */
+struct cost {
+    double clock;
+    double processors;
+};
+
+/* Runs a shell's command, and tells what it cost. False where it fails. */
+bool run_command(const char *command, struct cost *cost);
+
+/* Times `gw judge` on a log of these records, by the table of a text, which a file of this name has. */
+bool time_logs(const char *name, const char *text, size_t length, const uint8_t (*records)[16]);
+
 /* Times `gw run`, with the table of a text, which a file of this name has, for each port. */
 bool time_runs(const char *name, const char *text, size_t length, const uint8_t (*records)[16]);
 

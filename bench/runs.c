@@ -17,12 +17,6 @@ enum { FRAMES = 4000000, RUN_REPEATS = 5 };
 
 static const char *const trace_name = "out/trace.pcap";
 
-/* What a process took: on the clock, and of all its threads' processors. */
-struct cost {
-    double clock;
-    double processors;
-};
-
 static double nanoseconds(struct timeval t)
 {
     return (double)t.tv_sec * 1e9 + (double)t.tv_usec * 1e3;
@@ -62,25 +56,35 @@ static int filter_by_libpcap(const struct bpf_insn *code)
     return frames == FRAMES ? 0 : 1;
 }
 
-/* Runs a shell's command, or libpcap on a program where there is none, and tells what it cost. */
-static bool run_process(const char *command, const struct bpf_insn *code, struct cost *cost)
+/* Waits for a process that began then, and tells what it cost. */
+static bool has_ended_well(pid_t process, double start, struct cost *cost)
 {
     struct rusage usage;
     int status;
-    double start = now();
-    pid_t process = fork();
-    if (process < 0)
-        return false;
-    if (process == 0) {
-        if (command == NULL)
-            _exit(filter_by_libpcap(code));
-        execl("/bin/sh", "sh", "-c", command, (char *)NULL);
-        _exit(127);
-    }
-    if (wait4(process, &status, 0, &usage) != process)
+    if (process < 0 || wait4(process, &status, 0, &usage) != process)
         return false;
     *cost = (struct cost){now() - start, nanoseconds(usage.ru_utime) + nanoseconds(usage.ru_stime)};
     return WIFEXITED(status) && WEXITSTATUS(status) == 0;
+}
+
+bool run_command(const char *command, struct cost *cost)
+{
+    double start = now();
+    pid_t process = fork();
+    if (process == 0) {
+        execl("/bin/sh", "sh", "-c", command, (char *)NULL);
+        _exit(127);
+    }
+    return has_ended_well(process, start, cost);
+}
+
+static bool run_libpcap_on(const struct bpf_insn *code, struct cost *cost)
+{
+    double start = now();
+    pid_t process = fork();
+    if (process == 0)
+        _exit(filter_by_libpcap(code));
+    return has_ended_well(process, start, cost);
 }
 
 /* How many frames the ports took, as `gw run` says. */
@@ -108,10 +112,10 @@ static bool time_pair(const char *settings, int ports, const char *policies, con
     snprintf(command, sizeof command, "exec env %s ../crates/gw/out/gw run --ports %d %s < %s > out/counts", settings, ports,
              policies, trace_name);
     for (int repeat = 0; repeat < RUN_REPEATS; repeat++) {
-        if (!run_process(command, NULL, &cost) || taken() != FRAMES)
+        if (!run_command(command, &cost) || taken() != FRAMES)
             return false;
         ours = cost.clock < ours.clock ? cost : ours;
-        if (!run_process(NULL, code, &cost))
+        if (!run_libpcap_on(code, &cost))
             return false;
         theirs = cost.clock < theirs.clock ? cost : theirs;
     }
