@@ -1,4 +1,5 @@
 pub mod DigitValues
+pub mod DigitTable
 pub mod Parts
 pub mod DigitTexts
 pub mod RoundTrip

@@ -1,9 +1,11 @@
 -- The words of a text, one after another.
-use Rattle.std.proofs.Common.{◌≡◌, ℕ, suc, ◌+◌, ◌<◌, true, false, List, [], ◌∷◌, length, take, drop}
-use Rattle.std.proofs.Common.{refl, sym, ap, ◌∙◌, subst, inl, inr, add-zero, arith}
+use Rattle.std.specs.Prelude.{if◌then◌else◌}
+use Rattle.std.proofs.Common.{◌≡◌, ℕ, zero, suc, ◌+◌, ◌<◌, ◌≤◌, ◌==◌, true, false, List, [], ◌∷◌, length, take, drop}
+use Rattle.std.proofs.Common.{refl, sym, ap, ◌∙◌, subst, inl, inr, add-zero, add-one, arith}
 use Rattle.std.specs.List.{filter, slice_split, position_or_len, prefix_len}
 use Rattle.std.proofs.lemmas.Bool.{cases_Bool}
 use Rattle.gw_log.specs.LogLines.{is_blank, has_octets, is_marked, words_of, word_at, behind_blanks}
+use Rattle.gw_log.specs.MarkedWords.{word_before}
 
 -- how many octets stand before the first blank, and how many blanks in front
 abbrev pub word_length : List ℕ → ℕ
@@ -87,6 +89,18 @@ pub word_here : (all here behind : List (List ℕ)) (word : List ℕ) (index : �
     → ((k : ℕ) → word_at here k ≡ word_at all (index + k)) → word ≡ word_at all index
 word_here all here behind word index parts same =
     ap (λ ws. word_at ws 0) (sym parts) ∙ same 0 ∙ ap (word_at all) (add-zero index)
+
+pub word_passed : (all here behind : List (List ℕ)) (word : List ℕ) (index : ℕ) → here ≡ word ∷ behind
+    → ((k : ℕ) → word_at here k ≡ word_at all (index + k)) → word ≡ word_before all (index + 1)
+word_passed all here behind word index parts same =
+    word_here all here behind word index parts same ∙ ap (word_before all) (sym (add-one index))
+
+-- the word before a frame that stands first or second is its interface
+pub interface_before : (words : List (List ℕ)) (index : ℕ) → index ≤ 1
+    → word_before words index ≡ (if index == 1 then word_at words 0 else [])
+interface_before words zero few = refl
+interface_before words (suc zero) few = refl
+interface_before words (suc (suc n)) few = absurd (omega arith)
 
 pub word_behind : (all here behind : List (List ℕ)) (word : List ℕ) (index : ℕ) → here ≡ word ∷ behind
     → ((k : ℕ) → word_at here k ≡ word_at all (index + k)) → (k : ℕ) → word_at behind k ≡ word_at all (index + 1 + k)

@@ -1,9 +1,8 @@
 //! Lines of a log.
 
-ghost use Rattle.std.specs.Prelude.{◌≡◌, ◌<◌, ◌==◌, [], length, if◌then◌else◌};
+ghost use Rattle.std.specs.Prelude.{◌≡◌, ◌<◌, [], length};
 ghost use Rattle.gw_log.specs.LogLines.{
   words_of,
-  word_at,
   entry,
   is_torn,
   displayed,
@@ -100,6 +99,7 @@ fn timed(text: &[u8]) -> Result<Option<LogLine<'_>>, LogRefusal>
 }
 
 /// What the words behind a time say.
+#[tactic(auto, using(crate::proofs::WordByWord::interface_before))]
 fn in_words<'a>(time: &'a [u8], text: &'a [u8]) -> Result<Option<LogLine<'a>>, LogRefusal>
     ensures { result ≡ in_words time.now (words_of text.now) }
 {
@@ -115,18 +115,7 @@ fn in_words<'a>(time: &'a [u8], text: &'a [u8]) -> Result<Option<LogLine<'a>>, L
     if is_torn(word_at(marked.behind, 0)) {
         return Err(LogRefusal::DigitsBehind);
     }
-    entry(
-        time,
-        interface_before(text, marked.index),
-        read_frame(marked.word),
-    )
-}
-
-/// The interface before a frame, if one stands there.
-fn interface_before(text: &[u8], index: usize) -> &[u8]
-    ensures { result.now ≡ (if index == 1 then word_at (words_of text.now) 0 else []) }
-{
-    if index == 1 { word_at(text, 0) } else { &[] }
+    entry(time, marked.before, read_frame(marked.word))
 }
 
 /// What a line of the display says.

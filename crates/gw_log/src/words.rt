@@ -5,12 +5,12 @@ ghost use Rattle.std.specs.List.{list_any, prefix_len, position_or_len};
 ghost use Rattle.gw_log.specs.MarkedWords.{IsAmong};
 ghost use Rattle.gw_log.specs.LogLines.{is_blank, behind_blanks, words_of, word_at, is_marked};
 
-/// Whether this is a space, a tab, a CR or a LF.
+/// Whether this is a space, a tab, a CR or a LF. One comparison tells nearly all that are none.
 #[tactic(auto, unfolding(crate::specs::LogLines::is_blank))]
 fn is_blank(c: u8) -> bool
     ensures { result ≡ is_blank c }
 {
-    matches!(c, b' ' | b'\t' | b'\r' | b'\n')
+    c <= b' ' && matches!(c, b' ' | b'\t' | b'\r' | b'\n')
 }
 
 /// What stands behind the blanks in front.
@@ -82,6 +82,8 @@ pub struct Marked<'a> {
     /// How many words stand before it.
     pub index: usize,
     pub word: &'a [u8],
+    /// The word before it, or no octets where there is none.
+    pub before: &'a [u8],
     /// What stands behind it.
     pub behind: &'a [u8],
 }
@@ -93,17 +95,19 @@ pub fn find_marked(text: &[u8]) -> Option<Marked<'_>>
     ensures words { IfSome result (IsAmong (words_of text.now)) }
 {
     let mut index = 0;
+    let mut before: &[u8] = &[];
     let mut rest = text;
     while let Some((word, behind)) = next_word(rest) {
         if is_marked(word) {
             return Some(Marked {
                 index,
                 word,
+                before,
                 behind,
             });
         }
         index += 1;
-        rest = behind;
+        (before, rest) = (word, behind);
     }
     None
 }

@@ -1,6 +1,6 @@
 use Rattle.std.proofs.Common.{◌≡◌, ◌∙◌, false, sym, arith}
 use Rattle.gw_log.specs.LogLines.{words_of, is_marked}
-use Rattle.gw_log.proofs.WordByWord.{one_unmarked, one_word, word_behind, word_here}
+use Rattle.gw_log.proofs.WordByWord.{one_unmarked, one_word, word_behind, word_here, word_passed}
 use Rattle.gw_log.proofs.words.find_marked.Goals as goal
 
 pub returns-then-is_marked-clause-words : goal.returns-then-is_marked-clause-words
@@ -10,6 +10,7 @@ returns-then-is_marked-clause-words c =
     let behind = words_of c.in-Some.behind.now in
     record {
       word = word_here all here behind c.in-Some.word.now c.loop-word.index c.in-Some.ensures.words c.loop-word.invariant.same;
+      before = c.loop-word.invariant.before;
       behind = word_behind all here behind c.in-Some.word.now c.loop-word.index c.in-Some.ensures.words
           c.loop-word.invariant.same;
     }
@@ -27,5 +28,6 @@ loop-word-preserved c =
       unmarked = one_unmarked all here behind c.in-Some.word.now c.loop-word.index parts not_here c.loop-word.invariant.unmarked;
       words = one_word all here behind c.in-Some.word.now c.loop-word.index parts c.loop-word.invariant.words;
       octets = omega arith;
+      before = word_passed all here behind c.in-Some.word.now c.loop-word.index parts c.loop-word.invariant.same;
       same = word_behind all here behind c.in-Some.word.now c.loop-word.index parts c.loop-word.invariant.same;
     }
