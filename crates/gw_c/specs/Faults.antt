@@ -1,5 +1,5 @@
 -- Why a text or code gives no policy, and what C is told: the number of the refusal and what it names.
-use Rattle.std.specs.Prelude.{ℕ, ◌≡◌, min, Option, Some, None}
+use Rattle.std.specs.Prelude.{ℕ, ◌≡◌, min}
 use Rattle.std.specs.Option.{option_map_or}
 use Rattle.gw_insn.specs.declared.reading.ListRefusal.{ListRefusal}
 use Rattle.gw_insn.specs.declared.reading.ListRefusal.TheVariants.{BadField}
@@ -9,11 +9,9 @@ use Rattle.gw_verify.specs.declared.cause.Cause.TheVariants as cause
 use Rattle.gw_verify.specs.Cause.{cause_number}
 use Rattle.gw_text.specs.declared.refusal.AsmRefusal.{AsmRefusal}
 use Rattle.gw_text.specs.Assembly.{refusal_line, refusal_number as assembler_number}
-use Rattle.gw_table.specs.declared.table.Part.TheVariants as part
-use Rattle.gw_table.specs.declared.refusal.KeyLocation.TheVariants as location
 use Rattle.gw_table.specs.declared.refusal.TableRefusal.{TableRefusal}
-use Rattle.gw_table.specs.declared.refusal.TableRefusal.TheVariants.{UnknownKey, BadAction, BadRange}
 use Rattle.gw_table.specs.TableText.{refusal_number as table_number}
+use Rattle.gw_input.specs.Refused.{refused_rule}
 use Rattle.gw_c.specs.declared.fault.Fault.{Fault}
 use Rattle.gw_c.specs.declared.fault.Fault.TheVariants.{NotUtf8, Listing, Code, Assembler, Toml, Table, OutOfMemory}
 use Rattle.gw_c.specs.declared.fault.Told.{Told}
@@ -45,15 +43,9 @@ code_told why place = record (bare (cause_number why)) { place = counted place }
 abbrev pub assembler_told : AsmRefusal → Told
 assembler_told why = record (bare (assembler_number why)) { line = option_map_or counted (refusal_line why) nowhere }
 
--- the rule of a table that a refusal is about
-abbrev pub rule_of : TableRefusal → Option ℕ
-rule_of (UnknownKey (location.Rule rule) key) = Some rule
-rule_of (BadAction (part.Rule rule) why) = Some rule
-rule_of (BadRange rule field why) = Some rule
-rule_of _ = None
-
+-- of a table, the rule
 abbrev pub table_told : TableRefusal → Told
-table_told why = record (bare (table_number why)) { rule = option_map_or counted (rule_of why) nowhere }
+table_told why = record (bare (table_number why)) { rule = option_map_or counted (refused_rule why) nowhere }
 
 abbrev pub told_of : Fault → Told
 told_of NotUtf8 = bare 120

@@ -1,10 +1,11 @@
 //! Why a policy is refused, and what C is told of it.
 
 ghost use Rattle.std.specs.Prelude.{◌≡◌};
-ghost use Rattle.gw_c.specs.Faults.{bare, counted, told_of, listing_told, code_told, assembler_told, table_told, rule_of};
+ghost use Rattle.gw_c.specs.Faults.{bare, counted, told_of, listing_told, code_told, assembler_told, table_told};
 
+use gw_input::refused_rule;
 use gw_insn::ListRefusal;
-use gw_table::{KeyLocation, Part, TableRefusal};
+use gw_table::TableRefusal;
 use gw_text::AsmRefusal;
 use gw_verify::Cause;
 
@@ -128,30 +129,12 @@ fn table_told(why: &TableRefusal) -> Told
     ensures { result ≡ table_told why.now }
 {
     let told = Told::bare(why.number());
-    match rule_of(why) {
+    match refused_rule(why) {
         Some(rule) => Told {
             rule: counted(rule),
             ..told
         },
         None => told,
-    }
-}
-
-/// The rule that a refusal is about.
-fn rule_of(why: &TableRefusal) -> Option<usize>
-    ensures { result ≡ rule_of why.now }
-{
-    match why {
-        TableRefusal::UnknownKey {
-            location: KeyLocation::Rule(rule),
-            ..
-        }
-        | TableRefusal::BadAction {
-            of: Part::Rule(rule),
-            ..
-        }
-        | TableRefusal::BadRange { rule, .. } => Some(*rule),
-        _ => None,
     }
 }
 

@@ -2,7 +2,7 @@
 
 ghost use Rattle.std.specs.Prelude.{◌≡◌, IfOk, IfErr};
 ghost use Rattle.gw_commands.specs.Frames.{RefusesRecord};
-ghost use Rattle.gw_commands.specs.Tables.{RefusesText, TellsPlace, refused_rule};
+ghost use Rattle.gw_commands.specs.Tables.{RefusesText, told_line};
 ghost use Rattle.gw_commands.specs.Verdicts.{IsProgramRefusal};
 ghost use Rattle.gw_input.specs.Programs.{NamesProgram};
 ghost use Rattle.gw_input.specs.Records.{NamesRecord};
@@ -11,11 +11,11 @@ ghost use Rattle.gw_input.specs.Tables.{IsTable};
 use crate::notes::note_standard_identifier;
 use crate::refusal::Refusal;
 use gw_frame::Frame;
-use gw_input::{ProgramFault, TableFault, line_of_rule, record, rule_lines};
+use gw_input::{ProgramFault, TableFault, record, refused_rule, rule_line};
 use gw_io::Tried;
-use gw_table::{KeyLocation, Part, Table, TableRefusal};
+use gw_table::{Table, TableRefusal};
 use gw_verify::Program;
-use std::alloc::{AllocError, Global};
+use std::alloc::Global;
 use std::io::Write;
 
 /// The record that a text names. A person is told where it may be meant as another frame.
@@ -56,38 +56,16 @@ pub fn read_table(alloc: Global, text: &[u8]) -> Result<Table, Refusal>
         Ok(table) => Ok(table),
         Err(TableFault::NotUtf8) => Err(Refusal::NotUtf8),
         Err(TableFault::Text(why)) => {
-            let line = refused_line(alloc, text, &why);
+            let line = told_line(text, &why);
             Err(Refusal::Table { why, line })
         }
         Err(TableFault::OutOfMemory) => Err(Refusal::OutOfMemory),
     }
 }
 
-/// The line at which the rule begins that a refusal names.
-fn refused_line(alloc: Global, text: &[u8], why: &TableRefusal) -> Option<usize>
-    ensures { TellsPlace text.now why.now result }
+/// The line at which the rule begins that a refusal names, where one begins there.
+fn told_line(text: &[u8], why: &TableRefusal) -> Option<usize>
+    ensures { result ≡ told_line text.now why.now }
 {
-    let rule = refused_rule(why)?;
-    match rule_lines(alloc, text) {
-        Ok(lines) => line_of_rule(lines.as_slice(), rule),
-        Err(AllocError) => None,
-    }
-}
-
-/// The rule that a refusal names.
-fn refused_rule(why: &TableRefusal) -> Option<usize>
-    ensures { result ≡ refused_rule why.now }
-{
-    match why {
-        TableRefusal::UnknownKey {
-            location: KeyLocation::Rule(rule),
-            ..
-        }
-        | TableRefusal::BadAction {
-            of: Part::Rule(rule),
-            ..
-        }
-        | TableRefusal::BadRange { rule, .. } => Some(*rule),
-        _ => None,
-    }
+    rule_line(text, refused_rule(why)?)
 }

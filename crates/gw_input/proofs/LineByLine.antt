@@ -1,9 +1,9 @@
 -- The lines of a text, one after another.
 use Rattle.std.proofs.Common.{◌≡◌, ℕ, ◌+◌, ◌<◌, Bool, true, false, not, List, [], ◌∷◌, length, get_or, take, drop, drop-cons}
 use Rattle.std.proofs.Common.{Option, Some, None, refl, ap, sym, ◌∙◌, arith, length-drop, add-one}
-use Rattle.std.specs.List.{before_first, after_first, slice_split}
+use Rattle.std.specs.List.{before_first, after_first, slice_index_or, slice_split}
 use Rattle.std.proofs.lemmas.Bool.{ltb-true, ltb-false, not-true}
-use Rattle.std.proofs.lemmas.List.{take_all}
+use Rattle.std.proofs.lemmas.List.{get_or_default, take_all}
 use Rattle.std.proofs.lemmas.List.Splits.{slice_split_first, slice_split_none, length-slice_split}
 use Rattle.std.proofs.lemmas.List.Elements.{All-from_get_or}
 use Rattle.std.proofs.lemmas.List.Sums.{prefix_len_passes}
@@ -72,6 +72,15 @@ next_line lines n rest behind text line there is first then =
     let before = ap left_behind then in
     let now = ap left_behind is in
     (at.0, at.1, at.2 ∙ sym (ap lines_behind then), omega arith)
+
+-- the same line, as a list of lines has it with none for one that is not there
+pub line_there : (lines : List (List ℕ)) (n : ℕ) (rest behind : Option (List ℕ)) (text line : List ℕ)
+    → drop n lines ≡ lines_behind rest → rest ≡ Some text → line ≡ first_line text → behind ≡ behind_first text
+    → (n < length lines) × (line ≡ slice_index_or lines n []) × (drop (n + 1) lines ≡ lines_behind behind)
+    × (left_behind behind < left_behind rest)
+line_there lines n rest behind text line there is first then =
+    let next = next_line lines n rest behind text line there is first then in
+    (next.0, next.1 ∙ get_or_default lines n line [] next.0, next.2, next.3)
 
 -- where nothing is left behind a place, all lines stand before it
 pub all_taken : (lines : List (List ℕ)) (n : ℕ) → drop n lines ≡ [] → take n lines ≡ lines

@@ -12,6 +12,15 @@ range_more a (suc n) =
     let next : (a + 1) + n ≡ a + suc n = omega arith in
     ap (λ all. a ∷ all) (range_more (a + 1) n ∙ ap (λ m. range_with_len (a + 1) n ++ m ∷ []) next)
 
+-- the numbers from one on, in two parts
+pub range_apart : (a n k : ℕ) → range_with_len a (n + k) ≡ range_with_len a n ++ range_with_len (a + n) k
+range_apart a zero k = ap (range_with_len a) (zero-add k) ∙ ap (λ m. range_with_len m k) (sym (add-zero a))
+range_apart a (suc n) k =
+    let more : suc n + k ≡ suc (n + k) = omega arith in
+    let next : (a + 1) + n ≡ a + suc n = omega arith in
+    ap (range_with_len a) more
+    ∙ ap (λ all. a ∷ all) (range_apart (a + 1) n k ∙ ap (λ m. range_with_len (a + 1) n ++ range_with_len m k) next)
+
 -- a text of lines, with the line of one number more
 pub lines_more : (f : ℕ → List ℕ) (n : ℕ) → flat_map f (range_with_len 0 (n + 1)) ≡ flat_map f (range_with_len 0 n) ++ f n
 lines_more f n =

@@ -18,6 +18,6 @@ pub use lines::{first_line, first_word, line_in, position_of};
 pub use numbers::{number, number_before, port, port_before};
 pub use programs::{ProgramFault, program, program_policy};
 pub use records::{RecordFault, record};
-pub use refusing::{refused, refused_code};
-pub use rule_places::{line_of_rule, rule_lines};
+pub use refusing::{refused, refused_code, refused_rule};
+pub use rule_places::{line_of_rule, rule_line, rule_lines};
 pub use tables::{TableFault, table, table_policy};

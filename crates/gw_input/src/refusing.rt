@@ -2,9 +2,10 @@
 
 ghost use Rattle.std.specs.Prelude.{◌≡◌, ◌≤◌, length};
 ghost use Rattle.gw_verify.specs.Cause.{cause_number};
-ghost use Rattle.gw_input.specs.Refused.{refused_line, cause_details};
+ghost use Rattle.gw_input.specs.Refused.{refused_line, cause_details, refused_rule};
 
 use crate::line::Line;
+use gw_table::{KeyLocation, Part, TableRefusal};
 use gw_verify::Cause;
 
 /// Returns the line of a refusal: `refused`, its number and its details.
@@ -27,5 +28,23 @@ pub fn refused_code(why: Cause, place: usize) -> Line
         Cause::OutOfMemory => refused(why.number(), &[]),
         Cause::UnsetWord { word } => refused(why.number(), &[place as u64, u64::from(word)]),
         _ => refused(why.number(), &[place as u64]),
+    }
+}
+
+/// Returns the rule of a table that a refusal names, by its number.
+pub fn refused_rule(why: &TableRefusal) -> Option<usize>
+    ensures { result ≡ refused_rule why.now }
+{
+    match why {
+        TableRefusal::UnknownKey {
+            location: KeyLocation::Rule(rule),
+            ..
+        }
+        | TableRefusal::BadAction {
+            of: Part::Rule(rule),
+            ..
+        }
+        | TableRefusal::BadRange { rule, .. } => Some(*rule),
+        _ => None,
     }
 }

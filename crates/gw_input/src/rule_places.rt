@@ -22,6 +22,24 @@ pub fn rule_lines(alloc: Global, text: &[u8]) -> Result<Vec<usize>, AllocError>
     Ok(lines)
 }
 
+/// The line at which a rule of a table's text stands: as `rule_lines` at the rule's number, without memory for the others.
+pub fn rule_line(text: &[u8], rule: usize) -> Option<usize>
+    ensures { result ≡ slice_get (rule_lines text.now) rule }
+{
+    let (mut rest, mut number, mut above) = (Some(text), 0, 0);
+    while let Some(left) = rest {
+        let (line, behind) = first_line(left);
+        (rest, number) = (behind, number + 1);
+        if begins_rule(line) {
+            if above == rule {
+                return Some(number);
+            }
+            above += 1;
+        }
+    }
+    None
+}
+
 /// The line at which a rule stands, where it is known. `lines` are those of the rules, in their order.
 pub fn line_of_rule(lines: &[usize], number: usize) -> Option<usize>
     ensures { result ≡ slice_get lines.now number }
