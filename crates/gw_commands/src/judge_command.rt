@@ -91,20 +91,24 @@ pub fn judge_named<R: Files, I: Read, W: Write, F: Write>(
         (W.contents (inner_of output.old)) (W.contents (inner_of output.new)) (has_failed output.new) result }
 {
     match read_file(rt, alloc, file) {
-        Ok(text) => judge_log(alloc, query, text.as_slice(), input, output, faults),
-        Err(refusal) => {
+        Ok(text) => {
+            let text = text.as_slice();
+            judge_log(alloc, query, file, text, input, output, faults)
+        }
+        Err(unread) => {
             note_file(file, faults);
-            respond(&Err(refusal), output, faults)
+            respond(&Err(unread), output, faults)
         }
     }
 }
 
-/// Judges each line of a log by the policy of this text, and writes the lines that are asked for, or the counts of all. Refused
-/// are the policy's text as by the commands `table` and `check`; 96, a read that failed; and strictly 101 to 113, the first line
+/// Judges each line of a log by the policy of a file's text, and writes the lines that are asked for, or the counts of all.
+/// Refused are the policy's text as by the commands `table` and `check`, and a person is told which file it is; 96, a read that failed; and strictly 101 to 113, the first line
 /// that says no classic frame. Where lines are asked for, nothing else is written, and a person is told of the rest.
 pub fn judge_log<I: Read, W: Write, F: Write>(
     alloc: Global,
     query: LogQuery,
+    file: &str,
     text: &[u8],
     input: &mut Tried<I>,
     output: &mut Tried<W>,
@@ -119,18 +123,20 @@ pub fn judge_log<I: Read, W: Write, F: Write>(
     match query.kind {
         PolicyKind::Table => match StatedTable::read(alloc, text) {
             Ok(stated) => judge_table(alloc, query, stated, input, output, faults),
-            Err(refusal) => respond(&Err(refusal), output, faults),
+            Err(refusal) => {
+                note_file(file, faults);
+                respond(&Err(refusal), output, faults)
+            }
         },
         PolicyKind::Listing => match program(alloc, text) {
             Ok(program) => {
-                let decider = &Policy::from_program(program);
-                let policy = LogPolicy {
-                    decider,
-                    rule_lines: &[],
-                };
-                judge_by(alloc, query, policy, input, output, faults)
+                let policy = Policy::from_program(program);
+                judge_by(alloc, query, &policy, &[], input, output, faults)
             }
-            Err(refusal) => respond(&Err(refusal), output, faults),
+            Err(refusal) => {
+                note_file(file, faults);
+                respond(&Err(refusal), output, faults)
+            }
         },
     }
 }
@@ -154,41 +160,33 @@ fn judge_table<I: Read, W: Write, F: Write>(
     let StatedTable { table, lines } = stated;
     let rule_lines = lines.as_slice();
     match IndexedTable::new(alloc, table) {
-        Ok(indexed) => {
-            let decider = &indexed;
-            let policy = LogPolicy {
-                decider,
-                rule_lines,
-            };
-            judge_by(alloc, query, policy, input, output, faults)
-        }
-        Err(table) => {
-            let decider = &table;
-            let policy = LogPolicy {
-                decider,
-                rule_lines,
-            };
-            judge_by(alloc, query, policy, input, output, faults)
-        }
+        Ok(indexed) => judge_by(alloc, query, &indexed, rule_lines, input, output, faults),
+        Err(table) => judge_by(alloc, query, &table, rule_lines, input, output, faults),
     }
 }
 
-/// Judges each line of a log by what decides. 100 is want of memory for groups that are asked for, before the log is read.
+/// Judges each line of a log by what decides. `rule_lines` are the lines at which the rules of a table stand, where they are
+/// known. 100 is want of memory for groups that are asked for, before the log is read.
 fn judge_by<D: TellsParts, I: Read, W: Write, F: Write>(
     alloc: Global,
     query: LogQuery,
-    policy: LogPolicy<D>,
+    decider: &D,
+    rule_lines: &[usize],
     input: &mut Tried<I>,
     output: &mut Tried<W>,
     faults: &mut Tried<F>,
 ) -> u8
     requires input { has_failed input.old ≡ false }
     requires output { has_failed output.old ≡ false }
-    ensures { JudgesGroups (fate_of (D.fate_by policy.entry.decider.now query.port)) policy.entry.rule_lines.now
-        (D.counts_by policy.entry.decider.now policy.entry.rule_lines.now) query.by query.shown query.strict
+    ensures { JudgesGroups (fate_of (D.fate_by decider.now query.port)) rule_lines.now
+        (D.counts_by decider.now rule_lines.now) query.by query.shown query.strict
         (I.remaining (inner_of input.old)) (I.remaining (inner_of input.new)) (has_failed input.new)
         (W.contents (inner_of output.old)) (W.contents (inner_of output.new)) (has_failed output.new) result }
 {
+    let policy = LogPolicy {
+        decider,
+        rule_lines,
+    };
     match Groups::new(alloc, query.by) {
         Ok(groups) => judge_grouped(alloc, query, policy, groups, input, output, faults),
         Err(AllocError) => respond(&Err(Refusal::OutOfMemory), output, faults),
