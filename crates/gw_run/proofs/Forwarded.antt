@@ -1,7 +1,7 @@
 -- Lines of a run and shares of a trace, one after another.
 use Rattle.std.proofs.Common.{◌≡◌, ◌≢◌, ◌∙◌, ℕ, suc, ◌+◌, ◌-◌, ◌*◌, ◌/◌, ◌%◌, ◌<◌, ◌≤◌, List, [], ◌∷◌, ◌++◌, length, flat_map, ap}
-use Rattle.std.proofs.Common.{◌==◌, true, false, map, if◌then◌else◌, Vec, Global, ◌⊎◌}
-use Rattle.std.proofs.Common.{zero-add, append_assoc, get_or, sym, arith, None, Some, subst, ⊎_elim}
+use Rattle.std.proofs.Common.{◌==◌, refl, true, false, map, if◌then◌else◌, Vec, Global, ◌⊎◌}
+use Rattle.std.proofs.Common.{zero-add, get_or, sym, arith, None, Some, subst, ⊎_elim}
 use Rattle.std.specs.List.{range_with_len}
 use Rattle.std.proofs.lemmas.List.{append-nil}
 use Rattle.std.proofs.lemmas.Bool.Decides.{nat_tests}
@@ -135,6 +135,18 @@ share_count i port ports (frame ∷ frames) below =
 
     own_counts : (l a b : ℕ) → b ≡ a + 1 → suc l + a ≡ l + b
     own_counts l a b e = omega arith
+
+-- the share of the one port is all
+pub all_shared : (i : ℕ) (frames : List (List ℕ)) → shared_from i 0 1 frames ≡ frames
+all_shared i [] = refl
+all_shared i (frame ∷ frames) =
+    taken i 0 1 frame frames (only (i % 1) (mod-lt i one)) ∙ ap (λ later. frame ∷ later) (all_shared (i + 1) frames)
+  where
+    only : (n : ℕ) → n < 1 → n ≡ 0
+    only n below = omega arith
+
+    one : 0 < 1
+    one = omega arith
 
 -- how many frames a port's share has at most
 pub share_fits : (port ports : ℕ) (frames : List (List ℕ)) → port < ports

@@ -28,6 +28,10 @@ taken takes port (Ok (Some entry)) =
 unfoldable pub taken_at : (List ℕ → Option ℕ) → ℕ → List ℕ → List (List ℕ)
 taken_at takes port log = flat_map (λ line. taken takes port (line_of line)) (log_lines log)
 
+-- the frames of a log's lines, in order: those that a port takes which takes each interface's
+abbrev pub log_frames : List ℕ → List (List ℕ)
+log_frames log = taken_at (λ interface. Some 0) 0 log
+
 -- by port, the frames of the lines whose interface is named for it
 abbrev pub named_inputs : List NamedInterface → ℕ → List ℕ → List (List (List ℕ))
 named_inputs names ports log = map (λ port. taken_at (port_named names) port log) (range_with_len 0 ports)

@@ -51,7 +51,7 @@ pub fn forward_named<R: Threads + Wait + Sync + Files, G: Observer, I: Read, W: 
 }
 
 /// What the files hold, in the order of their ports; nothing where a source names none.
-fn texts<R: Files, F: Write>(
+pub(crate) fn texts<R: Files, F: Write>(
     rt: &R,
     alloc: Global,
     sources: &[PolicySource],

@@ -14,7 +14,10 @@ ghost use Rattle.gw_run.specs.Forwarding.{
   RefusesLog,
   RefusesTrace,
   RefusesOctets,
+  report_lines,
 };
+ghost use Rattle.gw_commands.specs.declared.refusal.Refusal.TheVariants.{OutOfMemory};
+ghost use Rattle.gw_run.specs.declared.refusal.ForwardRefusal.TheVariants.{Command};
 ghost use Rattle.gw_run.specs.declared.taking.Taking.TheVariants.{InTurn};
 
 use crate::first::first_batch;
@@ -25,10 +28,9 @@ use crate::notes::{note_dealt, note_log, note_lost};
 use crate::observing::Observer;
 use crate::octets::read_trace;
 use crate::refusal::ForwardRefusal;
-use crate::running::{run_lists, run_shares};
+use crate::running::{frame_count, run_lists, run_shares};
 use crate::taking::{NamedInterface, Taking};
 use gw_commands::{Answer, PolicySource, Refusal, respond, write_refusal};
-use gw_frame::Frame;
 use gw_io::Tried;
 use gw_ledger::Limits;
 use gw_policy::Batch;
@@ -156,12 +158,25 @@ fn run_octets<R: Threads + Wait + Sync, G: Observer, F: Write>(
     ensures ran { IfOk result (λ text. IsOctetsRun taking.now limits first lanes octets.now text.items) }
     ensures refused { IfErr result (RefusesOctets taking.now limits first octets.now) }
 {
-    let report = match run_taken(rt, alloc, limits, first, taking, observer, octets, faults) {
-        Ok(report) => report,
-        Err(refusal) => return Err(refusal),
-    };
+    match run_taken(rt, alloc, limits, first, taking, observer, octets, faults) {
+        Ok(report) => report_octets(alloc, limits, &report, lanes, faults),
+        Err(refusal) => Err(refusal),
+    }
+}
+
+/// The lines of a report. A person is told of copies that were lost.
+pub(crate) fn report_octets<F: Write>(
+    alloc: Global,
+    limits: Limits,
+    report: &RunReport,
+    lanes: bool,
+    faults: &mut Tried<F>,
+) -> Result<Vec<u8>, ForwardRefusal>
+    ensures lines { IfOk result (λ text. text.items ≡ report_lines limits.ports lanes report.now) }
+    ensures refused { IfErr result (λ refusal. refusal ≡ Command OutOfMemory) }
+{
     note_lost(&report.report.ins, faults);
-    match report_text(alloc, limits.ports() as u8, &report, lanes) {
+    match report_text(alloc, limits.ports() as u8, report, lanes) {
         Ok(text) => Ok(text.into_bytes()),
         Err(AllocError) => Err(ForwardRefusal::Command(Refusal::OutOfMemory)),
     }
@@ -244,13 +259,4 @@ fn run_log<R: Threads + Wait + Sync, G: Observer, F: Write>(
     let ran = run_lists(rt, alloc, limits, first, lists, observer);
     notes.tell(faults);
     ran
-}
-
-/// How many frames the lists have.
-fn frame_count(lists: &[Vec<Frame>]) -> usize {
-    let mut frames = 0usize;
-    for list in lists {
-        frames = frames.saturating_add(list.len());
-    }
-    frames
 }

@@ -4,18 +4,23 @@
 mod files;
 mod first;
 mod forwarding;
+mod frames;
+mod inputs;
 mod lines;
 mod log;
 mod log_notes;
 mod notes;
 mod observing;
 mod octets;
+mod port_files;
 mod refusal;
 mod running;
 mod taking;
 
 pub use files::forward_named;
 pub use forwarding::forward;
+pub use inputs::{PortInput, forward_inputs};
 pub use observing::{NoObserver, Observer, ProgressOnStderr};
+pub use port_files::forward_files;
 pub use refusal::ForwardRefusal;
 pub use taking::{NamedInterface, Taking};

@@ -1,10 +1,10 @@
 //! The frames of a log, in lists of the ports that take them.
 
 ghost use Rattle.std.specs.Prelude.{◌≡◌, ◌<◌, ◌++◌, ◌∷◌, ◌==◌, [], ℕ, length, map, if◌then◌else◌, slice_index_or, vec_len};
-ghost use Rattle.std.specs.Prelude.{IfOk, OnOk};
+ghost use Rattle.std.specs.Prelude.{Some, option_to_list, IfOk, OnOk};
 ghost use Rattle.gw_log.specs.LogLines.{line_of};
 ghost use Rattle.gw_judge.specs.Judged.{log_lines};
-ghost use Rattle.gw_run.specs.Logs.{port_named, taken, taken_at, named_inputs, begins, is_pcap, no_log};
+ghost use Rattle.gw_run.specs.Logs.{port_named, taken, taken_at, log_frames, named_inputs, begins, is_pcap, no_log};
 
 use crate::log_notes::LogNotes;
 use crate::taking::NamedInterface;
@@ -62,6 +62,40 @@ pub(crate) fn take_log<'a>(
         rest = more;
     }
     Ok(())
+}
+
+/// The frames of a log's lines, whatever their interfaces. What a person should know of the log's other lines is noted.
+pub(crate) fn log_frames<'a>(
+    alloc: Global,
+    log: &'a [u8],
+    notes: &mut LogNotes<'a>,
+) -> Result<Vec<Frame>, AllocError>
+    ensures { IfOk result (λ frames. frames.items ≡ log_frames log.now) }
+{
+    let mut frames = Vec::new(alloc);
+    let mut rest = log;
+    'lines: while !rest.is_empty() {
+        let (line, more) = first_line(rest);
+        if let Some(frame) = line_frame(line, notes) {
+            frames.push(frame)?;
+        }
+        rest = more;
+    }
+    Ok(frames)
+}
+
+/// The frame of a line, if the line says one.
+fn line_frame<'a>(line: &'a [u8], notes: &mut LogNotes<'a>) -> Option<Frame>
+    ensures { option_to_list result ≡ taken (λ interface. Some 0) 0 (line_of line.now) }
+{
+    notes.see_line();
+    match read_line(line) {
+        Ok(said) => said.map(|said| *said.frame()),
+        Err(why) => {
+            notes.see_refused(why);
+            None
+        }
+    }
 }
 
 /// The first line of a log with its end, and what stands behind it.

@@ -28,6 +28,11 @@ pub(crate) fn note_dealt<F: Write>(ports: u32, faults: &mut Tried<F>) {
     );
 }
 
+/// Tells which file of a port's frames is refused, before its refusal.
+pub(crate) fn note_input<F: Write>(port: usize, file: &str, faults: &mut Tried<F>) {
+    let _ = writeln!(faults, "gw: the input of port {port}, {file}, is refused:");
+}
+
 /// Tells how many copies were lost on full lanes, if any were.
 pub(crate) fn note_lost<F: Write>(ledgers: &[InLedger], faults: &mut Tried<F>) {
     let mut lost = 0u64;

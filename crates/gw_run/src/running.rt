@@ -116,3 +116,12 @@ fn first_stop(stops: &[Option<OfferRefusal>]) -> Option<(usize, OfferRefusal)>
     }
     None
 }
+
+/// How many frames the lists have.
+pub(crate) fn frame_count(lists: &[Vec<Frame>]) -> usize {
+    let mut frames = 0usize;
+    for list in lists {
+        frames = frames.saturating_add(list.len());
+    }
+    frames
+}

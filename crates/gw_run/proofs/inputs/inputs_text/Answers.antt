@@ -1,0 +1,26 @@
+use Rattle.std.proofs.Common.{ℕ, List, Vec, Global, map, inl, inr}
+use Rattle.std.proofs.lemmas.Result.{IfOk-weaker}
+use Rattle.gw_run.proofs.PortInputs.{frames_of_all}
+use Rattle.gw_run.proofs.inputs.inputs_text.Goals as goal
+
+pub returns-in-Ok-run_lists-clause-ran : goal.returns-in-Ok-run_lists-clause-ran
+returns-in-Ok-run_lists-clause-ran g c =
+    IfOk-weaker c.report_octets.result _ _
+    (λ text lines. record {
+      frames = map (λ (list : Vec (List ℕ) Global). list.items) c.in-Ok.lists.items;
+      offered = frames_of_all c.args.inputs.now c.in-Ok.lists.items c.in-Ok.ensures.frames;
+      report = c.in-Ok-run_lists.report;
+      ran = c.in-Ok-run_lists.ensures.ran.0;
+      unstopped = c.in-Ok-run_lists.ensures.ran.1;
+      lines = lines;
+    })
+    c.report_octets.ensures.lines
+
+pub returns-in-Err-run_lists-clause-refused : goal.returns-in-Err-run_lists-clause-refused
+returns-in-Err-run_lists-clause-refused g c =
+    inr
+    (inl (
+      map (λ (list : Vec (List ℕ) Global). list.items) c.in-Ok.lists.items,
+      frames_of_all c.args.inputs.now c.in-Ok.lists.items c.in-Ok.ensures.frames,
+      c.in-Err-run_lists.ensures.refused,
+    ))
