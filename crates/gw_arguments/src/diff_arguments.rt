@@ -2,7 +2,7 @@
 
 use crate::arguments::{described, flag, ingress_port, matched};
 use crate::building::Building;
-use crate::port_files::{WordFault, port_file, told};
+use crate::port_files::{WordFault, name_file, told};
 use crate::run_arguments::{file_option, port_count, wrong_in};
 use clap::{Arg, ArgMatches, Command, Error};
 use gw_commands::{PortFiles, TableFiles};
@@ -160,16 +160,6 @@ fn named_files<'a>(
         }
     }
     Ok(files)
-}
-
-/// Names the file of a port.
-fn name_file<'a>(word: &'a str, files: &mut [Option<&'a str>]) -> Result<(), WordFault> {
-    let (port, file) = port_file(word, files.len())?;
-    if files[port].is_some() {
-        return Err(WordFault::Twice(port));
-    }
-    files[port] = Some(file);
-    Ok(())
 }
 
 /// `clap`'s error for a word that names no file for one of so many ports.

@@ -5,6 +5,7 @@ mod arguments;
 mod ask_arguments;
 mod building;
 mod diff_arguments;
+mod input_arguments;
 mod judge_arguments;
 mod port_files;
 mod run_arguments;

@@ -1,6 +1,6 @@
 //! Files that are named for ports, `P=FILE`.
 
-ghost use Rattle.std.specs.Prelude.{◌<◌, IfOk};
+ghost use Rattle.std.specs.Prelude.{◌≡◌, ◌<◌, length, IfOk};
 
 use std::alloc::{AllocError, Global};
 
@@ -26,6 +26,18 @@ pub fn port_file(word: &str, ports: usize) -> Result<(usize, &str), WordFault>
         Ok(port) if port < ports => Ok((port, file)),
         _ => Err(WordFault::NoPort),
     }
+}
+
+/// Names the file of a port, where none is named for it before.
+pub fn name_file<'a>(word: &'a str, files: &mut [Option<&'a str>]) -> Result<(), WordFault>
+    ensures { length files.new ≡ length files.old }
+{
+    let (port, file) = port_file(word, files.len())?;
+    if files[port].is_some() {
+        return Err(WordFault::Twice(port));
+    }
+    files[port] = Some(file);
+    Ok(())
 }
 
 /// What is told of a word that names no file for one of so many ports. A port that is named twice may have `one`.

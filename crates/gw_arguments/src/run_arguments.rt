@@ -4,6 +4,7 @@ ghost use Rattle.std.specs.Prelude.{◌≡◌, length, vec_len, IfOk};
 
 use crate::arguments::{described, flag, matched, valued};
 use crate::building::Building;
+use crate::input_arguments::{asked_inputs, input_option};
 use crate::port_files::{WordFault, port_file, told};
 use crate::taking_arguments::asked_interfaces;
 use clap::error::ErrorKind;
@@ -28,6 +29,8 @@ pub struct RunRequest<'a> {
     pub sources: Vec<PolicySource<'a>>,
     /// The interfaces of a log that are named for ports; where there is none, a trace is dealt to the ports in turn.
     pub interfaces: Vec<NamedInterface<'a>>,
+    /// The file from which each port takes its frames, if one is named; where there is none for any port, the input is read.
+    pub inputs: Vec<Option<&'a str>>,
     pub lanes: bool,
     pub progress: bool,
 }
@@ -39,7 +42,7 @@ pub fn run_arguments<'a>(alloc: Global) -> Result<Command<'a>, AllocError> {
         "run",
         "Forwards the frames of a trace or a log in threads, and tells what each port took and what of it the others let leave",
         "gw run --ports N [--lane N] [--program LISTING] [--table P=FILE].. [--listing P=FILE].. \
-        [--interface NAME=P].. [--lanes] [--progress] < INPUT",
+        ([--interface NAME=P].. | [--in P=FILE]..) [--lanes] [--progress] < INPUT",
         "A port's line counts the frames taken there; those of them that were for its own segment, as local; and as allowed the \
         copies of its frames that the policies of other ports let leave there.\n\
         Example: gw run --ports 2 --program '1,6 0 0 1,' < TRACE",
@@ -63,6 +66,7 @@ pub fn run_arguments<'a>(alloc: Global) -> Result<Command<'a>, AllocError> {
         "A file with a program's listing that decides what leaves at port P; once for each port",
     ))
     .arg(interface_option(alloc))
+    .made_arg(input_option(alloc))
     .arg(flag(
         alloc,
         "lanes",
@@ -116,7 +120,8 @@ pub(crate) fn file_option<'a>(alloc: Global, name: &'a str, help: &'a str) -> Ar
 
 /// What the arguments ask for where they name the command `run`, or `clap`'s answer to them: help, or what is wrong.
 pub fn read_run<'a, S: AsStr>(alloc: Global, words: &'a [S]) -> Result<RunRequest<'a>, Error>
-    ensures { IfOk result (λ run. vec_len run.sources ≡ run.limits.ports) }
+    ensures sources { IfOk result (λ run. vec_len run.sources ≡ run.limits.ports) }
+    ensures inputs { IfOk result (λ run. vec_len run.inputs ≡ run.limits.ports) }
 {
     let matches = matched(alloc, words)?;
     match matches.subcommand() {
@@ -127,15 +132,18 @@ pub fn read_run<'a, S: AsStr>(alloc: Global, words: &'a [S]) -> Result<RunReques
 
 /// What the arguments behind `run` ask for.
 fn asked<'a>(alloc: Global, run: &ArgMatches<'a>) -> Result<RunRequest<'a>, Error>
-    ensures { IfOk result (λ run. vec_len run.sources ≡ run.limits.ports) }
+    ensures sources { IfOk result (λ run. vec_len run.sources ≡ run.limits.ports) }
+    ensures inputs { IfOk result (λ run. vec_len run.inputs ≡ run.limits.ports) }
 {
     let limits = asked_limits(alloc, run)?;
     let sources = asked_sources(alloc, run, limits.ports() as usize)?;
     let interfaces = asked_interfaces(alloc, run, limits.ports() as usize)?;
+    let inputs = asked_inputs(alloc, run, limits.ports() as usize)?;
     Ok(RunRequest {
         limits,
         sources,
         interfaces,
+        inputs,
         lanes: run.get_flag("lanes"),
         progress: run.get_flag("progress"),
     })

@@ -1,11 +1,13 @@
 -- What is done for the arguments of a command line: `before` and `after` are what the reader has left, `old` and `new` what
 -- the output took, `told_old` and `told_new` what stderr took. Which arguments ask for what is not said here.
-use Rattle.std.specs.Prelude.{◌≡◌, ℕ, ◌⊎◌, Bool, false, List, length, Option, Err}
+use Rattle.std.specs.Prelude.{◌≡◌, ℕ, ◌⊎◌, Bool, true, false, List, Option, Err, is_some, vec_len}
+use Rattle.std.specs.List.{list_any}
 use Rattle.clap.specs.declared.error.kind.ErrorKind.{ErrorKind}
 use Rattle.clap.specs.declared.error.kind.ErrorKind.TheVariants.{DisplayHelp, DisplayVersion}
-use Rattle.gw_ledger.specs.Bounds.{Bounds}
+use Rattle.gw_arguments.specs.declared.run_arguments.RunRequest.{RunRequest}
 use Rattle.gw_commands.specs.Commands.{Does, Writes, WritesText}
 use Rattle.gw_run.specs.Forwarding.{ForwardsNamed}
+use Rattle.gw_run.specs.PortInputs.{ForwardsFiles}
 use Rattle.gw_run.specs.declared.taking.Taking.{Taking}
 use Rattle.gw_commands.specs.Differences.{ComparesNamed}
 use Rattle.gw_commands.specs.PortDifferences.{ComparesNamedPorts}
@@ -16,7 +18,6 @@ use Rattle.gw_commands.specs.Queries.{AnswersNamed, AnswersQuery, RefusesQuery, 
 use Rattle.gw_commands.specs.declared.diff_ports_command.PortFiles.{PortFiles}
 use Rattle.gw_commands.specs.declared.judge_command.LogQuery.{LogQuery}
 use Rattle.gw_commands.specs.declared.query.Query.{Query}
-use Rattle.gw_commands.specs.declared.policies.PolicySource.{PolicySource}
 use Rattle.gw_commands.specs.declared.refusal.Refusal.TheVariants.{OutOfMemory}
 
 -- what `clap` answers is help or the version
@@ -52,13 +53,23 @@ DoesWords before after failed reads old new write_failed told_old told_new tell_
     ⊎ Replays before after failed reads old new write_failed status
     ⊎ OnlyAnswersWords before after old new write_failed told_old told_new tell_failed status
 
--- an input was forwarded by a gateway of these limits, under the policies of each port's source, or a file of theirs or the input
--- was refused; or the arguments were answered and nothing was read
+-- what is asked of `run` is done by a gateway of these limits, under the policies of each port's source: where no file is named
+-- for a port, the input was forwarded; else those files were, and nothing was read
+abbrev pub DoesRun : RunRequest → Option (List ℕ) → Option (List ℕ) → Bool → ℕ → Option (List ℕ) → Option (List ℕ) → Bool → ℕ
+    → Type 0
+DoesRun run before after failed reads old new write_failed status =
+    ((taking : Taking) × (list_any is_some run.inputs.items ≡ false)
+    × ForwardsNamed taking run.limits run.sources.items run.lanes before after failed reads old new write_failed status)
+    ⊎ ((list_any is_some run.inputs.items ≡ true) × (after ≡ before)
+    × ForwardsFiles run.limits run.sources.items run.inputs.items run.lanes old new write_failed status)
+
+-- what was asked of `run` was done, for a request that has a source and maybe a file for each port; or the arguments were
+-- answered and nothing was read
 abbrev pub RunsWords : Option (List ℕ) → Option (List ℕ) → Bool → ℕ → Option (List ℕ) → Option (List ℕ) → Bool
     → Option (List ℕ) → Option (List ℕ) → Bool → ℕ → Type 0
 RunsWords before after failed reads old new write_failed told_old told_new tell_failed status =
-    ((limits : Bounds) × (sources : List PolicySource) × (taking : Taking) × (lanes : Bool) × (length sources ≡ limits.ports)
-    × ForwardsNamed taking limits sources lanes before after failed reads old new write_failed status)
+    ((run : RunRequest) × (vec_len run.sources ≡ run.limits.ports) × (vec_len run.inputs ≡ run.limits.ports)
+    × DoesRun run before after failed reads old new write_failed status)
     ⊎ OnlyAnswersWords before after old new write_failed told_old told_new tell_failed status
 
 -- a log was judged by the policy of a file, or the file or the policy was refused; or the arguments were answered and nothing

@@ -1,14 +1,16 @@
 //! The command `run`, over a reader and two writers.
 
-ghost use Rattle.std.specs.Prelude.{◌≡◌, false, vec_len};
+ghost use Rattle.std.specs.Prelude.{◌≡◌, false, is_some, vec_len};
+ghost use Rattle.std.specs.List.{list_any};
 ghost use Rattle.gw_io.specs.Tries.{inner_of, has_failed, reads_of};
-ghost use Rattle.gw_run.specs.Forwarding.{ForwardsNamed};
-ghost use Rattle.gw_cli.specs.Asked.{RunsWords};
+ghost use Rattle.gw_cli.specs.Asked.{DoesRun, RunsWords};
 
 use crate::dispatch::answer_words;
 use gw_arguments::{RunRequest, read_run};
 use gw_io::Tried;
-use gw_run::{NamedInterface, NoObserver, ProgressOnStderr, Taking, forward_named};
+use gw_run::{
+    NamedInterface, NoObserver, Observer, ProgressOnStderr, Taking, forward_files, forward_named,
+};
 use std::alloc::Global;
 use std::convert::AsStr;
 use std::io::{IsTerminal, Read, Write};
@@ -30,8 +32,8 @@ impl Console for HostRuntime {
 }
 
 /// Does what the arguments of a command line, without the program's name, ask for, where they name the command `run`; other
-/// commands are wrong arguments. The exit status is as for `command`. Which arguments give which limits, sources and ports of
-/// interfaces, no clause says. It may wait.
+/// commands are wrong arguments. The exit status is as for `command`. Which arguments give which limits, sources, files and
+/// ports of interfaces, no clause says. It may wait.
 pub fn run_command<R, S, I, W, F>(
     rt: &R,
     alloc: Global,
@@ -56,20 +58,16 @@ where
         (F.contents (inner_of faults.old)) (F.contents (inner_of faults.new)) (has_failed faults.new) result }
 {
     match read_run(alloc, words) {
-        Ok(run) => {
-            let taking = asked_taking(run.interfaces.as_slice());
-            forward_asked(rt, alloc, &run, &taking, input, output, faults)
-        }
+        Ok(run) => run_asked(rt, alloc, &run, input, output, faults),
         Err(error) => answer_words(alloc, &error, output, faults),
     }
 }
 
-/// Forwards an input as the arguments ask for it.
-fn forward_asked<R, I, W, F>(
+/// Forwards as the arguments ask for it, and tells how far it is where they ask for that or a person watches.
+fn run_asked<R, I, W, F>(
     rt: &R,
     alloc: Global,
     run: &RunRequest,
-    taking: &Taking,
     input: &mut Tried<I>,
     output: &mut Tried<W>,
     faults: &mut Tried<F>,
@@ -80,33 +78,65 @@ where
     W: Write,
     F: Write,
     requires sources { vec_len run.now.sources ≡ run.now.limits.ports }
+    requires inputs { vec_len run.now.inputs ≡ run.now.limits.ports }
     requires unread { reads_of input.old ≡ 0 }
     requires input { has_failed input.old ≡ false }
     requires output { has_failed output.old ≡ false }
-    ensures { ForwardsNamed taking.now run.now.limits run.now.sources.items run.now.lanes
+    ensures { DoesRun run.now
+        (I.remaining (inner_of input.old)) (I.remaining (inner_of input.new)) (has_failed input.new) (reads_of input.new)
+        (W.contents (inner_of output.old)) (W.contents (inner_of output.new)) (has_failed output.new) result }
+{
+    if run.progress || rt.is_watched() {
+        let meter = ProgressOnStderr::new(rt);
+        run_observed(rt, alloc, run, &meter, input, output, faults)
+    } else {
+        run_observed(rt, alloc, run, &NoObserver, input, output, faults)
+    }
+}
+
+/// Forwards the files that the ports have of their own, or the input where none is named.
+fn run_observed<R, G, I, W, F>(
+    rt: &R,
+    alloc: Global,
+    run: &RunRequest,
+    observer: &G,
+    input: &mut Tried<I>,
+    output: &mut Tried<W>,
+    faults: &mut Tried<F>,
+) -> u8
+where
+    R: Threads + Wait + Sync + Files,
+    G: Observer,
+    I: Read,
+    W: Write,
+    F: Write,
+    requires sources { vec_len run.now.sources ≡ run.now.limits.ports }
+    requires inputs { vec_len run.now.inputs ≡ run.now.limits.ports }
+    requires unread { reads_of input.old ≡ 0 }
+    requires input { has_failed input.old ≡ false }
+    requires output { has_failed output.old ≡ false }
+    ensures { DoesRun run.now
         (I.remaining (inner_of input.old)) (I.remaining (inner_of input.new)) (has_failed input.new) (reads_of input.new)
         (W.contents (inner_of output.old)) (W.contents (inner_of output.new)) (has_failed output.new) result }
 {
     let (limits, sources, lanes) = (run.limits, run.sources.as_slice(), run.lanes);
-    if run.progress || rt.is_watched() {
-        let meter = ProgressOnStderr::new(rt);
-        forward_named(
-            rt, alloc, limits, sources, taking, lanes, &meter, input, output, faults,
-        )
-    } else {
-        forward_named(
-            rt,
-            alloc,
-            limits,
-            sources,
-            taking,
-            lanes,
-            &NoObserver,
-            input,
-            output,
-            faults,
-        )
+    let files = run.inputs.as_slice();
+    if names_file(files) {
+        return forward_files(
+            rt, alloc, limits, sources, files, lanes, observer, output, faults,
+        );
     }
+    let taking = asked_taking(run.interfaces.as_slice());
+    forward_named(
+        rt, alloc, limits, sources, &taking, lanes, observer, input, output, faults,
+    )
+}
+
+/// Whether a file is named for a port.
+fn names_file(files: &[Option<&str>]) -> bool
+    ensures { result ≡ list_any is_some files.now }
+{
+    files.iter().any(|file| file.is_some())
 }
 
 /// Frames are taken by the interfaces that are named, or in turn where none is.

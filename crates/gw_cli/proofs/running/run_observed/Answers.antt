@@ -1,0 +1,42 @@
+use Rattle.std.proofs.Common.{◌∙◌, ℕ, List, Option, ap, inl, inr, is_some, refl, subst, sym}
+use Rattle.std.specs.Borrow.{Bor}
+use Rattle.std.specs.List.{list_any}
+use Rattle.gw_io.specs.Tries.{inner_of, has_failed, reads_of}
+use Rattle.gw_commands.specs.declared.policies.PolicySource.{PolicySource}
+use Rattle.gw_run.specs.Forwarding.{ForwardsNamed}
+use Rattle.gw_run.specs.PortInputs.{ForwardsFiles}
+use Rattle.gw_cli.proofs.running.run_observed.Goals as goal
+
+pub returns-then-names_file : goal.returns-then-names_file
+returns-then-names_file g c =
+    let run = c.args.run.now in
+    inr (
+      ap (list_any is_some) (sym c.as_slice-files.ensures.value) ∙ sym c.names_file.ensures ∙ c.if-names_file.true,
+      refl,
+      subst
+          (λ (files : List (Option (Bor (List ℕ)))). ForwardsFiles run.limits run.sources.items files run.lanes
+          (g.W.Write.contents (inner_of c.args.output.now)) (g.W.Write.contents (inner_of c.forward_files.new.output))
+          (has_failed c.forward_files.new.output) c.forward_files.result)
+          c.as_slice-files.ensures.value
+          (subst
+          (λ (sources : List PolicySource). ForwardsFiles run.limits sources c.as_slice-files.result.now run.lanes
+          (g.W.Write.contents (inner_of c.args.output.now)) (g.W.Write.contents (inner_of c.forward_files.new.output))
+          (has_failed c.forward_files.new.output) c.forward_files.result)
+          c.as_slice-sources.ensures.value c.forward_files.ensures),
+    )
+
+pub returns : goal.returns
+returns g c =
+    let run = c.args.run.now in
+    let taking = c.asked_taking-taking.result in
+    inl (
+      taking,
+      ap (list_any is_some) (sym c.as_slice-files.ensures.value) ∙ sym c.names_file.ensures ∙ c.if-names_file.false,
+      subst
+          (λ (sources : List PolicySource). ForwardsNamed taking run.limits sources run.lanes
+          (g.I.Read.remaining (inner_of c.args.input.now)) (g.I.Read.remaining (inner_of c.forward_named.new.input))
+          (has_failed c.forward_named.new.input) (reads_of c.forward_named.new.input)
+          (g.W.Write.contents (inner_of c.args.output.now)) (g.W.Write.contents (inner_of c.forward_named.new.output))
+          (has_failed c.forward_named.new.output) c.forward_named.result)
+          c.as_slice-sources.ensures.value c.forward_named.ensures,
+    )
