@@ -3,6 +3,7 @@
 ghost use Rattle.std.specs.Prelude.{◌≡◌, [], IfOk};
 ghost use Rattle.j1939_gateway.specs.CoreEvents.{replies};
 ghost use Rattle.j1939_gateway.specs.CoreRuns.{ForEachAnswer};
+ghost use Rattle.j1939_gateway.specs.CoreStart.{fresh};
 ghost use Rattle.j1939_gateway.specs.Headline.{Forwards};
 ghost use Rattle.j1939_gateway.specs.Safety.{StepsInside};
 
@@ -49,10 +50,10 @@ fn answers_of(
     limits: Limits,
     events: Vec<Event>,
 ) -> Result<Vec<Result<Answer, EventRefusal>>, Fault>
-    ensures replies { IfOk result (λ answers. answers.items ≡ replies limits [] events.items) }
-    ensures headline { IfOk result (λ answers. ForEachAnswer (Forwards limits) [] events.items answers.items) }
-    ensures safe { IfOk result (λ answers. ForEachAnswer (λ past event answer. StepsInside limits past event) [] events.items
-        answers.items) }
+    ensures replies { IfOk result (λ answers. answers.items ≡ replies (fresh limits) [] events.items) }
+    ensures headline { IfOk result (λ answers. ForEachAnswer (Forwards (fresh limits)) [] events.items answers.items) }
+    ensures safe { IfOk result (λ answers. ForEachAnswer (λ past event answer. StepsInside (fresh limits) past event)
+        [] events.items answers.items) }
 {
     let Ok(mut core) = Core::new(alloc, limits) else {
         return Err(Fault::NotMade(MakeRefusal::OutOfMemory));

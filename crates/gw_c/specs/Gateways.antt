@@ -4,6 +4,7 @@ use Rattle.std.specs.Prelude.{Option, Some, None, IsSomeAnd, Result, Ok, Err}
 use Rattle.gw_policy.specs.Filter.{Filter}
 use Rattle.gw_policy.specs.Batches.{Pair, names_port}
 use Rattle.gw_ledger.specs.Bounds.{Bounds}
+use Rattle.gw_core.specs.Start.{Heard, begun, unheard}
 use Rattle.gw_core.specs.Gateway.{Gateway, Stands}
 use Rattle.gw_core.specs.Events.{reply}
 use Rattle.gw_core.specs.Refusals.{refusal_number}
@@ -25,8 +26,8 @@ batch_in (Some (kind.Batch pairs)) = Some pairs
 batch_in _ = None
 
 -- the gateway in a handle stands after a history
-abbrev pub StandsIn : List Event → Option Inner → Type 0
-StandsIn history held = IsSomeAnd (gateway_in held) (λ gateway. Stands gateway history)
+abbrev pub StandsIn : Heard → List Event → Option Inner → Type 0
+StandsIn known history held = IsSomeAnd (gateway_in held) (λ gateway. Stands gateway known history)
 
 -- a gateway is in the handle before and after a call, and they are so related
 abbrev pub Changes : (Gateway → Gateway → Type 0) → Option Inner → Option Inner → Type 0
@@ -44,7 +45,7 @@ limits_of ports lane frames versions = record { ports = ports; lane = lane; vers
 -- a gateway of these limits before any event: each port's circle begins at port 0
 pub record IsOpened (bounds : Bounds) (gateway : Gateway) : Type 0 where
   pub limits : gateway.limits ≡ bounds
-  pub stands : Stands gateway []
+  pub stands : Stands gateway unheard []
   pub turns : gateway.turns ≡ replicate 16 0
 
 -- what is answered where a policy is to join a batch for a port. 60: the batch has one for it; 61: it has sixteen pairs
@@ -57,15 +58,15 @@ joined port policy pairs = pairs ++ record { port = port; policy = policy } ∷ 
 
 -- what is answered where a batch is to be published after a history: 121, a handle holds no batch or no gateway; 100, memory was
 -- refused for the owners of its policies; else as the publishing is answered
-abbrev pub AnswersPublish : List Event → Option (List Pair) → Option Gateway → ℕ → Type 0
-AnswersPublish history None gateway result = result ≡ 121
-AnswersPublish history (Some pairs) None result = result ≡ 121
-AnswersPublish history (Some pairs) (Some gateway) result =
-    Stands gateway history → result ≢ 100 → result ≡ number_of (reply gateway.limits history (Publish pairs))
+abbrev pub AnswersPublish : Heard → List Event → Option (List Pair) → Option Gateway → ℕ → Type 0
+AnswersPublish known history None gateway result = result ≡ 121
+AnswersPublish known history (Some pairs) None result = result ≡ 121
+AnswersPublish known history (Some pairs) (Some gateway) result =
+    Stands gateway known history → result ≢ 100 → result ≡ number_of (reply (begun gateway.limits known) history (Publish pairs))
 
 -- a batch was published after a history, as the last of so many
-pub record IsPublished (history : List Event) (pairs : List Pair) (front : ℕ) (old new : Gateway) : Type 0 where
-  pub answer : reply old.limits history (Publish pairs) ≡ Ok (Published front)
-  pub stands : Stands new (Publish pairs ∷ history)
+pub record IsPublished (known : Heard) (history : List Event) (pairs : List Pair) (front : ℕ) (old new : Gateway) : Type 0 where
+  pub answer : reply (begun old.limits known) history (Publish pairs) ≡ Ok (Published front)
+  pub stands : Stands new known (Publish pairs ∷ history)
   pub limits : new.limits ≡ old.limits
   pub turns : new.turns ≡ old.turns

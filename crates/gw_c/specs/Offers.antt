@@ -1,7 +1,7 @@
 -- What C is told of a frame that it offers to a gateway.
 use Rattle.std.specs.Prelude.{◌≡◌, ℕ, ◌^◌, nat_lt, if◌then◌else◌, List, sum_by, Ok}
-use Rattle.gw_ledger.specs.Bounds.{Bounds}
 use Rattle.gw_ledger.specs.declared.outcome.Outcome.{Outcome}
+use Rattle.gw_core.specs.Start.{Start, Heard, begun}
 use Rattle.gw_core.specs.Gateway.{Gateway}
 use Rattle.gw_core.specs.Events.{reply}
 use Rattle.gw_core.specs.Forwarding.{forwarded, CoreForwards, ForwardsFrame}
@@ -28,16 +28,17 @@ outcome_told outcome = record {
 }
 
 -- what is answered to a frame that is offered at a port after a history: 3, its length is above 8; else as its taking is answered
-abbrev pub offer_answer : Bounds → List Event → ℕ → CanFrame → ℕ
-offer_answer limits history port can =
-    if nat_lt 8 can.len then 3 else number_of (reply limits history (Take port (record_of can)))
+abbrev pub offer_answer : Start → List Event → ℕ → CanFrame → ℕ
+offer_answer start history port can =
+    if nat_lt 8 can.len then 3 else number_of (reply start history (Take port (record_of can)))
 
 -- the frame was taken at the port after a history and made all of its steps, each a safe one, and C is told its outcome
-pub record IsOffered (history : List Event) (port : ℕ) (can : CanFrame) (told : COutcome) (old new : Gateway) : Type 0 where
+pub record IsOffered (known : Heard) (history : List Event) (port : ℕ) (can : CanFrame) (told : COutcome)
+    (old new : Gateway) : Type 0 where
   pub outcome : Outcome
   pub said : told ≡ outcome_told outcome
-  pub forwards : CoreForwards old history port (record_of can) (Ok outcome) new
-  pub headline : ForwardsFrame old.limits history port (record_of can) outcome
-  pub safe : (n : ℕ) → StepsInside old.limits (forwarded n port (record_of can) history) (Step port)
+  pub forwards : CoreForwards old known history port (record_of can) (Ok outcome) new
+  pub headline : ForwardsFrame (begun old.limits known) history port (record_of can) outcome
+  pub safe : (n : ℕ) → StepsInside (begun old.limits known) (forwarded n port (record_of can) history) (Step port)
   pub limits : new.limits ≡ old.limits
   pub turns : new.turns ≡ old.turns

@@ -1,6 +1,7 @@
 -- What C is told of a copy that a port sends.
 use Rattle.std.specs.Prelude.{◌≡◌, ℕ, List, Option, Some, None, Result, Ok, Err}
 use Rattle.gw_ledger.specs.declared.outcome.FrameCopy.{FrameCopy}
+use Rattle.gw_core.specs.Start.{Heard}
 use Rattle.gw_core.specs.Gateway.{Gateway}
 use Rattle.gw_core.specs.Circle.{SendsNext, PeeksNext}
 use Rattle.gw_core.specs.Refusals.{refusal_number}
@@ -22,14 +23,16 @@ TellsCopy (Ok None) result old new = (result ≡ 125) × (new ≡ old)
 TellsCopy (Err why) result old new = (result ≡ refusal_number why) × (new ≡ old)
 
 -- the next copy for a port after a history is sent, and told
-pub record SendsTold (history : List Event) (to result : ℕ) (unwritten told : CCopy) (old new : Gateway) : Type 0 where
+pub record SendsTold (known : Heard) (history : List Event) (to result : ℕ) (unwritten told : CCopy)
+    (old new : Gateway) : Type 0 where
   pub answer : Result (Option FrameCopy) EventRefusal
   pub tells : TellsCopy answer result unwritten told
-  pub sends : SendsNext old history to answer new
+  pub sends : SendsNext old known history to answer new
   pub limits : new.limits ≡ old.limits
 
 -- it is told, and stays where it waits
-pub record PeeksTold (history : List Event) (to result : ℕ) (unwritten told : CCopy) (gateway : Gateway) : Type 0 where
+pub record PeeksTold (known : Heard) (history : List Event) (to result : ℕ) (unwritten told : CCopy)
+    (gateway : Gateway) : Type 0 where
   pub answer : Result (Option FrameCopy) EventRefusal
   pub tells : TellsCopy answer result unwritten told
-  pub peeks : PeeksNext gateway history to answer
+  pub peeks : PeeksNext gateway known history to answer

@@ -1,5 +1,6 @@
 -- What C is told of a frame that it has taken, and of each of its steps.
 use Rattle.std.specs.Prelude.{◌≡◌, ℕ, Bool, if◌then◌else◌, List, ◌∷◌, Ok}
+use Rattle.gw_core.specs.Start.{Heard, begun}
 use Rattle.gw_core.specs.Gateway.{Gateway, Stands}
 use Rattle.gw_core.specs.Events.{reply}
 use Rattle.gw_core.specs.Headline.{Forwards}
@@ -17,11 +18,12 @@ use Rattle.gw_c.specs.Frames.{record_of}
 use Rattle.gw_c.specs.Offers.{outcome_told}
 
 -- a frame was taken at a port after a history, and C is told how it is judged: 1 for a local frame, else 0
-pub record IsTaken (history : List Event) (port : ℕ) (can : CanFrame) (told : CTaken) (old new : Gateway) : Type 0 where
+pub record IsTaken (known : Heard) (history : List Event) (port : ℕ) (can : CanFrame) (told : CTaken)
+    (old new : Gateway) : Type 0 where
   pub local : Bool
-  pub answer : reply old.limits history (Take port (record_of can)) ≡ Ok (Taken told.number told.front local)
+  pub answer : reply (begun old.limits known) history (Take port (record_of can)) ≡ Ok (Taken told.number told.front local)
   pub said : told.local ≡ (if local then 1 else 0)
-  pub stands : Stands new (Take port (record_of can) ∷ history)
+  pub stands : Stands new known (Take port (record_of can) ∷ history)
   pub limits : new.limits ≡ old.limits
   pub turns : new.turns ≡ old.turns
 
@@ -38,12 +40,12 @@ step_told (Finished outcome) = record { what = 3; to = nowhere; outcome = outcom
 step_told _ = record { what = 0; to = nowhere; outcome = no_outcome }
 
 -- a step was made at a port after a history, a safe one, and C is told what it did
-pub record IsStepped (history : List Event) (port : ℕ) (told : CStep) (old new : Gateway) : Type 0 where
+pub record IsStepped (known : Heard) (history : List Event) (port : ℕ) (told : CStep) (old new : Gateway) : Type 0 where
   pub answer : Answer
-  pub replied : reply old.limits history (Step port) ≡ Ok answer
+  pub replied : reply (begun old.limits known) history (Step port) ≡ Ok answer
   pub said : told ≡ step_told answer
-  pub headline : Forwards old.limits history (Step port) (Ok answer)
-  pub safe : StepsInside old.limits history (Step port)
-  pub stands : Stands new (Step port ∷ history)
+  pub headline : Forwards (begun old.limits known) history (Step port) (Ok answer)
+  pub safe : StepsInside (begun old.limits known) history (Step port)
+  pub stands : Stands new known (Step port ∷ history)
   pub limits : new.limits ≡ old.limits
   pub turns : new.turns ≡ old.turns

@@ -1,6 +1,7 @@
 //! Batches of policies by handle, and their publishing.
 
 ghost use Rattle.std.specs.Prelude.{◌≡◌, ◌≢◌, List, [], ◌∷◌, Some, None, MatchOption, IsSomeAnd, IfSome};
+ghost use Rattle.gw_core.specs.Start.{Heard, begun};
 ghost use Rattle.gw_core.specs.Events.{reply};
 ghost use Rattle.gw_core.specs.Gateway.{Stands};
 ghost use Rattle.gw_core.specs.declared.event.Event.{Event};
@@ -111,11 +112,11 @@ pub extern "C" fn jgw_call_gateway_publish(
     batch: &mut Handle,
     front: &mut u32,
 ) -> u32
-    ensures answer { (history : List Event)
-        → AnswersPublish history (batch_in batch.old.slot.value) (gateway_in gateway.old.slot.value) result }
-    ensures published { (history : List Event) → StandsIn history gateway.old.slot.value → result ≡ 0
+    ensures answer { (known : Heard) (history : List Event)
+        → AnswersPublish known history (batch_in batch.old.slot.value) (gateway_in gateway.old.slot.value) result }
+    ensures published { (known : Heard) (history : List Event) → StandsIn known history gateway.old.slot.value → result ≡ 0
         → IsSomeAnd (batch_in batch.old.slot.value) (λ pairs.
-        Changes (IsPublished history pairs front.new) gateway.old.slot.value gateway.new.slot.value) }
+        Changes (IsPublished known history pairs front.new) gateway.old.slot.value gateway.new.slot.value) }
     ensures spent { result ≡ 0 → batch.new.slot.value ≡ None }
     ensures kept { result ≢ 0 → batch.new.slot.value ≡ batch.old.slot.value }
     ensures refused { result ≢ 0 → gateway.new.slot.value ≡ gateway.old.slot.value }
@@ -135,11 +136,11 @@ pub extern "C" fn jgw_call_gateway_publish(
 
 /// Publishes what another handle held, at the gateway in a handle.
 fn publish_in(alloc: Global, gateway: &mut Handle, batch: &Inner, front: &mut u32) -> u32
-    ensures answer { (history : List Event)
-        → AnswersPublish history (batch_in (Some batch.now)) (gateway_in gateway.old.slot.value) result }
-    ensures published { (history : List Event) → StandsIn history gateway.old.slot.value → result ≡ 0
+    ensures answer { (known : Heard) (history : List Event)
+        → AnswersPublish known history (batch_in (Some batch.now)) (gateway_in gateway.old.slot.value) result }
+    ensures published { (known : Heard) (history : List Event) → StandsIn known history gateway.old.slot.value → result ≡ 0
         → IsSomeAnd (batch_in (Some batch.now)) (λ pairs.
-        Changes (IsPublished history pairs front.new) gateway.old.slot.value gateway.new.slot.value) }
+        Changes (IsPublished known history pairs front.new) gateway.old.slot.value gateway.new.slot.value) }
     ensures refused { result ≢ 0 → gateway.new.slot.value ≡ gateway.old.slot.value }
     ensures unwritten { result ≢ 0 → front.new ≡ front.old }
 {
@@ -159,10 +160,10 @@ fn publish_in(alloc: Global, gateway: &mut Handle, batch: &Inner, front: &mut u3
 
 /// Publishes a copy of a batch: a refused one is dropped.
 fn publish(core: &mut Core, batch: &Batch, front: &mut u32) -> u32
-    ensures answer { (history : List Event) → Stands core.old history → result ≢ 100
-        → result ≡ number_of (reply core.old.limits history (Event.Publish batch.now)) }
-    ensures published { (history : List Event) → Stands core.old history → result ≡ 0
-        → IsPublished history batch.now front.new core.old core.new }
+    ensures answer { (known : Heard) (history : List Event) → Stands core.old known history → result ≢ 100
+        → result ≡ number_of (reply (begun core.old.limits known) history (Event.Publish batch.now)) }
+    ensures published { (known : Heard) (history : List Event) → Stands core.old known history → result ≡ 0
+        → IsPublished known history batch.now front.new core.old core.new }
     ensures refused { result ≢ 0 → core.new ≡ core.old }
     ensures unwritten { result ≢ 0 → front.new ≡ front.old }
 {

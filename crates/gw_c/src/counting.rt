@@ -1,6 +1,7 @@
 //! Counters of a gateway, by handle.
 
 ghost use Rattle.std.specs.Prelude.{◌≡◌, ◌≢◌, List, MatchOption, IsSomeAnd};
+ghost use Rattle.gw_core.specs.Start.{Heard};
 ghost use Rattle.gw_core.specs.Gateway.{Stands};
 ghost use Rattle.gw_core.specs.declared.event.Event.{Event};
 ghost use Rattle.gw_c.specs.Gateways.{gateway_in, StandsIn};
@@ -41,8 +42,8 @@ pub extern "C" fn jgw_call_gateway_waiting(
 ) -> u32
     ensures answer { MatchOption (gateway_in gateway.old.slot.value) (result ≡ 121)
         (λ core. result ≡ lane_answer core.limits from to) }
-    ensures counted { (history : List Event) → StandsIn history gateway.old.slot.value → result ≡ 0
-        → IsSomeAnd (gateway_in gateway.old.slot.value) (λ core. count.new ≡ waiting_count core history from to) }
+    ensures counted { (known : Heard) (history : List Event) → StandsIn known history gateway.old.slot.value → result ≡ 0
+        → IsSomeAnd (gateway_in gateway.old.slot.value) (λ core. count.new ≡ waiting_count core known history from to) }
     ensures unwritten { result ≢ 0 → count.new ≡ count.old }
     ensures kept { gateway.new.slot.value ≡ gateway.old.slot.value }
 {
@@ -59,8 +60,8 @@ pub extern "C" fn jgw_call_gateway_waiting(
 
 fn waiting(core: &Core, from: u8, to: u8, count: &mut u64) -> u32
     ensures answer { result ≡ lane_answer core.now.limits from to }
-    ensures counted { (history : List Event) → Stands core.now history → result ≡ 0
-        → count.new ≡ waiting_count core.now history from to }
+    ensures counted { (known : Heard) (history : List Event) → Stands core.now known history → result ≡ 0
+        → count.new ≡ waiting_count core.now known history from to }
     ensures unwritten { result ≢ 0 → count.new ≡ count.old }
 {
     let ports = core.limits().ports();
@@ -81,8 +82,8 @@ pub extern "C" fn jgw_call_gateway_counters_in(
 ) -> u32
     ensures answer { MatchOption (gateway_in gateway.old.slot.value) (result ≡ 121)
         (λ core. result ≡ port_answer core.limits port) }
-    ensures counted { (history : List Event) → StandsIn history gateway.old.slot.value → result ≡ 0
-        → IsSomeAnd (gateway_in gateway.old.slot.value) (λ core. counters.new ≡ ingress_counters core history port) }
+    ensures counted { (known : Heard) (history : List Event) → StandsIn known history gateway.old.slot.value → result ≡ 0
+        → IsSomeAnd (gateway_in gateway.old.slot.value) (λ core. counters.new ≡ ingress_counters core known history port) }
     ensures unwritten { result ≢ 0 → counters.new ≡ counters.old }
     ensures kept { gateway.new.slot.value ≡ gateway.old.slot.value }
 {
@@ -99,8 +100,8 @@ pub extern "C" fn jgw_call_gateway_counters_in(
 
 fn ingress(core: &Core, port: u8, counters: &mut CCountersIn) -> u32
     ensures answer { result ≡ port_answer core.now.limits port }
-    ensures counted { (history : List Event) → Stands core.now history → result ≡ 0
-        → counters.new ≡ ingress_counters core.now history port }
+    ensures counted { (known : Heard) (history : List Event) → Stands core.now known history → result ≡ 0
+        → counters.new ≡ ingress_counters core.now known history port }
     ensures unwritten { result ≢ 0 → counters.new ≡ counters.old }
 {
     if u32::from(port) >= core.limits().ports() {
@@ -127,8 +128,8 @@ pub extern "C" fn jgw_call_gateway_counters_out(
 ) -> u32
     ensures answer { MatchOption (gateway_in gateway.old.slot.value) (result ≡ 121)
         (λ core. result ≡ port_answer core.limits port) }
-    ensures counted { (history : List Event) → StandsIn history gateway.old.slot.value → result ≡ 0
-        → IsSomeAnd (gateway_in gateway.old.slot.value) (λ core. AreEgressCounters core history port counters.new) }
+    ensures counted { (known : Heard) (history : List Event) → StandsIn known history gateway.old.slot.value → result ≡ 0
+        → IsSomeAnd (gateway_in gateway.old.slot.value) (λ core. AreEgressCounters core known history port counters.new) }
     ensures unwritten { result ≢ 0 → counters.new ≡ counters.old }
     ensures kept { gateway.new.slot.value ≡ gateway.old.slot.value }
 {
@@ -145,8 +146,8 @@ pub extern "C" fn jgw_call_gateway_counters_out(
 
 fn egress(core: &Core, port: u8, counters: &mut CCountersOut) -> u32
     ensures answer { result ≡ port_answer core.now.limits port }
-    ensures counted { (history : List Event) → Stands core.now history → result ≡ 0
-        → AreEgressCounters core.now history port counters.new }
+    ensures counted { (known : Heard) (history : List Event) → Stands core.now known history → result ≡ 0
+        → AreEgressCounters core.now known history port counters.new }
     ensures unwritten { result ≢ 0 → counters.new ≡ counters.old }
 {
     if u32::from(port) >= core.limits().ports() {

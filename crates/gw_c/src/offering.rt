@@ -1,6 +1,7 @@
 //! Frames that are offered to a gateway, by handle.
 
 ghost use Rattle.std.specs.Prelude.{◌≡◌, ◌≢◌, ◌<◌, ◌^◌, if◌then◌else◌, List, MatchOption};
+ghost use Rattle.gw_core.specs.Start.{Heard, begun};
 ghost use Rattle.gw_core.specs.Gateway.{Stands};
 ghost use Rattle.gw_core.specs.declared.event.Event.{Event};
 ghost use Rattle.gw_c.specs.Gateways.{gateway_in, StandsIn, Changes};
@@ -36,10 +37,11 @@ pub extern "C" fn jgw_call_gateway_offer(
     can: &CanFrame,
     outcome: &mut COutcome,
 ) -> u32
-    ensures answer { (history : List Event) → MatchOption (gateway_in gateway.old.slot.value) (result ≡ 121) (λ core.
-        Stands core history → result ≡ offer_answer core.limits history port can.now) }
-    ensures offered { (history : List Event) → StandsIn history gateway.old.slot.value → result ≡ 0
-        → Changes (IsOffered history port can.now outcome.new) gateway.old.slot.value gateway.new.slot.value }
+    ensures answer { (known : Heard) (history : List Event)
+        → MatchOption (gateway_in gateway.old.slot.value) (result ≡ 121) (λ core.
+        Stands core known history → result ≡ offer_answer (begun core.limits known) history port can.now) }
+    ensures offered { (known : Heard) (history : List Event) → StandsIn known history gateway.old.slot.value → result ≡ 0
+        → Changes (IsOffered known history port can.now outcome.new) gateway.old.slot.value gateway.new.slot.value }
     ensures refused { result ≢ 0 → gateway.new.slot.value ≡ gateway.old.slot.value }
     ensures unwritten { result ≢ 0 → outcome.new ≡ outcome.old }
 {
@@ -55,10 +57,10 @@ pub extern "C" fn jgw_call_gateway_offer(
 }
 
 fn offer(core: &mut Core, port: u8, can: &CanFrame, outcome: &mut COutcome) -> u32
-    ensures answer { (history : List Event) → Stands core.old history
-        → result ≡ offer_answer core.old.limits history port can.now }
-    ensures offered { (history : List Event) → Stands core.old history → result ≡ 0
-        → IsOffered history port can.now outcome.new core.old core.new }
+    ensures answer { (known : Heard) (history : List Event) → Stands core.old known history
+        → result ≡ offer_answer (begun core.old.limits known) history port can.now }
+    ensures offered { (known : Heard) (history : List Event) → Stands core.old known history → result ≡ 0
+        → IsOffered known history port can.now outcome.new core.old core.new }
     ensures refused { result ≢ 0 → core.new ≡ core.old }
     ensures unwritten { result ≢ 0 → outcome.new ≡ outcome.old }
 {

@@ -1,6 +1,7 @@
 //! Copies that a port of a gateway sends, by handle.
 
 ghost use Rattle.std.specs.Prelude.{◌≡◌, ◌≢◌, List, None, IsSomeAnd};
+ghost use Rattle.gw_core.specs.Start.{Heard};
 ghost use Rattle.gw_core.specs.Gateway.{Stands};
 ghost use Rattle.gw_core.specs.declared.event.Event.{Event};
 ghost use Rattle.gw_c.specs.Gateways.{gateway_in, StandsIn, Changes};
@@ -33,9 +34,9 @@ pub extern "C" fn jgw_call_gateway_next(
 ) -> u32
     ensures wrong { gateway_in gateway.old.slot.value ≡ None
         → (result ≡ 121) × (gateway.new.slot.value ≡ gateway.old.slot.value) }
-    ensures sends { (history : List Event) → StandsIn history gateway.old.slot.value
-        → Changes (SendsTold history to result copy.old copy.new) gateway.old.slot.value gateway.new.slot.value }
-    ensures refused { (history : List Event) → StandsIn history gateway.old.slot.value → result ≢ 0
+    ensures sends { (known : Heard) (history : List Event) → StandsIn known history gateway.old.slot.value
+        → Changes (SendsTold known history to result copy.old copy.new) gateway.old.slot.value gateway.new.slot.value }
+    ensures refused { (known : Heard) (history : List Event) → StandsIn known history gateway.old.slot.value → result ≢ 0
         → gateway.new.slot.value ≡ gateway.old.slot.value }
     ensures unwritten { result ≢ 0 → copy.new ≡ copy.old }
 {
@@ -51,9 +52,9 @@ pub extern "C" fn jgw_call_gateway_next(
 }
 
 fn next(core: &mut Core, to: u8, copy: &mut CCopy) -> u32
-    ensures sends { (history : List Event) → Stands core.old history
-        → SendsTold history to result copy.old copy.new core.old core.new }
-    ensures refused { (history : List Event) → Stands core.old history → result ≢ 0 → core.new ≡ core.old }
+    ensures sends { (known : Heard) (history : List Event) → Stands core.old known history
+        → SendsTold known history to result copy.old copy.new core.old core.new }
+    ensures refused { (known : Heard) (history : List Event) → Stands core.old known history → result ≢ 0 → core.new ≡ core.old }
     ensures unwritten { result ≢ 0 → copy.new ≡ copy.old }
 {
     match core.next(to) {
@@ -75,8 +76,8 @@ pub extern "C" fn jgw_call_gateway_peek(
     copy: &mut CCopy,
 ) -> u32
     ensures wrong { gateway_in gateway.old.slot.value ≡ None → result ≡ 121 }
-    ensures peeks { (history : List Event) → StandsIn history gateway.old.slot.value
-        → IsSomeAnd (gateway_in gateway.old.slot.value) (PeeksTold history to result copy.old copy.new) }
+    ensures peeks { (known : Heard) (history : List Event) → StandsIn known history gateway.old.slot.value
+        → IsSomeAnd (gateway_in gateway.old.slot.value) (PeeksTold known history to result copy.old copy.new) }
     ensures unwritten { result ≢ 0 → copy.new ≡ copy.old }
     ensures kept { gateway.new.slot.value ≡ gateway.old.slot.value }
 {
@@ -92,7 +93,8 @@ pub extern "C" fn jgw_call_gateway_peek(
 }
 
 fn peek(core: &Core, to: u8, copy: &mut CCopy) -> u32
-    ensures peeks { (history : List Event) → Stands core.now history → PeeksTold history to result copy.old copy.new core.now }
+    ensures peeks { (known : Heard) (history : List Event) → Stands core.now known history
+        → PeeksTold known history to result copy.old copy.new core.now }
     ensures unwritten { result ≢ 0 → copy.new ≡ copy.old }
 {
     match core.peek(to) {

@@ -1,6 +1,7 @@
 //! A frame that is taken, and makes its steps one by one, by handle.
 
 ghost use Rattle.std.specs.Prelude.{◌≡◌, ◌≢◌, List, MatchOption};
+ghost use Rattle.gw_core.specs.Start.{Heard, begun};
 ghost use Rattle.gw_core.specs.Events.{reply};
 ghost use Rattle.gw_core.specs.Gateway.{Stands};
 ghost use Rattle.gw_core.specs.declared.event.Event.{Event};
@@ -50,10 +51,11 @@ pub extern "C" fn jgw_call_gateway_take(
     can: &CanFrame,
     taken: &mut CTaken,
 ) -> u32
-    ensures answer { (history : List Event) → MatchOption (gateway_in gateway.old.slot.value) (result ≡ 121) (λ core.
-        Stands core history → result ≡ offer_answer core.limits history port can.now) }
-    ensures taken { (history : List Event) → StandsIn history gateway.old.slot.value → result ≡ 0
-        → Changes (IsTaken history port can.now taken.new) gateway.old.slot.value gateway.new.slot.value }
+    ensures answer { (known : Heard) (history : List Event)
+        → MatchOption (gateway_in gateway.old.slot.value) (result ≡ 121) (λ core.
+        Stands core known history → result ≡ offer_answer (begun core.limits known) history port can.now) }
+    ensures taken { (known : Heard) (history : List Event) → StandsIn known history gateway.old.slot.value → result ≡ 0
+        → Changes (IsTaken known history port can.now taken.new) gateway.old.slot.value gateway.new.slot.value }
     ensures refused { result ≢ 0 → gateway.new.slot.value ≡ gateway.old.slot.value }
     ensures unwritten { result ≢ 0 → taken.new ≡ taken.old }
 {
@@ -69,10 +71,10 @@ pub extern "C" fn jgw_call_gateway_take(
 }
 
 fn take(core: &mut Core, port: u8, can: &CanFrame, taken: &mut CTaken) -> u32
-    ensures answer { (history : List Event) → Stands core.old history
-        → result ≡ offer_answer core.old.limits history port can.now }
-    ensures taken { (history : List Event) → Stands core.old history → result ≡ 0
-        → IsTaken history port can.now taken.new core.old core.new }
+    ensures answer { (known : Heard) (history : List Event) → Stands core.old known history
+        → result ≡ offer_answer (begun core.old.limits known) history port can.now }
+    ensures taken { (known : Heard) (history : List Event) → Stands core.old known history → result ≡ 0
+        → IsTaken known history port can.now taken.new core.old core.new }
     ensures refused { result ≢ 0 → core.new ≡ core.old }
     ensures unwritten { result ≢ 0 → taken.new ≡ taken.old }
 {
@@ -108,10 +110,11 @@ pub extern "C" fn jgw_call_gateway_step(
     port: u8,
     step: &mut CStep,
 ) -> u32
-    ensures answer { (history : List Event) → MatchOption (gateway_in gateway.old.slot.value) (result ≡ 121) (λ core.
-        Stands core history → result ≡ number_of (reply core.limits history (Event.Step port))) }
-    ensures stepped { (history : List Event) → StandsIn history gateway.old.slot.value → result ≡ 0
-        → Changes (IsStepped history port step.new) gateway.old.slot.value gateway.new.slot.value }
+    ensures answer { (known : Heard) (history : List Event)
+        → MatchOption (gateway_in gateway.old.slot.value) (result ≡ 121) (λ core.
+        Stands core known history → result ≡ number_of (reply (begun core.limits known) history (Event.Step port))) }
+    ensures stepped { (known : Heard) (history : List Event) → StandsIn known history gateway.old.slot.value → result ≡ 0
+        → Changes (IsStepped known history port step.new) gateway.old.slot.value gateway.new.slot.value }
     ensures refused { result ≢ 0 → gateway.new.slot.value ≡ gateway.old.slot.value }
     ensures unwritten { result ≢ 0 → step.new ≡ step.old }
 {
@@ -127,10 +130,10 @@ pub extern "C" fn jgw_call_gateway_step(
 }
 
 fn make_step(core: &mut Core, port: u8, step: &mut CStep) -> u32
-    ensures answer { (history : List Event) → Stands core.old history
-        → result ≡ number_of (reply core.old.limits history (Event.Step port)) }
-    ensures stepped { (history : List Event) → Stands core.old history → result ≡ 0
-        → IsStepped history port step.new core.old core.new }
+    ensures answer { (known : Heard) (history : List Event) → Stands core.old known history
+        → result ≡ number_of (reply (begun core.old.limits known) history (Event.Step port)) }
+    ensures stepped { (known : Heard) (history : List Event) → Stands core.old known history → result ≡ 0
+        → IsStepped known history port step.new core.old core.new }
     ensures refused { result ≢ 0 → core.new ≡ core.old }
     ensures unwritten { result ≢ 0 → step.new ≡ step.old }
 {

@@ -7,6 +7,8 @@ use Rattle.gw_claims.specs.Claims.{is_local}
 use Rattle.gw_ledger.specs.Bounds.{Bounds}
 use Rattle.gw_ledger.specs.declared.outcome.FrameCopy.{FrameCopy}
 use Rattle.gw_ledger.specs.declared.outcome.Outcome.{Outcome}
+use Rattle.gw_core.specs.Start.{Start, Heard, begun}
+use Rattle.gw_core.specs.PortHistory.{ever_heard}
 use Rattle.gw_core.specs.PortHistory.{ingress_of, waiting, heard, batches}
 use Rattle.gw_core.specs.Events.{history_of, all_batches, accepted, keep_accepted, refusal, reply, answer, first_waiting}
 use Rattle.gw_core.specs.Events.{history_after}
@@ -25,12 +27,12 @@ use Rattle.gw_core.proofs.Replies.{turned, are_replies}
 
 -- the law of finished frames, and that of steps
 abbrev pub FinishedLaw : Type 0
-FinishedLaw = (limits : Bounds) (history : List Event) (p : ℕ) (o : Outcome) → All IsEvent (accepted limits history)
-    → Headline limits history p o
+FinishedLaw = (start : Start) (history : List Event) (p : ℕ) (o : Outcome) → All IsEvent (accepted start history)
+    → Headline start history p o
 
 abbrev pub SafetyLaw : Type 0
-SafetyLaw = (limits : Bounds) (history : List Event) (p q n : ℕ) → All IsEvent (accepted limits history)
-    → MakesNext limits (accepted limits history) p q n → IsSafeStep limits (accepted limits history) p q n
+SafetyLaw = (start : Start) (history : List Event) (p q n : ℕ) → All IsEvent (accepted start history)
+    → MakesNext start (accepted start history) p q n → IsSafeStep start (accepted start history) p q n
 
 -- no sending is answered by Finished
 no_copy : (copies : List FrameCopy) (o : Outcome) → first_waiting copies ≡ Finished o → ⊥
@@ -38,78 +40,83 @@ no_copy [] o e = cc
 no_copy (copy ∷ rest) o e = cc
 
 -- the reply to an event tells of a finished frame only where it is a step
-forwards : FinishedLaw → (limits : Bounds) (history : List Event) (e : Event) (given : Result Answer EventRefusal)
-    → All IsEvent (accepted limits history) → given ≡ reply limits history e → Forwards limits history e given
-forwards law limits history (Publish batch) given events is o says =
-    let done = accepted limits history in
+forwards : FinishedLaw → (start : Start) (history : List Event) (e : Event) (given : Result Answer EventRefusal)
+    → All IsEvent (accepted start history) → given ≡ reply start history e → Forwards start history e given
+forwards law start history (Publish batch) given events is o says =
+    let done = accepted start history in
     let never : Published (length (all_batches done) + 1) ≡ Finished o =
-    said (refusal limits done (Publish batch)) (answer limits done (Publish batch)) o (sym is ∙ says) in
+    said (refusal start done (Publish batch)) (answer start done (Publish batch)) o (sym is ∙ says) in
     cc
-forwards law limits history (Take p frame) given events is o says =
-    let done = accepted limits history in
-    let own = history_of p done in
-    let never : Taken (length (heard own)) (length (batches own)) (is_local (heard own) frame) ≡ Finished o =
-    said (refusal limits done (Take p frame)) (answer limits done (Take p frame)) o (sym is ∙ says) in
+forwards law start history (Take p frame) given events is o says =
+    let done = accepted start history in
+    let own = history_of start p done in
+    let never : Taken (length (heard own)) (length (batches own)) (is_local (ever_heard own) frame) ≡ Finished o =
+    said (refusal start done (Take p frame)) (answer start done (Take p frame)) o (sym is ∙ says) in
     cc
-forwards law limits history (Step p) given events is o says = (p, refl, law limits history p o events (sym is ∙ says))
-forwards law limits history (Send to from) given events is o says =
-    let done = accepted limits history in
-    absurd (no_copy (waiting (ingress_of limits from) to (history_of from done)) o
-    (said (refusal limits done (Send to from)) (answer limits done (Send to from)) o (sym is ∙ says)))
+forwards law start history (Step p) given events is o says = (p, refl, law start history p o events (sym is ∙ says))
+forwards law start history (Send to from) given events is o says =
+    let done = accepted start history in
+    absurd (no_copy (waiting (ingress_of start.limits from) to (history_of start from done)) o
+    (said (refusal start done (Send to from)) (answer start done (Send to from)) o (sym is ∙ says)))
 
 -- a step that makes an instruction makes a safe one
-steps_inside : SafetyLaw → (limits : Bounds) (history : List Event) (e : Event) → All IsEvent (accepted limits history)
-    → StepsInside limits history e
-steps_inside law limits history e events p q n is next = law limits history p q n events next
+steps_inside : SafetyLaw → (start : Start) (history : List Event) (e : Event) → All IsEvent (accepted start history)
+    → StepsInside start history e
+steps_inside law start history e events p q n is next = law start history p q n events next
 
 -- what is known of the accepted events of a longer history is known of those before
-one_less : (limits : Bounds) (history : List Event) (e : Event) → All IsEvent (accepted limits (e ∷ history))
-    → All IsEvent (accepted limits history)
-one_less limits history e h = go (refusal limits (accepted limits history) e) h
+one_less : (start : Start) (history : List Event) (e : Event) → All IsEvent (accepted start (e ∷ history))
+    → All IsEvent (accepted start history)
+one_less start history e h = go (refusal start (accepted start history) e) h
   where
-    go : (r : Option EventRefusal) → All IsEvent (keep_accepted r e (accepted limits history))
-        → All IsEvent (accepted limits history)
-    go None k = All-tail IsEvent e (accepted limits history) k
+    go : (r : Option EventRefusal) → All IsEvent (keep_accepted r e (accepted start history))
+        → All IsEvent (accepted start history)
+    go None k = All-tail IsEvent e (accepted start history) k
     go (Some refused) k = k
 
-before_all : (limits : Bounds) (history events : List Event) → All IsEvent (accepted limits (history_after history events))
-    → All IsEvent (accepted limits history)
-before_all limits history [] h = h
-before_all limits history (e ∷ events) h = one_less limits history e (before_all limits (e ∷ history) events h)
+before_all : (start : Start) (history events : List Event) → All IsEvent (accepted start (history_after history events))
+    → All IsEvent (accepted start history)
+before_all start history [] h = h
+before_all start history (e ∷ events) h = one_less start history e (before_all start (e ∷ history) events h)
 
-before_each : (limits : Bounds) (history before rest : List Event)
-    → All IsEvent (accepted limits (history_after history (before ++ rest)))
-    → All IsEvent (accepted limits (reverse before ++ history))
-before_each limits history [] rest h = before_all limits history rest h
-before_each limits history (x ∷ before) rest h =
-    subst (λ (past : List Event). All IsEvent (accepted limits past)) (sym (turned x before history))
-    (before_each limits (x ∷ history) before rest h)
+before_each : (start : Start) (history before rest : List Event)
+    → All IsEvent (accepted start (history_after history (before ++ rest)))
+    → All IsEvent (accepted start (reverse before ++ history))
+before_each start history [] rest h = before_all start history rest h
+before_each start history (x ∷ before) rest h =
+    subst (λ (past : List Event). All IsEvent (accepted start past)) (sym (turned x before history))
+    (before_each start (x ∷ history) before rest h)
 
 -- what holds of the reply to each event holds of each answer of a run
-for_each : (P : List Event → Event → Result Answer EventRefusal → Type 0) (old new : Gateway) (history events : List Event)
-    (given : List (Result Answer EventRefusal)) → new.limits ≡ old.limits → RunsTo old history events given new
-    → ((past : List Event) (e : Event) → All IsEvent (accepted old.limits past) → P past e (reply old.limits past e))
+for_each : (P : List Event → Event → Result Answer EventRefusal
+    → Type 0) (old new : Gateway) (known : Heard) (history events : List Event)
+    (given : List (Result Answer EventRefusal)) → new.limits ≡ old.limits → RunsTo old known history events given new
+    → ((past : List Event) (e : Event) → All IsEvent (accepted (begun old.limits known) past)
+    → P past e (reply (begun old.limits known) past e))
     → ForEachAnswer P history events given
-for_each P old new history events given limits ran holds before e after answer split at =
+for_each P old new known history events given limits ran holds before e after answer split at =
     let past = reverse before ++ history in
-    let kept : All IsEvent (accepted old.limits past) = before_each old.limits history before (e ∷ after)
-    (subst (λ (es : List Event). All IsEvent (accepted old.limits (history_after history es))) split
-    (subst (λ (l : Bounds). All IsEvent (accepted l (history_after history events))) limits ran.stands.events)) in
-    let is : answer ≡ reply old.limits past e = same_some answer (reply old.limits past e)
+    let kept : All IsEvent (accepted (begun old.limits known) past) = before_each (begun old.limits known) history before
+    (e ∷ after)
+    (subst (λ (es : List Event). All IsEvent (accepted (begun old.limits known) (history_after history es))) split
+    (subst (λ (l : Bounds). All IsEvent (accepted (begun l known) (history_after history events))) limits ran.stands.events)) in
+    let is : answer ≡ reply (begun old.limits known) past e = same_some answer (reply (begun old.limits known) past e)
     (sym at ∙ ap (λ (g : List (Result Answer EventRefusal)). slice_get g (length before)) ran.answers
-    ∙ (are_replies old.limits history events).each before e after split) in
+    ∙ (are_replies (begun old.limits known) history events).each before e after split) in
     subst (λ (r : Result Answer EventRefusal). P past e r) (sym is) (holds past e kept)
 
-pub each_forwards : FinishedLaw → (old new : Gateway) (history events : List Event) (given : List (Result Answer EventRefusal))
-    → new.limits ≡ old.limits → RunsTo old history events given new
-    → ForEachAnswer (Forwards old.limits) history events given
-each_forwards law old new history events given limits ran =
-    for_each (Forwards old.limits) old new history events given limits ran
-    (λ past e kept. forwards law old.limits past e (reply old.limits past e) kept refl)
+pub each_forwards : FinishedLaw → (old new : Gateway) (known : Heard) (history events : List Event) (given : List
+    (Result Answer EventRefusal))
+    → new.limits ≡ old.limits → RunsTo old known history events given new
+    → ForEachAnswer (Forwards (begun old.limits known)) history events given
+each_forwards law old new known history events given limits ran =
+    for_each (Forwards (begun old.limits known)) old new known history events given limits ran
+    (λ past e kept. forwards law (begun old.limits known) past e (reply (begun old.limits known) past e) kept refl)
 
-pub each_inside : SafetyLaw → (old new : Gateway) (history events : List Event) (given : List (Result Answer EventRefusal))
-    → new.limits ≡ old.limits → RunsTo old history events given new
-    → ForEachAnswer (λ past e answer. StepsInside old.limits past e) history events given
-each_inside law old new history events given limits ran =
-    for_each (λ past e answer. StepsInside old.limits past e) old new history events given limits ran
-    (λ past e kept. steps_inside law old.limits past e kept)
+pub each_inside : SafetyLaw → (old new : Gateway) (known : Heard) (history events : List Event) (given : List
+    (Result Answer EventRefusal))
+    → new.limits ≡ old.limits → RunsTo old known history events given new
+    → ForEachAnswer (λ past e answer. StepsInside (begun old.limits known) past e) history events given
+each_inside law old new known history events given limits ran =
+    for_each (λ past e answer. StepsInside (begun old.limits known) past e) old new known history events given limits ran
+    (λ past e kept. steps_inside law (begun old.limits known) past e kept)

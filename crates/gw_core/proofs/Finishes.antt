@@ -14,6 +14,7 @@ use Rattle.gw_ledger.specs.declared.ledger.InLedger.{InLedger}
 use Rattle.gw_ledger.specs.declared.outcome.FrameCopy.{FrameCopy}
 use Rattle.gw_ledger.specs.declared.outcome.Outcome.{Outcome}
 use Rattle.gw_core.specs.LaneView.{LaneView}
+use Rattle.gw_core.specs.PortHistory.{ever_heard}
 use Rattle.gw_core.specs.PortHistory.{PortEvent, step_made, frame_taken, Ingress, Taking, taking, Work, instructions_from}
 use Rattle.gw_core.specs.PortHistory.{placing_if}
 use Rattle.gw_core.specs.PortHistory.{steps_at, is_allowed, work_left, work_from, last_taking, is_unfinished, placed_since}
@@ -49,6 +50,10 @@ same_ingress old new limits own = λ i. record { ports = (limits i).ports; own =
 same_heard : (k : ℕ) (x : List PortEvent) → heard (replicate k step_made ++ x) ≡ heard x
 same_heard zero x = refl
 same_heard (suc k) x = same_heard k x
+
+same_ever : (k : ℕ) (x : List PortEvent) → ever_heard (replicate k step_made ++ x) ≡ ever_heard x
+same_ever zero x = refl
+same_ever (suc k) x = same_ever k x
 
 same_published : (k : ℕ) (x : List PortEvent) → batches (replicate k step_made ++ x) ≡ batches x
 same_published zero x = refl
@@ -205,7 +210,7 @@ finishes_judged all w frame done a held lanes port j last is = go j.steps refl
               sound = subst AreSound (sym (same_published (suc m) h)) s.sound;
               taken = s.taken ∙ ap length (sym (same_heard (suc m) h));
               few = s.few;
-              claims = subst (HoldsAfter w.claims) (sym (same_heard (suc m) h)) s.claims;
+              claims = subst (HoldsAfter w.claims) (sym (same_ever (suc m) h)) s.claims;
               ledger = ap (λ (x : Outcome). ledger_with w.ledger x) same
                   ∙ ap (λ (x : InLedger). ledger_with x o)
                   (s.ledger ∙ ap ledger_of (sym (same_outcomes p h m (omega (arith, whole, e)))))
@@ -223,10 +228,11 @@ finishes_judged all w frame done a held lanes port j last is = go j.steps refl
 
 -- a frame that was taken and is held is foreign
 pub held_foreign : (all : List (List Pair)) (w : Worker) (done : List PortEvent) (frame : List ℕ)
-    → WorkerStands all w (frame_taken frame ∷ done) → is_some w.active ≡ true → is_local (heard done) frame ≡ false
-held_foreign all w done frame s some = go w.active refl some (is_local (heard done) frame) refl
+    → WorkerStands all w (frame_taken frame ∷ done) → is_some w.active ≡ true → is_local (ever_heard done) frame ≡ false
+held_foreign all w done frame s some = go w.active refl some (is_local (ever_heard done) frame) refl
   where
-    go : (held : Option Active) → w.active ≡ held → is_some held ≡ true → (b : Bool) → is_local (heard done) frame ≡ b → b ≡ false
+    go : (held : Option Active) → w.active ≡ held → is_some held ≡ true → (b : Bool) → is_local (ever_heard done) frame ≡ b
+        → b ≡ false
     go None is e b local = absurd (false≢true e)
     go (Some a) is e false local = refl
     go (Some a) is e true local =
@@ -265,10 +271,10 @@ forwards_held all old taken new done frame answer o same take finish =
 -- a frame with no work is local
 no_work_local : StepsLaw → (all : List (List Pair)) (w : Worker) (done : List PortEvent) (frame : List ℕ)
     → WorkerStands all w done
-    → is_unfinished (ingress w) (frame_taken frame ∷ done) ≡ false → is_local (heard done) frame ≡ true
-no_work_local law all w done frame s idle = go (is_local (heard done) frame) refl
+    → is_unfinished (ingress w) (frame_taken frame ∷ done) ≡ false → is_local (ever_heard done) frame ≡ true
+no_work_local law all w done frame s idle = go (is_local (ever_heard done) frame) refl
   where
-    go : (b : Bool) → is_local (heard done) frame ≡ b → b ≡ true
+    go : (b : Bool) → is_local (ever_heard done) frame ≡ b → b ≡ true
     go true is = refl
     go false is =
         let p = ingress w in

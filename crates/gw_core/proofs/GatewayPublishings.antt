@@ -7,6 +7,7 @@ use Rattle.std.proofs.lemmas.Bool.Decides.{nat_tests}
 use Rattle.std.proofs.lemmas.List.Elements.{All-nil, All-cons}
 use Rattle.gw_policy.specs.Filter.{IsFilter}
 use Rattle.gw_policy.specs.Batches.{Pair}
+use Rattle.gw_core.specs.Start.{Heard, begun}
 use Rattle.gw_core.specs.Events.{history_of, all_batches, accepted}
 use Rattle.gw_core.specs.Events.{names_no_port}
 use Rattle.gw_core.specs.declared.event.Event.{Event}
@@ -28,11 +29,12 @@ all_sound (pair ∷ pairs) each = All-cons (λ (pair : Pair). IsFilter pair.poli
     (all_sound pairs (λ i x get. each (suc i) x get))
 
 -- a batch was published
-pub stands_publish : (c : Gateway) (done : List Event) (batch : List Pair) (latest : List (Option PairIndex)) → StandsAt c done
+pub stands_publish : (c : Gateway) (known : Heard) (done : List Event) (batch : List Pair) (latest : List (Option PairIndex))
+    → StandsAt c known done
     → length c.batches < c.limits.versions
     → IndicesWith batch (length c.batches) c.latest latest
-    → StandsAt (record c { batches = c.batches ++ batch ∷ []; latest = latest }) (Publish batch ∷ done)
-stands_publish c done batch latest s more made =
+    → StandsAt (record c { batches = c.batches ++ batch ∷ []; latest = latest }) known (Publish batch ∷ done)
+stands_publish c known done batch latest s more made =
     let sound : AreSound (batch ∷ all_batches done) = sound_published (all_batches done) batch s.sound made.sound in
     record {
       limits = s.limits;
@@ -45,8 +47,9 @@ stands_publish c done batch latest s more made =
       workers = λ p w get. let h = s.workers p w get in record {
         limits = h.limits;
         own = h.own;
-        stands = worker_published c.batches batch w (history_of p done)
-            (subst (λ (x : List (List Pair)). AreSound (batch ∷ x)) (sym (batches_of_port p done)) sound) h.stands;
+        stands = worker_published c.batches batch w (history_of (begun c.limits known) p done)
+            (subst (λ (x : List (List Pair)). AreSound (batch ∷ x)) (sym (batches_of_port p
+            (begun c.limits known) done)) sound) h.stands;
       };
       senders = s.senders;
       outs = s.outs;
@@ -55,13 +58,13 @@ stands_publish c done batch latest s more made =
 -- a batch that is accepted is answered by the new front
 pub core_publish : (c : Gateway) (batch : List Pair) (latest : List (Option PairIndex)) → length c.batches < c.limits.versions
     → names_no_port c.limits.ports batch ≡ false
-    → IndicesWith batch (length c.batches) c.latest latest → (history : List Event) → Stands c history
+    → IndicesWith batch (length c.batches) c.latest latest → (known : Heard) (history : List Event) → Stands c known history
     → CoreAnswers c (Publish batch) (Ok (Published (length c.batches + 1)))
-    (record c { batches = c.batches ++ batch ∷ []; latest = latest }) history
-core_publish c batch latest more there made history s =
-    let done = accepted c.limits history in
-    let front = front_of c done s in
+    (record c { batches = c.batches ++ batch ∷ []; latest = latest }) known history
+core_publish c batch latest more there made known history s =
+    let done = accepted (begun c.limits known) history in
+    let front = front_of c known done s in
     let e : leb c.limits.versions (length (all_batches done)) ≡ false = grind (arith, nat_tests) in
-    accepts c (record c { batches = c.batches ++ batch ∷ []; latest = latest }) history (Publish batch)
+    accepts c (record c { batches = c.batches ++ batch ∷ []; latest = latest }) known history (Publish batch)
     (Published (length c.batches + 1))
-    (rw (there, e) refl) (ap (λ n. Published (n + 1)) (sym front)) refl (stands_publish c done batch latest s more made)
+    (rw (there, e) refl) (ap (λ n. Published (n + 1)) (sym front)) refl (stands_publish c known done batch latest s more made)

@@ -3,7 +3,7 @@ use Rattle.std.proofs.Common.{◌≡◌, ℕ, true, false, List, [], ◌∷◌, 
 use Rattle.gw_insn.specs.declared.insn.Insn.TheVariants.{ReturnConstant}
 use Rattle.gw_machine.specs.Answers.{answer_of, answer_within, steps_of}
 use Rattle.gw_policy.specs.Batches.{Pair}
-use Rattle.gw_ledger.specs.Bounds.{Bounds}
+use Rattle.gw_core.specs.Start.{Start, fresh}
 use Rattle.gw_ledger.specs.Ports.{ports_below}
 use Rattle.gw_core.specs.PortHistory.{ingress_of, taking, need, instruction, placing, work_left, steps_since}
 use Rattle.gw_core.specs.Events.{history_of, accepted, keep_accepted, refusal, reply, reply_after, replies}
@@ -15,17 +15,17 @@ use Rattle.gw_core.specs.declared.event.EventRefusal.{EventRefusal}
 use Rattle.gw_core.specs.declared.event.EventRefusal.TheVariants.{NoSuchPort, Busy, Idle, VersionsSpent, FramesSpent}
 
 -- the answers to events, where those accepted are carried on
-abbrev answers_to : Bounds → List Event → List Event → List (Result Answer EventRefusal)
-answers_to limits done [] = []
-answers_to limits done (e ∷ events) =
-    reply_after limits done e ∷ answers_to limits (keep_accepted (refusal limits done e) e done) events
+abbrev answers_to : Start → List Event → List Event → List (Result Answer EventRefusal)
+answers_to start done [] = []
+answers_to start done (e ∷ events) =
+    reply_after start done e ∷ answers_to start (keep_accepted (refusal start done e) e done) events
 
 -- they are the replies
-are_replies : (limits : Bounds) (history events : List Event)
-    → answers_to limits (accepted limits history) events ≡ replies limits history events
-are_replies limits history [] = refl
-are_replies limits history (e ∷ events) =
-    ap (λ (rest : List (Result Answer EventRefusal)). reply limits history e ∷ rest) (are_replies limits (e ∷ history) events)
+are_replies : (start : Start) (history events : List Event)
+    → answers_to start (accepted start history) events ≡ replies start history events
+are_replies start history [] = refl
+are_replies start history (e ∷ events) =
+    ap (λ (rest : List (Result Answer EventRefusal)). reply start history e ∷ rest) (are_replies start (e ∷ history) events)
 
 -- EEC1 of an engine; the NAME 5 claims the address 128; proprietary A from 52 to 128
 abbrev engine_speed : List ℕ
@@ -50,8 +50,8 @@ abbrev sent : ℕ → Result Answer EventRefusal
 sent number = Ok (Sent (record { from = 0; number = number; frame = engine_speed }))
 
 -- a lane of one copy is full for the second frame, and free again once the first copy was sent
-abbrev small_lanes : Bounds
-small_lanes = record { ports = 3; lane = 1; versions = 4; frames = 10 }
+abbrev small_lanes : Start
+small_lanes = fresh (record { ports = 3; lane = 1; versions = 4; frames = 10 })
 
 abbrev until_the_lane_is_full : List Event
 until_the_lane_is_full =
@@ -67,8 +67,8 @@ unfolding answer_of answer_within steps_of ports_below
 a_full_lane = sym (are_replies small_lanes [] until_the_lane_is_full)
 
 -- a frame is finished by the policies in force at its taking, though others are in force by then
-abbrev two_versions : Bounds
-two_versions = record { ports = 3; lane = 4; versions = 2; frames = 10 }
+abbrev two_versions : Start
+two_versions = fresh (record { ports = 3; lane = 4; versions = 2; frames = 10 })
 
 abbrev with_a_replacement : List Event
 with_a_replacement =
@@ -84,8 +84,8 @@ unfolding answer_of answer_within steps_of ports_below
 a_replacement = sym (are_replies two_versions [] with_a_replacement)
 
 -- a frame to an address that is held on its own segment is finished at its taking; on another segment it is none
-abbrev two_frames : Bounds
-two_frames = record { ports = 2; lane = 4; versions = 4; frames = 2 }
+abbrev two_frames : Start
+two_frames = fresh (record { ports = 2; lane = 4; versions = 4; frames = 2 })
 
 abbrev with_a_local_frame : List Event
 with_a_local_frame =
@@ -102,17 +102,20 @@ a_local_frame = sym (are_replies two_frames [] with_a_local_frame)
 abbrev taken : List Event
 taken = Take 0 engine_speed ∷ Publish (returning 1 1 ∷ []) ∷ []
 
-its_need : need (ingress_of small_lanes 0) (taking engine_speed (history_of 0 (Publish (returning 1 1 ∷ []) ∷ []))) ≡ 3
+its_need : need (ingress_of small_lanes.limits 0) (taking engine_speed (history_of small_lanes 0 (Publish
+    (returning 1 1 ∷ []) ∷ []))) ≡ 3
 unfolding answer_of answer_within steps_of
 its_need = refl
 
-its_work : work_left (ingress_of small_lanes 0) (history_of 0 taken) ≡ instruction 1 0 ∷ placing 1 ∷ instruction 2 0 ∷ []
+its_work : work_left (ingress_of small_lanes.limits 0) (history_of small_lanes 0 taken)
+    ≡ instruction 1 0 ∷ placing 1 ∷ instruction 2 0 ∷ []
 unfolding answer_of answer_within steps_of
 its_work = refl
 
-after_two_steps : work_left (ingress_of small_lanes 0) (history_of 0 (Step 0 ∷ Step 0 ∷ taken)) ≡ instruction 2 0 ∷ []
+after_two_steps : work_left (ingress_of small_lanes.limits 0) (history_of small_lanes 0 (Step 0 ∷ Step 0 ∷ taken))
+    ≡ instruction 2 0 ∷ []
 unfolding answer_of answer_within steps_of
 after_two_steps = refl
 
-two_steps_since : steps_since (history_of 0 (Step 0 ∷ Publish [] ∷ Send 1 0 ∷ Step 0 ∷ taken)) ≡ 2
+two_steps_since : steps_since (history_of small_lanes 0 (Step 0 ∷ Publish [] ∷ Send 1 0 ∷ Step 0 ∷ taken)) ≡ 2
 two_steps_since = refl

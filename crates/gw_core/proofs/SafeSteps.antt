@@ -13,7 +13,7 @@ use Rattle.gw_machine.specs.Answers.{answer_of, steps_of}
 use Rattle.gw_machine.specs.Runs.{Reaches, at_start, after, IsStep, IsRunning, LoadsAreStored}
 use Rattle.gw_policy.specs.Filter.{Filter, IsFilter}
 use Rattle.gw_policy.specs.Batches.{Pair, in_force, steps}
-use Rattle.gw_ledger.specs.Bounds.{Bounds}
+use Rattle.gw_core.specs.Start.{Start}
 use Rattle.gw_core.specs.PortHistory.{PortEvent, Ingress, ingress_of, Taking, Work, instruction, placing, placing_if}
 use Rattle.gw_core.specs.PortHistory.{instructions_from, steps_at, is_allowed, work_for, work_from, work, work_left, last_taking}
 use Rattle.gw_core.specs.PortHistory.{steps_since}
@@ -149,17 +149,18 @@ taken_of ingress own piece rest left = go (last_taking own) refl
     go (Some t) e = (t, e)
 
 -- an instruction that is made next is a safe step
-pub safe_step : ReturnsLaw → StepsLaw → LoadsLaw → PlacesLaw → (limits : Bounds) (done : List Event) (p q n : ℕ) → AreEvents done
-    → MakesNext limits done p q n
-    → IsSafeStep limits done p q n
-safe_step returns few loads indices limits done p q n events next =
-    let ingress = ingress_of limits p in
-    let own = history_of p done in
+pub safe_step : ReturnsLaw → StepsLaw → LoadsLaw → PlacesLaw → (start : Start) (done : List Event) (p q n : ℕ) → AreEvents done
+    → MakesNext start done p q n
+    → IsSafeStep start done p q n
+safe_step returns few loads indices start done p q n events next =
+    let ingress = ingress_of start.limits p in
+    let own = history_of start p done in
     let taken = taken_of ingress own (instruction q n) next.0 next.1 in
     let t = taken.0 in
-    let s = since limits p done t events taken.1 in
+    let s = since start p done t events taken.1 in
     let due : AreDue ingress t (instruction q n ∷ next.0) = subst (AreDue ingress t) next.1 (due_left ingress own t taken.1) in
-    let published : t.published ≡ all_batches s.earlier = ap (λ (x : Taking). x.published) s.same ∙ batches_of_port p s.earlier in
+    let published : t.published ≡ all_batches s.earlier = ap (λ (x : Taking). x.published) s.same
+    ∙ batches_of_port p start s.earlier in
     let frame : t.frame ≡ s.frame = ap (λ (x : Taking). x.frame) s.same in
     let fewer : n < steps (in_force q (all_batches s.earlier)) s.frame p =
     subst (λ (b : List (List Pair)). n < steps (in_force q b) s.frame p) published
@@ -169,7 +170,7 @@ safe_step returns few loads indices limits done p q n events next =
       earlier = s.earlier;
       later = s.later;
       taken = s.order;
-      newest = newest_taken limits p done t s taken.1;
+      newest = newest_taken start p done t s taken.1;
       there = due.0.0;
       other = due.0.1;
       few = fewer;

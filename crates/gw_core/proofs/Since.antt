@@ -13,9 +13,10 @@ use Rattle.std.proofs.lemmas.List.Elements.{Contains-append_left, Contains-push,
 use Rattle.std.proofs.lemmas.Option.{slice_get_within, get_or_from_slice_get}
 use Rattle.gw_policy.specs.Filter.{IsFilter}
 use Rattle.gw_policy.specs.Batches.{Pair, in_force}
-use Rattle.gw_ledger.specs.Bounds.{Bounds}
 use Rattle.gw_ledger.specs.Ports.{has_port}
 use Rattle.gw_ledger.specs.declared.outcome.FrameCopy.{FrameCopy}
+use Rattle.gw_core.specs.Start.{Start}
+use Rattle.gw_core.specs.PortHistory.{heard_before}
 use Rattle.gw_core.specs.PortHistory.{PortEvent, batch_published, frame_taken, step_made, copy_asked, Ingress, ingress_of, Taking}
 use Rattle.gw_core.specs.PortHistory.{taking, Work, instruction, placing, heard, last_taking, work, work_left}
 use Rattle.gw_core.specs.PortHistory.{steps_since, lane_after, waiting, places_at, placed_by, copy_of, placed_at}
@@ -96,6 +97,7 @@ pub placed_planned : (ingress : Ingress) (q : ℕ) (own : List PortEvent) (t : T
     → 1 ≤ placings q (work ingress t)
 placed_planned ingress q [] t e h = cc
 placed_planned ingress q (batch_published batch ∷ own) t e h = placed_planned ingress q own t e h
+placed_planned ingress q (heard_before records ∷ own) t e h = placed_planned ingress q own t e h
 placed_planned ingress q (copy_asked r ∷ own) t e h = placed_planned ingress q own t e h
 placed_planned ingress q (frame_taken frame ∷ own) t e h = cc
 placed_planned ingress q (step_made ∷ own) t e h = ⊎_elim
@@ -115,6 +117,9 @@ pub copy_there : (ingress : Ingress) (q : ℕ) (own : List PortEvent) (t : Takin
     → Contains (lane_after ingress q own).placed (copy_of ingress t)
 copy_there ingress q [] t e h = cc
 copy_there ingress q (batch_published batch ∷ own) t e h =
+    Contains-append_left (lane_after ingress q own).placed [] (copy_of ingress t)
+    (copy_there ingress q own t e h)
+copy_there ingress q (heard_before records ∷ own) t e h =
     Contains-append_left (lane_after ingress q own).placed [] (copy_of ingress t)
     (copy_there ingress q own t e h)
 copy_there ingress q (copy_asked r ∷ own) t e h = Contains-append_left (lane_after ingress q own).placed [] (copy_of ingress t)
@@ -145,6 +150,8 @@ pub placed_back : (ingress : Ingress) (q : ℕ) (own : List PortEvent) (t : Taki
 placed_back ingress q [] t e c h n = cc
 placed_back ingress q (batch_published batch ∷ own) t e c h n = placed_back ingress q own t e c
     (subst (λ (xs : List FrameCopy). Contains xs c) (append-nil (lane_after ingress q own).placed) h) n
+placed_back ingress q (heard_before records ∷ own) t e c h n = placed_back ingress q own t e c
+    (subst (λ (xs : List FrameCopy). Contains xs c) (append-nil (lane_after ingress q own).placed) h) n
 placed_back ingress q (copy_asked r ∷ own) t e c h n = placed_back ingress q own t e c
     (subst (λ (xs : List FrameCopy). Contains xs c) (append-nil (lane_after ingress q own).placed) h) n
 placed_back ingress q (frame_taken frame ∷ own) t e c h n =
@@ -169,39 +176,41 @@ placed_back ingress q (step_made ∷ own) t e c h n = split_placed ingress own q
     (placed_by ingress q step_made own (length (waiting ingress q own))) c h)
 
 -- the event that took the last frame, and what became of it since
-pub record Since (limits : Bounds) (p : ℕ) (done : List Event) (t : Taking) : Type 0 where
+pub record Since (start : Start) (p : ℕ) (done : List Event) (t : Taking) : Type 0 where
   pub frame : List ℕ
   pub earlier : List Event
   pub later : List Event
   pub order : done ≡ later ++ Take p frame ∷ earlier
-  pub same : t ≡ taking frame (history_of p earlier)
+  pub same : t ≡ taking frame (history_of start p earlier)
   pub sound : AreSound (all_batches earlier)
-  pub full : (q : ℕ) → 1 ≤ placings q (work (ingress_of limits p) t)
-      → has_port q (placed_since (ingress_of limits p) (history_of p done)) ≡ false
-      → placings q (work_left (ingress_of limits p) (history_of p done)) ≡ 0 → WasFull limits (Take p frame ∷ earlier) done p q
+  pub full : (q : ℕ) → 1 ≤ placings q (work (ingress_of start.limits p) t)
+      → has_port q (placed_since (ingress_of start.limits p) (history_of start p done)) ≡ false
+      → placings q (work_left (ingress_of start.limits p) (history_of start p done)) ≡ 0
+      → WasFull start (Take p frame ∷ earlier) done p q
 
 -- an event that changes neither what was placed of it nor what is left
 abbrev pub fate : Ingress → List PortEvent → List ℕ × List Work
 fate ingress own = (placed_since ingress own, work_left ingress own)
 
 -- a lane that was full was full, whatever follows
-pub later_full : (limits : Bounds) (earlier done : List Event) (p q : ℕ) (e : Event) → WasFull limits earlier done p q
-    → WasFull limits earlier (e ∷ done) p q
-later_full limits earlier done p q e w = record
+pub later_full : (start : Start) (earlier done : List Event) (p q : ℕ) (e : Event) → WasFull start earlier done p q
+    → WasFull start earlier (e ∷ done) p q
+later_full start earlier done p q e w = record
     { since = w.since; until = e ∷ w.until; order = ap (λ (x : List Event). e ∷ x) w.order; step = w.step; full = w.full }
 
 -- an event that changes neither is added to those since the taking
-pub extend : (limits : Bounds) (p : ℕ) (done : List Event) (t : Taking) (e : Event)
-    → fate (ingress_of limits p) (history_of p (e ∷ done)) ≡ fate (ingress_of limits p) (history_of p done)
-    → Since limits p done t → Since limits p (e ∷ done) t
-extend limits p done t e as_was s = record {
+pub extend : (start : Start) (p : ℕ) (done : List Event) (t : Taking) (e : Event)
+    → fate (ingress_of start.limits p) (history_of start p (e ∷ done))
+    ≡ fate (ingress_of start.limits p) (history_of start p done)
+    → Since start p done t → Since start p (e ∷ done) t
+extend start p done t e as_was s = record {
   frame = s.frame;
   earlier = s.earlier;
   later = e ∷ s.later;
   order = ap (λ (x : List Event). e ∷ x) s.order;
   same = s.same;
   sound = s.sound;
-  full = λ q le missing left. later_full limits (Take p s.frame ∷ s.earlier) done p q e
+  full = λ q le missing left. later_full start (Take p s.frame ∷ s.earlier) done p q e
       (s.full q le (ap (λ (x : List ℕ × List Work). has_port q x.0) (sym as_was) ∙ missing)
       (ap (λ (x : List ℕ × List Work). placings q x.1) (sym as_was) ∙ left));
 }
@@ -227,9 +236,10 @@ full_now ingress own q (placing r ∷ rest) some none missing = go (eqb q r) ref
     go false e some = absurd (some (omega arith))
 
 -- a step is added: where it left a placing undone, the lane was full
-pub step_since : (limits : Bounds) (p : ℕ) (done : List Event) (t : Taking)
-    → history_of p (Step p ∷ done) ≡ step_made ∷ history_of p done → Since limits p done t → Since limits p (Step p ∷ done) t
-step_since limits p done t here s = record {
+pub step_since : (start : Start) (p : ℕ) (done : List Event) (t : Taking)
+    → history_of start p (Step p ∷ done) ≡ step_made ∷ history_of start p done → Since start p done t
+    → Since start p (Step p ∷ done) t
+step_since start p done t here s = record {
   frame = s.frame;
   earlier = s.earlier;
   later = Step p ∷ s.later;
@@ -243,7 +253,7 @@ step_since limits p done t here s = record {
       let rest : placings q (drop 1 (work_left ingress own)) ≡ 0 = ap (placings q) (sym (work_left-step ingress own))
       ∙ ap (λ (x : List PortEvent). placings q (work_left ingress x)) (sym here) ∙ left in
       ⊎_elim
-      (λ (none : placings q (work_left ingress own) ≡ 0). later_full limits (Take p s.frame ∷ s.earlier) done p q (Step p)
+      (λ (none : placings q (work_left ingress own) ≡ 0). later_full start (Take p s.frame ∷ s.earlier) done p q (Step p)
       (s.full q le no_more.0 none))
       (λ (some : placings q (work_left ingress own) ≢ 0).
       let now = full_now ingress own q (work_left ingress own) some rest no_more.1 in
@@ -251,59 +261,66 @@ step_since limits p done t here s = record {
         since = s.later;
         until = [];
         order = ap (λ (x : List Event). Step p ∷ x) s.order;
-        step = subst (λ (x : List Event). places_at q (work_left ingress (history_of p x)) ≡ true) s.order now.0;
-        full = subst (λ (x : List Event). length (waiting_after limits p q x) ≡ limits.lane) s.order now.1;
+        step = subst (λ (x : List Event). places_at q (work_left ingress (history_of start p x)) ≡ true) s.order now.0;
+        full = subst (λ (x : List Event). length (waiting_after start p q x) ≡ start.limits.lane) s.order now.1;
       })
       (cases_eq (placings q (work_left ingress own)) 0);
 }
   where
     ingress : Ingress
-    ingress = ingress_of limits p
+    ingress = ingress_of start.limits p
 
     own : List PortEvent
-    own = history_of p done
+    own = history_of start p done
 
 -- an event of another kind changes neither
-pub same_fate : (limits : Bounds) (p : ℕ) (done : List Event) (e : Event)
+pub same_fate : (start : Start) (p : ℕ) (done : List Event) (e : Event)
     → ((ingress : Ingress) (own : List PortEvent) → fate ingress (cons_option (at_port p e) own) ≡ fate ingress own)
-    → fate (ingress_of limits p) (history_of p (e ∷ done)) ≡ fate (ingress_of limits p) (history_of p done)
-same_fate limits p done e same = same (ingress_of limits p) (history_of p done)
+    → fate (ingress_of start.limits p) (history_of start p (e ∷ done))
+    ≡ fate (ingress_of start.limits p) (history_of start p done)
+same_fate start p done e same = same (ingress_of start.limits p) (history_of start p done)
 
 -- the last frame taken at a port has its event
-pub since : (limits : Bounds) (p : ℕ) (done : List Event) (t : Taking) → AreEvents done → last_taking (history_of p done) ≡ Some t
-    → Since limits p done t
-since limits p [] t h e = cc
-since limits p (Publish batch ∷ done) t h e = extend limits p done t (Publish batch) refl (since limits p done t h.1 e)
-since limits p (Send to from ∷ done) t h e = go (eqb p from) refl e (λ k. since limits p done t h.1 k)
+pub since : (start : Start) (p : ℕ) (done : List Event) (t : Taking) → AreEvents done
+    → last_taking (history_of start p done) ≡ Some t
+    → Since start p done t
+since start p [] t h e = cc
+since start p (Publish batch ∷ done) t h e = extend start p done t (Publish batch) refl (since start p done t h.1 e)
+since start p (Send to from ∷ done) t h e = go (eqb p from) refl e (λ k. since start p done t h.1 k)
   where
-    go : (b : Bool) → eqb p from ≡ b → last_taking (cons_option (cond b (Some (copy_asked to)) None) (history_of p done)) ≡ Some t
-        → (last_taking (history_of p done) ≡ Some t → Since limits p done t) → Since limits p (Send to from ∷ done) t
-    go true is k ih = extend limits p done t (Send to from)
-        (ap (λ b. fate (ingress_of limits p) (cons_option (cond b (Some (copy_asked to)) None) (history_of p done))) is) (ih k)
-    go false is k ih = extend limits p done t (Send to from)
-        (ap (λ b. fate (ingress_of limits p) (cons_option (cond b (Some (copy_asked to)) None) (history_of p done))) is) (ih k)
-since limits p (Step r ∷ done) t h e = go (eqb p r) refl e (λ k. since limits p done t h.1 k)
+    go : (b : Bool) → eqb p from ≡ b → last_taking (cons_option (cond b (Some (copy_asked to)) None)
+        (history_of start p done)) ≡ Some t
+        → (last_taking (history_of start p done) ≡ Some t → Since start p done t) → Since start p (Send to from ∷ done) t
+    go true is k ih = extend start p done t (Send to from)
+        (ap (λ b. fate (ingress_of start.limits p) (cons_option (cond b (Some (copy_asked to)) None)
+        (history_of start p done))) is) (ih k)
+    go false is k ih = extend start p done t (Send to from)
+        (ap (λ b. fate (ingress_of start.limits p) (cons_option (cond b (Some (copy_asked to)) None)
+        (history_of start p done))) is) (ih k)
+since start p (Step r ∷ done) t h e = go (eqb p r) refl e (λ k. since start p done t h.1 k)
   where
-    go : (b : Bool) → eqb p r ≡ b → last_taking (cons_option (cond b (Some step_made) None) (history_of p done)) ≡ Some t
-        → (last_taking (history_of p done) ≡ Some t → Since limits p done t) → Since limits p (Step r ∷ done) t
+    go : (b : Bool) → eqb p r ≡ b → last_taking (cons_option (cond b (Some step_made) None) (history_of start p done)) ≡ Some t
+        → (last_taking (history_of start p done) ≡ Some t → Since start p done t) → Since start p (Step r ∷ done) t
     go true is k ih =
         let same : p ≡ r = eqb-true p r is in
         let self : eqb p p ≡ true = eq-eqb p p refl in
-        subst (λ n. Since limits p (Step n ∷ done) t) same
-        (step_since limits p done t (ap (λ b. cons_option (cond b (Some step_made) None) (history_of p done)) self) (ih k))
-    go false is k ih = extend limits p done t (Step r)
-        (ap (λ b. fate (ingress_of limits p) (cons_option (cond b (Some step_made) None) (history_of p done))) is) (ih k)
-since limits p (Take r frame ∷ done) t h e = go (eqb p r) refl e (λ k. since limits p done t h.1 k)
+        subst (λ n. Since start p (Step n ∷ done) t) same
+        (step_since start p done t (ap (λ b. cons_option (cond b (Some step_made) None) (history_of start p done)) self) (ih k))
+    go false is k ih = extend start p done t (Step r)
+        (ap (λ b. fate (ingress_of start.limits p) (cons_option (cond b (Some step_made) None) (history_of start p done))) is)
+        (ih k)
+since start p (Take r frame ∷ done) t h e = go (eqb p r) refl e (λ k. since start p done t h.1 k)
   where
-    go : (b : Bool) → eqb p r ≡ b → last_taking (cons_option (cond b (Some (frame_taken frame)) None) (history_of p done))
+    go : (b : Bool) → eqb p r ≡ b → last_taking (cons_option (cond b (Some (frame_taken frame)) None) (history_of start p done))
         ≡ Some t
-        → (last_taking (history_of p done) ≡ Some t → Since limits p done t) → Since limits p (Take r frame ∷ done) t
-    go false is k ih = extend limits p done t (Take r frame)
-        (ap (λ b. fate (ingress_of limits p) (cons_option (cond b (Some (frame_taken frame)) None) (history_of p done))) is)
+        → (last_taking (history_of start p done) ≡ Some t → Since start p done t) → Since start p (Take r frame ∷ done) t
+    go false is k ih = extend start p done t (Take r frame)
+        (ap (λ b. fate (ingress_of start.limits p) (cons_option (cond b (Some (frame_taken frame)) None)
+        (history_of start p done))) is)
         (ih k)
     go true is k ih =
         let same : p ≡ r = eqb-true p r is in
-        let taken : taking frame (history_of p done) ≡ t = cc in
+        let taken : taking frame (history_of start p done) ≡ t = cc in
         record {
           frame = frame;
           earlier = done;
@@ -312,43 +329,46 @@ since limits p (Take r frame ∷ done) t h e = go (eqb p r) refl e (λ k. since 
           same = sym taken;
           sound = sound_events done h.1;
           full = λ q le missing left.
-              let all : placings q (work (ingress_of limits p) (taking frame (history_of p done))) ≡ 0 =
-              ap (λ b. placings q (work_left (ingress_of limits p)
-              (cons_option (cond b (Some (frame_taken frame)) None) (history_of p done)))) (sym is) ∙ left in
-              let some : 1 ≤ placings q (work (ingress_of limits p) (taking frame (history_of p done))) = subst
-              (λ (x : Taking). 1 ≤ placings q (work (ingress_of limits p) x)) (sym taken) le in
+              let all : placings q (work (ingress_of start.limits p) (taking frame (history_of start p done))) ≡ 0 =
+              ap (λ b. placings q (work_left (ingress_of start.limits p)
+              (cons_option (cond b (Some (frame_taken frame)) None) (history_of start p done)))) (sym is) ∙ left in
+              let some : 1 ≤ placings q (work (ingress_of start.limits p) (taking frame (history_of start p done))) = subst
+              (λ (x : Taking). 1 ≤ placings q (work (ingress_of start.limits p) x)) (sym taken) le in
               absurd (omega arith);
         }
 
 -- what a port heard after a frame was taken there, and before
-pub heard-later : (p : ℕ) (frame : List ℕ) (later earlier : List Event)
-    → heard (history_of p (later ++ Take p frame ∷ earlier)) ≡ heard (history_of p later) ++ frame ∷ heard (history_of p earlier)
-heard-later p frame [] earlier =
+pub heard-later : (start : Start) (p : ℕ) (frame : List ℕ) (later earlier : List Event)
+    → heard (history_of start p (later ++ Take p frame ∷ earlier))
+    ≡ heard (history_of start p later) ++ frame ∷ heard (history_of start p earlier)
+heard-later start p frame [] earlier =
     let self : eqb p p ≡ true = eq-eqb p p refl in
-    ap (λ b. heard (cons_option (cond b (Some (frame_taken frame)) None) (history_of p earlier))) self
-heard-later p frame (e ∷ later) earlier =
-    one (at_port p e) (history_of p (later ++ Take p frame ∷ earlier)) (history_of p later) (frame ∷ heard (history_of p earlier))
-    (heard-later p frame later earlier)
+    ap (λ b. heard (cons_option (cond b (Some (frame_taken frame)) None) (history_of start p earlier))) self
+heard-later start p frame (e ∷ later) earlier =
+    one (at_port p e) (history_of start p (later ++ Take p frame ∷ earlier)) (history_of start p later) (frame ∷ heard
+    (history_of start p earlier))
+    (heard-later start p frame later earlier)
   where
     one : (o : Option PortEvent) (xs ys : List PortEvent) (zs : List (List ℕ)) → heard xs ≡ heard ys ++ zs
         → heard (cons_option o xs) ≡ heard (cons_option o ys) ++ zs
     one None xs ys zs same = same
     one (Some (frame_taken taken)) xs ys zs same = ap (λ (h : List (List ℕ)). taken ∷ h) same
     one (Some (batch_published batch)) xs ys zs same = same
+    one (Some (heard_before records)) xs ys zs same = same
     one (Some step_made) xs ys zs same = same
     one (Some (copy_asked q)) xs ys zs same = same
 
 -- no frame was taken there after the last
-pub newest_taken : (limits : Bounds) (p : ℕ) (done : List Event) (t : Taking) (s : Since limits p done t)
-    → last_taking (history_of p done) ≡ Some t
-    → heard (history_of p s.later) ≡ []
-newest_taken limits p done t s last =
-    let number = last_number (history_of p done) t last in
-    let same : t.number ≡ length (heard (history_of p s.earlier)) = ap (λ (x : Taking). x.number) s.same in
-    let all = ap (λ (x : List Event). length (heard (history_of p x))) s.order
-    ∙ ap length (heard-later p s.frame s.later s.earlier)
-    ∙ length-append (heard (history_of p s.later)) (s.frame ∷ heard (history_of p s.earlier)) in
-    none (heard (history_of p s.later)) (omega arith)
+pub newest_taken : (start : Start) (p : ℕ) (done : List Event) (t : Taking) (s : Since start p done t)
+    → last_taking (history_of start p done) ≡ Some t
+    → heard (history_of start p s.later) ≡ []
+newest_taken start p done t s last =
+    let number = last_number (history_of start p done) t last in
+    let same : t.number ≡ length (heard (history_of start p s.earlier)) = ap (λ (x : Taking). x.number) s.same in
+    let all = ap (λ (x : List Event). length (heard (history_of start p x))) s.order
+    ∙ ap length (heard-later start p s.frame s.later s.earlier)
+    ∙ length-append (heard (history_of start p s.later)) (s.frame ∷ heard (history_of start p s.earlier)) in
+    none (heard (history_of start p s.later)) (omega arith)
   where
     none : (xs : List (List ℕ)) → length xs ≡ 0 → xs ≡ []
     none [] e = refl

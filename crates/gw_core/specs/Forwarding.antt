@@ -2,15 +2,15 @@
 use Rattle.std.specs.Prelude.{◌≡◌, ℕ, zero, suc, ◌<◌, true, false, List, [], ◌∷◌, ◌++◌, replicate, length}
 use Rattle.std.specs.Prelude.{Bool, ◌+◌, slice_index_or, Option, Some, None, Result, Ok, Err}
 use Rattle.gw_policy.specs.Batches.{Pair}
-use Rattle.gw_ledger.specs.Bounds.{Bounds}
 use Rattle.gw_ledger.specs.declared.outcome.Outcome.{Outcome}
+use Rattle.gw_core.specs.Start.{Start, Heard, begun}
 use Rattle.gw_core.specs.PortHistory.{PortEvent, frame_taken, step_made, batches, Ingress, ingress_of, is_unfinished}
 use Rattle.gw_core.specs.Events.{history_of, accepted, reply, take_refusal, take_answer, step_answer}
 use Rattle.gw_core.specs.Standing.{Worker, WorkerStands, AreFound, ingress}
 use Rattle.gw_core.specs.Gateway.{Gateway, Stands}
 use Rattle.gw_claims.specs.Claims.{is_local}
 use Rattle.gw_core.specs.LaneView.{LaneView}
-use Rattle.gw_core.specs.PortHistory.{heard, taking, work_from, work_left, waiting}
+use Rattle.gw_core.specs.PortHistory.{ever_heard, taking, work_from, work_left, waiting}
 use Rattle.gw_core.specs.Standing.{SoFar, has_room, lane_with, active_placed, copy_from}
 use Rattle.gw_core.specs.declared.active.Active.{Active}
 use Rattle.gw_core.specs.Headline.{WasForwarded}
@@ -25,30 +25,31 @@ abbrev pub forwarded : ℕ → ℕ → List ℕ → List Event → List Event
 forwarded n p frame history = replicate n (Step p) ++ Take p frame ∷ history
 
 -- the last of so many steps tells what became of the frame; a frame that needs none is local, and goes nowhere
-abbrev pub LastTells : Bounds → List Event → ℕ → List ℕ → ℕ → Outcome → Type 0
-LastTells limits history p frame zero o = (o.local ≡ true) × (o.allowed ≡ []) × (o.placed ≡ [])
-LastTells limits history p frame (suc n) o = reply limits (forwarded n p frame history) (Step p) ≡ Ok (Finished o)
+abbrev pub LastTells : Start → List Event → ℕ → List ℕ → ℕ → Outcome → Type 0
+LastTells start history p frame zero o = (o.local ≡ true) × (o.allowed ≡ []) × (o.placed ≡ [])
+LastTells start history p frame (suc n) o = reply start (forwarded n p frame history) (Step p) ≡ Ok (Finished o)
 
 -- A frame is taken at a port after a history, and makes so many steps, which are accepted: as many as it needs and no more, since
 -- it is unfinished before each of them and finished after them. The taking and the last step tell its outcome.
-pub record IsForwarded (limits : Bounds) (history : List Event) (p : ℕ) (frame : List ℕ) (n : ℕ) (o : Outcome) : Type 0 where
-  pub taken : reply limits history (Take p frame) ≡ Ok (Taken o.number o.front o.local)
-  pub events : accepted limits (forwarded n p frame history) ≡ forwarded n p frame (accepted limits history)
+pub record IsForwarded (start : Start) (history : List Event) (p : ℕ) (frame : List ℕ) (n : ℕ) (o : Outcome) : Type 0 where
+  pub taken : reply start history (Take p frame) ≡ Ok (Taken o.number o.front o.local)
+  pub events : accepted start (forwarded n p frame history) ≡ forwarded n p frame (accepted start history)
   pub unfinished : (k : ℕ) → k < n
-      → is_unfinished (ingress_of limits p) (history_of p (forwarded k p frame (accepted limits history))) ≡ true
-  pub finished : is_unfinished (ingress_of limits p) (history_of p (forwarded n p frame (accepted limits history))) ≡ false
-  pub told : LastTells limits history p frame n o
+      → is_unfinished (ingress_of start.limits p) (history_of start p (forwarded k p frame (accepted start history))) ≡ true
+  pub finished : is_unfinished (ingress_of start.limits p) (history_of start p (forwarded n p frame (accepted start history)))
+      ≡ false
+  pub told : LastTells start history p frame n o
 
 -- a frame that may not be taken after a history is refused as its taking is; another makes all of its steps
-abbrev pub CoreForwards : Gateway → List Event → ℕ → List ℕ → Result Outcome EventRefusal → Gateway → Type 0
-CoreForwards old history p frame (Err why) new = reply old.limits history (Take p frame) ≡ Err why
-CoreForwards old history p frame (Ok o) new =
-    (n : ℕ) × IsForwarded old.limits history p frame n o × Stands new (forwarded n p frame history)
+abbrev pub CoreForwards : Gateway → Heard → List Event → ℕ → List ℕ → Result Outcome EventRefusal → Gateway → Type 0
+CoreForwards old known history p frame (Err why) new = reply (begun old.limits known) history (Take p frame) ≡ Err why
+CoreForwards old known history p frame (Ok o) new =
+    (n : ℕ) × IsForwarded (begun old.limits known) history p frame n o × Stands new known (forwarded n p frame history)
 
 -- a frame that is not local was forwarded by its last step
-abbrev pub ForwardsFrame : Bounds → List Event → ℕ → List ℕ → Outcome → Type 0
-ForwardsFrame limits history p frame o =
-    o.local ≡ false → (n : ℕ) × WasForwarded limits (forwarded n p frame (accepted limits history)) p o
+abbrev pub ForwardsFrame : Start → List Event → ℕ → List ℕ → Outcome → Type 0
+ForwardsFrame start history p frame o =
+    o.local ≡ false → (n : ℕ) × WasForwarded start (forwarded n p frame (accepted start history)) p o
 
 -- the same of one port: its history once it took a frame and made so many steps
 abbrev pub port_forwarded : ℕ → List ℕ → List PortEvent → List PortEvent
@@ -91,7 +92,7 @@ pub record FinishesBy (all : List (List Pair)) (w : Worker) (o : Outcome) (new :
 pub record Judged (all : List (List Pair)) (w : Worker) (frame : List ℕ) (done : List PortEvent) (port : ℕ) (a : Active)
     (lanes : List LaneView) : Type 0 where
   pub stands : WorkerStands all w (frame_taken frame ∷ done)
-  pub foreign : is_local (heard done) frame ≡ false
+  pub foreign : is_local (ever_heard done) frame ≡ false
   pub indices : AreFound all a.indices (batches done)
   pub steps : ℕ
   pub count : steps + length (work_from (ingress w) (taking frame done) port)
@@ -111,4 +112,4 @@ Judges false own port old lane new after = (new ≡ record old { port = port }) 
 -- a worker that took a foreign frame, of which it made no step yet
 pub record TookForeign (all : List (List Pair)) (w : Worker) (frame : List ℕ) (done : List PortEvent) : Type 0 where
   pub stands : WorkerStands all w (frame_taken frame ∷ done)
-  pub foreign : is_local (heard done) frame ≡ false
+  pub foreign : is_local (ever_heard done) frame ≡ false

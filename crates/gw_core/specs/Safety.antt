@@ -8,7 +8,7 @@ use Rattle.gw_verify.specs.Accepted.{IsAccepted}
 use Rattle.gw_machine.specs.Machine.{Machine, Outcome}
 use Rattle.gw_machine.specs.Runs.{Reaches, IsStep}
 use Rattle.gw_policy.specs.Batches.{in_force, steps}
-use Rattle.gw_ledger.specs.Bounds.{Bounds}
+use Rattle.gw_core.specs.Start.{Start}
 use Rattle.gw_core.specs.PortHistory.{Work, instruction, ingress_of, work_left, heard}
 use Rattle.gw_core.specs.Events.{history_of, all_batches, accepted}
 use Rattle.gw_core.specs.declared.event.Event.{Event}
@@ -29,25 +29,26 @@ pub record RunsInside (code : List Insn) (frame : List ℕ) (p n : ℕ) : Type 0
   pub within : n < length code
 
 -- the next step at port p makes instruction n of the policy for port q
-abbrev pub MakesNext : Bounds → List Event → ℕ → ℕ → ℕ → Type 0
-MakesNext limits done p q n = (rest : List Work) × (work_left (ingress_of limits p) (history_of p done) ≡ instruction q n ∷ rest)
+abbrev pub MakesNext : Start → List Event → ℕ → ℕ → ℕ → Type 0
+MakesNext start done p q n = (rest : List Work) × (work_left (ingress_of start.limits p) (history_of start p done)
+    ≡ instruction q n ∷ rest)
 
 -- Instruction n of the policy for port q is made for the frame last taken at port p. Port q is another port of the gateway, and
 -- the policy is the one in force for it at the taking: accepted code that runs as said, or the opening block with its one
 -- instruction.
-pub record IsSafeStep (limits : Bounds) (done : List Event) (p q n : ℕ) : Type 0 where
+pub record IsSafeStep (start : Start) (done : List Event) (p q n : ℕ) : Type 0 where
   pub frame : List ℕ
   pub earlier : List Event
   pub later : List Event
   pub taken : done ≡ later ++ Take p frame ∷ earlier
-  pub newest : heard (history_of p later) ≡ []
-  pub there : q < limits.ports
+  pub newest : heard (history_of start p later) ≡ []
+  pub there : q < start.limits.ports
   pub other : q ≢ p
   pub few : n < steps (in_force q (all_batches earlier)) frame p
   pub runs : MatchOption (in_force q (all_batches earlier)) (n ≡ 0) (λ filter. RunsInside filter.code frame p n)
 
 -- where an event is a step that makes an instruction, that is a safe one
-abbrev pub StepsInside : Bounds → List Event → Event → Type 0
-StepsInside limits history e =
-    (p q n : ℕ) → e ≡ Step p → MakesNext limits (accepted limits history) p q n
-    → IsSafeStep limits (accepted limits history) p q n
+abbrev pub StepsInside : Start → List Event → Event → Type 0
+StepsInside start history e =
+    (p q n : ℕ) → e ≡ Step p → MakesNext start (accepted start history) p q n
+    → IsSafeStep start (accepted start history) p q n

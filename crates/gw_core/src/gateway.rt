@@ -3,6 +3,7 @@
 ghost use Rattle.std.specs.Prelude.{◌≡◌, ℕ, ◌<◌, ◌≤◌, ◌↔◌, List, [], ◌∷◌, length, replicate, slice_index};
 ghost use Rattle.std.specs.Prelude.{IfOk, IfErr, OnErr, IfSome, IsTrue};
 ghost use Rattle.gw_core.specs.Gateway.{Stands, CoreAnswers};
+ghost use Rattle.gw_core.specs.Start.{Heard, begun, unheard};
 ghost use Rattle.gw_core.specs.Events.{accepted, ledger_after, waiting_after, sent_after};
 ghost use Rattle.gw_core.specs.Headline.{Forwards};
 ghost use Rattle.gw_core.specs.Safety.{StepsInside};
@@ -67,7 +68,7 @@ impl Core {
     /// published, and for the copies of each lane.
     pub fn new(alloc: Global, limits: Limits) -> Result<Core, OutOfMemory>
         ensures limits { IfOk result (λ core. core.limits ≡ limits) }
-        ensures stands { IfOk result (λ core. Stands core []) }
+        ensures stands { IfOk result (λ core. Stands core unheard []) }
         ensures turns { IfOk result (λ core. core.turns ≡ replicate 16 0) }
     {
         match parts(alloc, limits) {
@@ -88,11 +89,12 @@ impl Core {
     // Inlined, so that a caller that names the event builds none: an `Event` has room for a batch of sixteen pairs.
     #[inline(always)]
     pub fn event(&mut self, event: Event) -> Result<Answer, EventRefusal>
-        ensures answers { (history : List Event) → Stands self.old history
-            → CoreAnswers self.old event result self.new history }
-        ensures headline { (history : List Event) → Stands self.old history
-            → Forwards self.old.limits history event result }
-        ensures safe { (history : List Event) → Stands self.old history → StepsInside self.old.limits history event }
+        ensures answers { (known : Heard) (history : List Event) → Stands self.old known history
+            → CoreAnswers self.old event result self.new known history }
+        ensures headline { (known : Heard) (history : List Event) → Stands self.old known history
+            → Forwards (begun self.old.limits known) history event result }
+        ensures safe { (known : Heard) (history : List Event) → Stands self.old known history
+            → StepsInside (begun self.old.limits known) history event }
         ensures refused { OnErr result (self.new ≡ self.old) }
         ensures limits { self.new.limits ≡ self.old.limits }
         ensures turns { self.new.turns ≡ self.old.turns }
@@ -110,8 +112,8 @@ impl Core {
 
     #[inline(always)]
     fn step(&mut self, port: u8) -> Result<Answer, EventRefusal>
-        ensures answers { (history : List Event) → Stands self.old history
-            → CoreAnswers self.old (Event.Step port) result self.new history }
+        ensures answers { (known : Heard) (history : List Event) → Stands self.old known history
+            → CoreAnswers self.old (Event.Step port) result self.new known history }
         ensures refused { OnErr result (self.new ≡ self.old) }
         ensures limits { self.new.limits ≡ self.old.limits }
         ensures turns { self.new.turns ≡ self.old.turns }
@@ -123,8 +125,8 @@ impl Core {
     }
 
     fn take(&mut self, port: u8, frame: Frame) -> Result<Answer, EventRefusal>
-        ensures answers { (history : List Event) → Stands self.old history
-            → CoreAnswers self.old (Event.Take port frame) result self.new history }
+        ensures answers { (known : Heard) (history : List Event) → Stands self.old known history
+            → CoreAnswers self.old (Event.Take port frame) result self.new known history }
         ensures refused { OnErr result (self.new ≡ self.old) }
         ensures limits { self.new.limits ≡ self.old.limits }
         ensures turns { self.new.turns ≡ self.old.turns }
@@ -141,12 +143,12 @@ impl Core {
     /// Takes a frame and makes all of its steps: what `event` does by `Take` and by `Step` until the frame is finished. It is
     /// refused as the taking is, and changes nothing then. It takes no memory.
     pub fn forward(&mut self, port: u8, frame: Frame) -> Result<Outcome, EventRefusal>
-        ensures answers { (history : List Event) → Stands self.old history
-            → CoreForwards self.old history port frame result self.new }
-        ensures headline { (history : List Event) → Stands self.old history
-            → IfOk result (λ outcome. ForwardsFrame self.old.limits history port frame outcome) }
-        ensures safe { (history : List Event) (n : ℕ) → Stands self.old history
-            → StepsInside self.old.limits (forwarded n port frame history) (Event.Step port) }
+        ensures answers { (known : Heard) (history : List Event) → Stands self.old known history
+            → CoreForwards self.old known history port frame result self.new }
+        ensures headline { (known : Heard) (history : List Event) → Stands self.old known history
+            → IfOk result (λ outcome. ForwardsFrame (begun self.old.limits known) history port frame outcome) }
+        ensures safe { (known : Heard) (history : List Event) (n : ℕ) → Stands self.old known history
+            → StepsInside (begun self.old.limits known) (forwarded n port frame history) (Event.Step port) }
         ensures refused { OnErr result (self.new ≡ self.old) }
         ensures limits { self.new.limits ≡ self.old.limits }
         ensures turns { self.new.turns ≡ self.old.turns }
@@ -164,8 +166,8 @@ impl Core {
     }
 
     fn send(&mut self, to: u8, from: u8) -> Result<Answer, EventRefusal>
-        ensures answers { (history : List Event) → Stands self.old history
-            → CoreAnswers self.old (Event.Send to from) result self.new history }
+        ensures answers { (known : Heard) (history : List Event) → Stands self.old known history
+            → CoreAnswers self.old (Event.Send to from) result self.new known history }
         ensures refused { OnErr result (self.new ≡ self.old) }
         ensures limits { self.new.limits ≡ self.old.limits }
         ensures turns { self.new.turns ≡ self.old.turns }
@@ -186,7 +188,8 @@ impl Core {
     /// Sends the next copy that waits for a port, if one does: `Send` from the first port at which one waits, counted round from
     /// behind the port whose copy `next` sent last, at first from port 0. 72 refuses a port that is not there.
     pub fn next(&mut self, to: u8) -> Result<Option<FrameCopy>, EventRefusal>
-        ensures answers { (history : List Event) → Stands self.old history → SendsNext self.old history to result self.new }
+        ensures answers { (known : Heard) (history : List Event) → Stands self.old known history
+            → SendsNext self.old known history to result self.new }
         ensures refused { OnErr result (self.new ≡ self.old) }
         ensures limits { self.new.limits ≡ self.old.limits }
     {
@@ -207,7 +210,8 @@ impl Core {
 
     /// The copy that `next` would send, which stays where it waits.
     pub fn peek(&self, to: u8) -> Result<Option<FrameCopy>, EventRefusal>
-        ensures { (history : List Event) → Stands self.now history → PeeksNext self.now history to result }
+        ensures { (known : Heard) (history : List Event) → Stands self.now known history
+            → PeeksNext self.now known history to result }
     {
         if u32::from(to) >= self.limits.ports() {
             return Err(EventRefusal::NoSuchPort);
@@ -221,7 +225,8 @@ impl Core {
     /// The port whose copy for a port is the next.
     fn source(&self, to: u8) -> Option<u8>
         requires { to < self.now.limits.ports }
-        ensures found { (history : List Event) → Stands self.now history → FindsSource self.now history to result }
+        ensures found { (known : Heard) (history : List Event) → Stands self.now known history
+            → FindsSource self.now known history to result }
         ensures there { IfSome result (λ from. from < self.now.limits.ports) }
     {
         let ports = self.limits.ports() as u8;
@@ -236,8 +241,8 @@ impl Core {
     fn first_from(&self, begin: u8, end: u8, to: u8) -> Option<u8>
         requires to { to < self.now.limits.ports }
         requires end { end ≤ self.now.limits.ports }
-        ensures found { (history : List Event) → Stands self.now history
-            → FindsFirst self.now.limits (accepted self.now.limits history) to begin end result }
+        ensures found { (known : Heard) (history : List Event) → Stands self.now known history
+            → FindsFirst (begun self.now.limits known) (accepted (begun self.now.limits known) history) to begin end result }
         ensures there { IfSome result (λ from. from < end) }
     {
         for from in begin..end {
@@ -252,15 +257,15 @@ impl Core {
     fn waits(&self, from: u8, to: u8) -> bool
         requires from { from < self.now.limits.ports }
         requires to { to < self.now.limits.ports }
-        ensures { (history : List Event) → Stands self.now history
-            → IsTrue result ↔ Waits self.now.limits (accepted self.now.limits history) to from }
+        ensures { (known : Heard) (history : List Event) → Stands self.now known history
+            → IsTrue result ↔ Waits (begun self.now.limits known) (accepted (begun self.now.limits known) history) to from }
     {
         from != to && self.waiting(from, to) > 0
     }
 
     fn publish(&mut self, batch: Batch) -> Result<Answer, EventRefusal>
-        ensures answers { (history : List Event) → Stands self.old history
-            → CoreAnswers self.old (Event.Publish batch) result self.new history }
+        ensures answers { (known : Heard) (history : List Event) → Stands self.old known history
+            → CoreAnswers self.old (Event.Publish batch) result self.new known history }
         ensures refused { OnErr result (self.new ≡ self.old) }
         ensures limits { self.new.limits ≡ self.old.limits }
         ensures turns { self.new.turns ≡ self.old.turns }
@@ -318,12 +323,12 @@ impl Core {
         alloc: Global,
         events: Vec<Event>,
     ) -> Result<Vec<Result<Answer, EventRefusal>>, Vec<Event>>
-        ensures answers { (history : List Event) → Stands self.old history
-            → IfOk result (λ answers. RunsTo self.old history events.items answers.items self.new) }
-        ensures headline { (history : List Event) → Stands self.old history
-            → IfOk result (λ answers. ForEachAnswer (Forwards self.old.limits) history events.items answers.items) }
-        ensures safe { (history : List Event) → Stands self.old history
-            → IfOk result (λ answers. ForEachAnswer (λ past event answer. StepsInside self.old.limits past event)
+        ensures answers { (known : Heard) (history : List Event) → Stands self.old known history
+            → IfOk result (λ answers. RunsTo self.old known history events.items answers.items self.new) }
+        ensures headline { (known : Heard) (history : List Event) → Stands self.old known history
+            → IfOk result (λ answers. ForEachAnswer (Forwards (begun self.old.limits known)) history events.items answers.items) }
+        ensures safe { (known : Heard) (history : List Event) → Stands self.old known history
+            → IfOk result (λ answers. ForEachAnswer (λ past event answer. StepsInside (begun self.old.limits known) past event)
             history events.items answers.items) }
         ensures handed_back { IfErr result (λ back. back.items ≡ events.items) }
         ensures unchanged { OnErr result (self.new ≡ self.old) }
@@ -344,8 +349,8 @@ impl Core {
     /// What a port counts of the frames taken there.
     pub fn ledger(&self, port: u8) -> &InLedger
         requires { port < self.now.limits.ports }
-        ensures { (history : List Event) → Stands self.now history
-            → result.now ≡ ledger_after self.now.limits port (accepted self.now.limits history) }
+        ensures { (known : Heard) (history : List Event) → Stands self.now known history
+            → result.now ≡ ledger_after (begun self.now.limits known) port (accepted (begun self.now.limits known) history) }
     {
         self.workers[usize::from(port)].ledger()
     }
@@ -353,8 +358,9 @@ impl Core {
     /// What a port counts of the copies sent there.
     pub fn sent(&self, port: u8) -> &OutLedger
         requires { port < self.now.limits.ports }
-        ensures { (history : List Event) (from : ℕ) → Stands self.now history
-            → slice_index result.now.sent from ≡ sent_after self.now.limits from port (accepted self.now.limits history) }
+        ensures { (known : Heard) (history : List Event) (from : ℕ) → Stands self.now known history
+            → slice_index result.now.sent from ≡ sent_after (begun self.now.limits known) from port (accepted
+            (begun self.now.limits known) history) }
     {
         &self.outs[usize::from(port)]
     }
@@ -363,8 +369,9 @@ impl Core {
     pub fn waiting(&self, from: u8, to: u8) -> usize
         requires from { from < self.now.limits.ports }
         requires to { to < self.now.limits.ports }
-        ensures { (history : List Event) → Stands self.now history
-            → result ≡ length (waiting_after self.now.limits from to (accepted self.now.limits history)) }
+        ensures { (known : Heard) (history : List Event) → Stands self.now known history
+            → result ≡ length (waiting_after (begun self.now.limits known) from to (accepted
+            (begun self.now.limits known) history)) }
     {
         self.workers[usize::from(from)].waiting(to)
     }
@@ -373,7 +380,7 @@ impl Core {
 // The gateway, or that the memory for it was refused: room for every batch, and for the copies of every lane.
 fn parts(alloc: Global, limits: Limits) -> Result<Core, AllocError>
     ensures limits { IfOk result (λ core. core.limits ≡ limits) }
-    ensures stands { IfOk result (λ core. Stands core []) }
+    ensures stands { IfOk result (λ core. Stands core unheard []) }
     ensures turns { IfOk result (λ core. core.turns ≡ replicate 16 0) }
 {
     let batches = Vec::with_capacity(alloc, limits.versions() as usize)?;

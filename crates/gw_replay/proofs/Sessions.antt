@@ -1,5 +1,6 @@
 -- What is said of a command, unless memory was wanting.
 use Rattle.std.proofs.Common.{◌≡◌, ℕ, List, [], ◌∷◌, ◌++◌, None, Result, Ok, Err, refl, ap, sym, ◌∙◌, subst}
+use Rattle.gw_core.specs.Start.{unheard}
 use Rattle.gw_core.specs.Gateway.{Stands}
 use Rattle.gw_core.specs.declared.event.Event.{Event}
 use Rattle.gw_core.specs.declared.event.Event.TheVariants as event
@@ -105,7 +106,7 @@ state_with s port filter old new state limits core batch = record {
   limits = limits ∙ state.limits;
   core = ap (λ core. core.limits) core ∙ state.core;
   batch = batch ∙ ap (λ before. before ++ pair_for port filter ∷ []) state.batch;
-  stands = subst (λ core. Stands core s.history) (sym core) state.stands;
+  stands = subst (λ core. Stands core unheard s.history) (sym core) state.stands;
 }
 
 -- a command whose policy was read and joined

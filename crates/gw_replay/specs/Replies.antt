@@ -9,6 +9,7 @@ use Rattle.gw_ledger.specs.Bounds.{Bounds}
 use Rattle.gw_ledger.specs.declared.ledger.InLedger.{InLedger}
 use Rattle.gw_ledger.specs.declared.outcome.Outcome.{Outcome}
 use Rattle.gw_ledger.specs.declared.outcome.FrameCopy.{FrameCopy}
+use Rattle.gw_core.specs.Start.{fresh}
 use Rattle.gw_core.specs.Events.{reply, accepted, ledger_after}
 use Rattle.gw_core.specs.declared.event.Event.{Event}
 use Rattle.gw_core.specs.declared.event.Event.TheVariants as event
@@ -70,7 +71,8 @@ event_said (Err why) = Err (fault.Event why)
 
 -- the reply to an event
 abbrev pub after_event : SessionState → Event → Reply
-after_event s e = record { said = event_said (reply s.limits s.history e); session = record s { history = e ∷ s.history } }
+after_event s e =
+    record { said = event_said (reply (fresh s.limits) s.history e); session = record s { history = e ∷ s.history } }
 
 -- what was read of a text, or why nothing was
 abbrev pub after_taking : SessionState → ℕ → Result (List ℕ) RecordFault → Reply
@@ -105,7 +107,7 @@ after_publishing s = after_event (record s { batch = [] }) (event.Publish s.batc
 abbrev pub ledger_said : SessionState → ℕ → Result (List ℕ) Fault
 ledger_said s port =
     if nat_le s.limits.ports port then Err (fault.Event NoSuchPort)
-    else Ok (ledger_line (ledger_after s.limits port (accepted s.limits s.history)))
+    else Ok (ledger_line (ledger_after (fresh s.limits) port (accepted (fresh s.limits) s.history)))
 
 -- the reply to a command once limits were accepted
 abbrev pub Replies : SessionState → Request → Reply → Type 0

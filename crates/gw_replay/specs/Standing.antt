@@ -2,6 +2,7 @@
 use Rattle.std.specs.Prelude.{◌≡◌, ℕ, false, List, codes}
 use Rattle.std.specs.Prelude.{Option, Some, None, Result, Ok, Err}
 use Rattle.gw_ledger.specs.Bounds.{Bounds}
+use Rattle.gw_core.specs.Start.{unheard}
 use Rattle.gw_core.specs.declared.event.Event.{Event}
 use Rattle.gw_core.specs.Gateway.{Stands}
 use Rattle.gw_replay.specs.declared.fault.Fault.{Fault}
@@ -17,7 +18,7 @@ pub record HasState (r : Session) (s : SessionState) : Type 0 where
   pub limits : r.limits ≡ s.limits
   pub core : r.core.limits ≡ s.limits
   pub batch : r.batch ≡ s.batch
-  pub stands : Stands r.core s.history
+  pub stands : Stands r.core unheard s.history
 
 -- an event was answered
 pub record Happened (s : SessionState) (e : Event) (said : Result (List ℕ) Fault) (new : Session) : Type 0 where

@@ -7,8 +7,10 @@ pub use Rattle.gw_core.specs.Circle as CoreCircle
 pub use Rattle.gw_core.specs.Events as CoreEvents
 pub use Rattle.gw_core.specs.Forwarding as CoreForwarding
 pub use Rattle.gw_core.specs.Headline
+pub use Rattle.gw_core.specs.Renewing
 pub use Rattle.gw_core.specs.Runs as CoreRuns
 pub use Rattle.gw_core.specs.Safety
+pub use Rattle.gw_core.specs.Start as CoreStart
 pub use Rattle.gw_frame.specs.Record
 pub use Rattle.gw_insn.specs.Listing
 pub use Rattle.gw_insn.specs.Table as Instructions

@@ -12,7 +12,7 @@
 
 pub use gw_board::{NoReading, Operator, ReplaceRefusal, Told};
 pub use gw_claims::Claims;
-pub use gw_core::{Answer, Core, Event, EventRefusal};
+pub use gw_core::{Answer, Core, Event, EventRefusal, RenewRefusal};
 pub use gw_frame::{Frame, FrameRefusal};
 pub use gw_ident::{CanId, Name};
 pub use gw_input::{

@@ -1,4 +1,5 @@
 use Rattle.std.proofs.Common.{rules, [], refl}
+use Rattle.gw_core.specs.Start.{unheard}
 use Rattle.gw_core.proofs.Starts.{begins, new_pushed, out_pushed}
 use Rattle.gw_core.proofs.gateway.parts.Goals as goal
 
@@ -11,7 +12,7 @@ loop-own-preserved c =
       workers_count = search rules;
       outs_room = search rules;
       outs_count = search rules;
-      workers = new_pushed c.args.limits c.loop-own.workers.items c.push_reserved.new.self.items c.in_ok-new.field-0
+      workers = new_pushed c.args.limits unheard c.loop-own.workers.items c.push_reserved.new.self.items c.in_ok-new.field-0
           c.loop-own.own c.push_reserved.ensures.items (search rules) (e.limits, e.own, e.stands) so.workers;
       outs = out_pushed c.loop-own.outs.items c.push_reserved-in-loop-own.new.self.items c.new-in-loop-own.result
           c.push_reserved-in-loop-own.ensures.items c.new-in-loop-own.ensures so.outs;
@@ -22,8 +23,9 @@ invariant_of-result c =
     let so = c.loop-own.invariant in (
       search rules,
       (
+        unheard,
         [],
-        begins _ c.ports-ports.ensures.within (search rules) refl (search rules)
+        begins _ unheard c.ports-ports.ensures.within (search rules) refl (search rules)
             (search rules) so.workers so.outs,
       ),
     )
@@ -31,4 +33,4 @@ invariant_of-result c =
 pub returns-clause-stands : goal.returns-clause-stands
 returns-clause-stands c =
     let so = c.loop-own.invariant in
-    begins _ c.ports-ports.ensures.within (search rules) refl (search rules) (search rules) so.workers so.outs
+    begins _ unheard c.ports-ports.ensures.within (search rules) refl (search rules) (search rules) so.workers so.outs

@@ -4,7 +4,7 @@ use Rattle.gw_core.proofs.SafeSteps.{safe_step}
 use Rattle.gw_core.proofs.laws.steps_are_safe.Goals as goal
 
 pub returns : goal.returns
-returns c = λ limits history p q n events next.
+returns c = λ start history p q n events next.
     safe_step c.one_answer.ensures.returns c.one_answer.ensures.steps c.soundness.ensures.accepted_loads
     c.soundness.ensures.accepted_places
-    limits (accepted limits history) p q n (events_all (accepted limits history) events) next
+    start (accepted start history) p q n (events_all (accepted start history) events) next

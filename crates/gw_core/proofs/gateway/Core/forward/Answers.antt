@@ -1,6 +1,7 @@
 use Rattle.std.proofs.Common.{rules, ◌≡◌, ◌<◌, List, length, subst, arith}
 use Rattle.std.specs.Prelude.{OnErr, IfOk}
 use Rattle.gw_frame.specs.Record.{IsRecord}
+use Rattle.gw_core.specs.Start.{Heard, begun}
 use Rattle.gw_core.specs.Gateway.{Gateway, Stands}
 use Rattle.gw_core.specs.Forwarding.{CoreForwards, ForwardsFrame}
 use Rattle.gw_core.specs.declared.event.Event.{Event}
@@ -68,8 +69,8 @@ returns-clause-answers c =
     let within : c.args.port < g.limits.ports = omega (arith, c.from-2.ensures, c.from.ensures, c.ports.ensures.ports) in
     let front : c.len-front.result ≡ length g.batches = search rules in
     let is_record : IsRecord c.args.frame = subst IsRecord c.bytes-record.ensures.octets c.bytes-record.ensures.record in
-    let P : Gateway → Type 0 = λ x. (history : List Event) → Stands x history
-    → CoreForwards x history c.args.port c.args.frame c.forward.result (with_worker g c.from-2.result c.forward.new.self) in
+    let P : Gateway → Type 0 = λ x. (known : Heard) (history : List Event) → Stands x known history
+    → CoreForwards x known history c.args.port c.args.frame c.forward.result (with_worker g c.from-2.result c.forward.new.self) in
     let is_view : g ≡ c.args.self.now = c.self.view_is in
     subst P is_view
     (core_forward g c.deref.result.now c.from-2.result c.args.port c.index_mut.result.now c.forward.new.self c.forward.result
@@ -90,15 +91,16 @@ returns-clause-headline c =
     let within : c.args.port < g.limits.ports = omega (arith, c.from-2.ensures, c.from.ensures, c.ports.ensures.ports) in
     let front : c.len-front.result ≡ length g.batches = search rules in
     let is_record : IsRecord c.args.frame = subst IsRecord c.bytes-record.ensures.octets c.bytes-record.ensures.record in
-    let P : Gateway → Type 0 = λ x. (history : List Event) → Stands x history
-    → IfOk c.forward.result (λ outcome. ForwardsFrame x.limits history c.args.port c.args.frame outcome) in
+    let P : Gateway → Type 0 = λ x. (known : Heard) (history : List Event) → Stands x known history
+    → IfOk c.forward.result (λ outcome. ForwardsFrame (begun x.limits known) history c.args.port c.args.frame outcome) in
     let is_view : g ≡ c.args.self.now = c.self.view_is in
-    subst P is_view (λ history s.
-    headline_of c.finished_frames_were_forwarded.ensures g (with_worker g c.from-2.result c.forward.new.self) history c.args.port
+    subst P is_view (λ known history s.
+    headline_of c.finished_frames_were_forwarded.ensures g
+    (with_worker g c.from-2.result c.forward.new.self) known history c.args.port
     c.args.frame c.forward.result (omega (arith, c.ranges.port.fits)) is_record s
     (core_forward g c.deref.result.now c.from-2.result c.args.port c.index_mut.result.now c.forward.new.self c.forward.result
     c.args.frame c.len-front.result c.deref.ensures.value c.from-2.ensures within is_record c.index_mut.ensures.value
-    c.forward.ensures.answers front c.forward.ensures.limits c.forward.ensures.own history s))
+    c.forward.ensures.answers front c.forward.ensures.limits c.forward.ensures.own known history s))
 
 pub returns-clause-refused : goal.returns-clause-refused
 returns-clause-refused c =

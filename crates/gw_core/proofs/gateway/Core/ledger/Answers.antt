@@ -1,4 +1,5 @@
 use Rattle.std.proofs.Common.{rules, ◌≡◌, ◌<◌, List, sym, subst, ◌∙◌}
+use Rattle.gw_core.specs.Start.{Heard, begun}
 use Rattle.gw_core.specs.Gateway.{Gateway, Stands}
 use Rattle.gw_core.specs.Events.{ledger_after, accepted}
 use Rattle.gw_core.specs.declared.event.Event.{Event}
@@ -18,7 +19,7 @@ returns c =
     } in
     let is_view : g ≡ c.args.self.now = c.self.view_is in
     let within : c.args.port < g.limits.ports = subst (λ (x : Gateway). c.args.port < x.limits.ports) (sym is_view) c.requires in
-    let P : Gateway → Type 0 = λ x. (history : List Event) → Stands x history
-    → c.ledger.result.now ≡ ledger_after x.limits c.args.port (accepted x.limits history) in
-    subst P is_view (λ history s. c.ledger.ensures
-    ∙ read_ledger g c.from.result c.args.port c.index.result.now c.from.ensures within (search rules) history s)
+    let P : Gateway → Type 0 = λ x. (known : Heard) (history : List Event) → Stands x known history
+    → c.ledger.result.now ≡ ledger_after (begun x.limits known) c.args.port (accepted (begun x.limits known) history) in
+    subst P is_view (λ known history s. c.ledger.ensures
+    ∙ read_ledger g c.from.result c.args.port c.index.result.now c.from.ensures within (search rules) known history s)

@@ -2,7 +2,7 @@ use Rattle.std.proofs.Common.{◌≡◌, ◌+◌, ◌<◌, ℕ, suc, List, Ok, r
 use Rattle.std.specs.Prelude.{slice_set}
 use Rattle.gw_core.specs.Gateway.{Gateway, CoreAnswers}
 use Rattle.gw_core.specs.declared.event.Event.TheVariants.{Send}
-use Rattle.gw_core.proofs.Circles.{sends_next, turned}
+use Rattle.gw_core.proofs.Circles.{sends_next, sends_some, turned}
 use Rattle.gw_core.proofs.gateway.Core.next.Goals as goal
 
 pub returns-in_default-clause-answers : goal.returns-in_default-clause-answers
@@ -17,9 +17,9 @@ returns-in_default-clause-answers c =
       turns = i.turns;
     } in
     let within : c.args.to < g.limits.ports = omega (arith, c.from.ensures, c.ports.ensures.ports) in
-    λ history s. (
+    λ known history s. (
       subst (λ (x : Gateway). c.args.to < x.limits.ports) c.self.view_is within,
-      c.in_default.ensures.found history s,
+      c.in_default.ensures.found known history s,
       refl,
     )
 
@@ -35,7 +35,7 @@ invariant_of-self c =
       turns = i.turns;
     } in
     let inv = c.self-2.invariant in
-    (inv.0, (inv.1.0, turned g inv.1.0 (slice_set i.turns c.from-in-Sent.result (c.in-Some.from + 1)) inv.1.1))
+    (inv.0, (inv.1.0, inv.1.1, turned g inv.1.0 inv.1.1 (slice_set i.turns c.from-in-Sent.result (c.in-Some.from + 1)) inv.1.2))
 
 pub returns-in-Sent-clause-answers : goal.returns-in-Sent-clause-answers
 returns-in-Sent-clause-answers c =
@@ -67,9 +67,27 @@ returns-in-Sent-clause-answers c =
     let set : slice_set h.turns c.from-in-Sent.result (from + 1) ≡ slice_set old.turns c.args.to (suc from) =
     ap (λ (t : List ℕ). slice_set t c.from-in-Sent.result (from + 1)) kept
     ∙ ap (λ n. slice_set old.turns n (from + 1)) c.from-in-Sent.ensures ∙ ap (λ n. slice_set old.turns c.args.to n) more in
-    λ history s.
-    let told : CoreAnswers old (Send c.args.to from) (Ok c.in_ok-copy.field-0) h history =
-    subst (λ (x : Gateway). CoreAnswers old (Send c.args.to from) (Ok c.in_ok-copy.field-0) x history) (sym is_sent)
-    (c.in_ok-copy.ensures.answers history s) in
-    sends_next old h history c.args.to from (slice_set h.turns c.from-in-Sent.result (from + 1)) c.in_ok-copy.field-0
-    c.in-Sent.copy there (c.in-Some.ensures.found history s) told c.in-Sent.is set
+    λ known history s.
+    let told : CoreAnswers old (Send c.args.to from) (Ok c.in_ok-copy.field-0) h known history =
+    subst (λ (x : Gateway). CoreAnswers old (Send c.args.to from) (Ok c.in_ok-copy.field-0) x known history) (sym is_sent)
+    (c.in_ok-copy.ensures.answers known history s) in
+    sends_next old h known history c.args.to from (slice_set h.turns c.from-in-Sent.result (from + 1)) c.in_ok-copy.field-0
+    c.in-Sent.copy there (c.in-Some.ensures.found known history s) told c.in-Sent.is set
+
+pub returns-in_default-2-clause-answers : goal.returns-in_default-2-clause-answers
+returns-in_default-2-clause-answers c =
+    let i = c.self.inside in
+    let g : Gateway = record {
+      limits = i.limits;
+      batches = i.batches.items;
+      latest = i.latest;
+      workers = i.workers.items;
+      outs = i.outs.items;
+      turns = i.turns;
+    } in
+    let within : c.args.to < g.limits.ports = omega (arith, c.from.ensures, c.ports.ensures.ports) in
+    let there : c.args.to < c.args.self.now.limits.ports
+    = subst (λ (x : Gateway). c.args.to < x.limits.ports) c.self.view_is within in
+    λ known history s. absurd (sends_some c.args.self.now c.send.new.self known history c.args.to c.in-Some.from
+    c.in_ok-copy.field-0 there (c.in-Some.ensures.found known history s) (c.in_ok-copy.ensures.answers known history s)
+    c.in_default-2.not-Sent)

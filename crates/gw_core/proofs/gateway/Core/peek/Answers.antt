@@ -1,4 +1,5 @@
 use Rattle.std.proofs.Common.{rules, ◌≡◌, ◌<◌, List, Some, Ok, sym, subst, arith}
+use Rattle.gw_core.specs.Start.{Heard}
 use Rattle.gw_core.specs.Gateway.{Gateway, Stands}
 use Rattle.gw_core.specs.Circle.{FindsSource, PeeksNext}
 use Rattle.gw_core.specs.declared.event.Event.{Event}
@@ -18,7 +19,11 @@ returns-in_default c =
       turns = i.turns;
     } in
     let within : c.args.to < g.limits.ports = omega (arith, c.from.ensures, c.ports.ensures.ports) in
-    λ history s. (subst (λ (x : Gateway). c.args.to < x.limits.ports) c.self.view_is within, c.in_default.ensures.found history s)
+    λ known history s. (
+      subst (λ (x : Gateway). c.args.to < x.limits.ports) c.self.view_is within,
+      c.in_default.ensures.found
+          known history s,
+    )
 
 pub first-requires : goal.first-requires
 first-requires c =
@@ -52,10 +57,13 @@ returns c =
     } in
     let is_view : g ≡ c.args.self.now = c.self.view_is in
     let within : c.args.to < g.limits.ports = omega (arith, c.from.ensures, c.ports.ensures.ports) in
-    let source : (history : List Event) → Stands g history → FindsSource g history c.args.to (Some c.in-Some.from) =
-    subst (λ (x : Gateway). (history : List Event) → Stands x history → FindsSource x history c.args.to (Some c.in-Some.from))
+    let source : (known : Heard) (history : List Event) → Stands g known history
+    → FindsSource g known history c.args.to (Some c.in-Some.from) =
+    subst (λ (x : Gateway). (known : Heard) (history : List Event) → Stands x known history
+    → FindsSource x known history c.args.to (Some c.in-Some.from))
     (sym is_view) c.in-Some.ensures.found in
-    let P : Gateway → Type 0 = λ x. (history : List Event) → Stands x history
-    → PeeksNext x history c.args.to (Ok c.first.result) in
-    subst P is_view (λ history s. peeks g history c.from-2.result c.args.to c.in-Some.from c.index.result.now c.first.result s
-    c.from-2.ensures (search rules) within (source history s) c.first.ensures)
+    let P : Gateway → Type 0 = λ x. (known : Heard) (history : List Event) → Stands x known history
+    → PeeksNext x known history c.args.to (Ok c.first.result) in
+    subst P is_view (λ known history s. peeks g known history c.from-2.result c.args.to c.in-Some.from c.index.result.now
+    c.first.result s
+    c.from-2.ensures (search rules) within (source known history s) c.first.ensures)

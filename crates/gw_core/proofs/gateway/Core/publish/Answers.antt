@@ -1,5 +1,6 @@
 use Rattle.std.proofs.Common.{rules, ◌≡◌, ℕ, ◌+◌, ◌<◌, List, ◌∷◌, length, Ok, sym, ap, ◌∙◌, subst, arith, false}
 use Rattle.gw_policy.specs.Batches.{Pair}
+use Rattle.gw_core.specs.Start.{Heard}
 use Rattle.gw_core.specs.Events.{names_no_port}
 use Rattle.gw_core.specs.Gateway.{Gateway, Stands, StandsAt, CoreAnswers, IndicesWith}
 use Rattle.gw_core.specs.declared.event.Event.{Event}
@@ -26,10 +27,11 @@ invariant_of-self c =
     let inv = c.self.invariant in (
       omega (arith, inv.0, c.push_reserved.ensures.capacity),
       (
-        Publish c.args.batch ∷ inv.1.0,
-        subst (λ (xs : List (List Pair)). StandsAt (record g { batches = xs; latest = c.in-Some.latest })
-            (Publish c.args.batch ∷ inv.1.0)) (sym c.push_reserved.ensures.items)
-            (stands_publish g inv.1.0 c.args.batch c.in-Some.latest inv.1.1 more made),
+        inv.1.0,
+        Publish c.args.batch ∷ inv.1.1,
+        subst (λ (xs : List (List Pair)). StandsAt (record g { batches = xs; latest = c.in-Some.latest }) inv.1.0
+            (Publish c.args.batch ∷ inv.1.1)) (sym c.push_reserved.ensures.items)
+            (stands_publish g inv.1.0 inv.1.1 c.args.batch c.in-Some.latest inv.1.2 more made),
       ),
     )
 
@@ -50,8 +52,8 @@ returns-clause-answers c =
     (λ n. IndicesWith c.args.batch n g.latest c.in-Some.latest) front c.in-Some.ensures.1 in
     let e = c.in-Some.ensures.0 in
     let is_view : g ≡ c.args.self.now = c.self.view_is in
-    let F : Gateway → ℕ → List (List Pair) → Type 0 = λ x f xs. (history : List Event) → Stands x history
-    → CoreAnswers x (Publish c.args.batch) (Ok (Published (f + 1))) (record g { batches = xs; latest = c.in-Some.latest })
+    let F : Gateway → ℕ → List (List Pair) → Type 0 = λ x f xs. (known : Heard) (history : List Event) → Stands x known history
+    → CoreAnswers x (Publish c.args.batch) (Ok (Published (f + 1))) (record g { batches = xs; latest = c.in-Some.latest }) known
     history in
     let there : names_no_port g.limits.ports c.args.batch
     ≡ false = ap (λ n. names_no_port n c.args.batch) (sym c.ports.ensures.ports) ∙ e in

@@ -1,5 +1,6 @@
 use Rattle.std.proofs.Common.{◌≡◌, List, ◌∷◌, [], length, ap, subst, ◌∙◌, append_assoc, arith, length-append}
 use Rattle.std.specs.Vec.Iter.{into_iter_items}
+use Rattle.gw_core.specs.Start.{begun}
 use Rattle.gw_core.specs.Headline.{Forwards}
 use Rattle.gw_core.specs.Safety.{StepsInside}
 use Rattle.gw_core.specs.Runs.{ForEachAnswer}
@@ -20,9 +21,9 @@ loop-event-preserved c =
       count = let k = at.invariant.count in omega (arith, c.push_reserved.ensures.len, length-append at.yielded (x ∷ []));
       limits = c.event.ensures.limits ∙ at.invariant.limits;
       turns = c.event.ensures.turns ∙ at.invariant.turns;
-      runs = λ history s. one_more c.args.self.now at.self c.event.new.self history at.yielded x at.answers.items
+      runs = λ known history s. one_more c.args.self.now at.self c.event.new.self known history at.yielded x at.answers.items
           c.push_reserved.new.self.items c.event.result at.invariant.limits c.push_reserved.ensures.items
-          c.event.ensures.answers (at.invariant.runs history s);
+          (c.event.ensures.answers known) (at.invariant.runs known history s);
     }
 
 pub returns-clause-headline : goal.returns-clause-headline
@@ -31,9 +32,11 @@ returns-clause-headline c =
     let at = c.loop-event in
     let whole : at.yielded ≡ c.args.events.items = all_yielded at.yielded (into_iter_items at.event-iterator) _ _ _
     at.invariant.handed c.into_iter-event-iterator.ensures.into_iter_gives.0 at.invariant.rest c.in-None.ensures.steps.0 in
-    λ history s. subst (λ (es : List Event). ForEachAnswer (Forwards old.limits) history es at.answers.items) whole
-    (each_forwards c.finished_frames_were_forwarded.ensures old at.self history at.yielded at.answers.items at.invariant.limits
-    (at.invariant.runs history s))
+    λ known history s. subst (λ (es : List Event). ForEachAnswer (Forwards
+    (begun old.limits known)) history es at.answers.items) whole
+    (each_forwards c.finished_frames_were_forwarded.ensures old at.self known history at.yielded at.answers.items
+    at.invariant.limits
+    (at.invariant.runs known history s))
 
 pub returns-clause-safe : goal.returns-clause-safe
 returns-clause-safe c =
@@ -41,7 +44,8 @@ returns-clause-safe c =
     let at = c.loop-event in
     let whole : at.yielded ≡ c.args.events.items = all_yielded at.yielded (into_iter_items at.event-iterator) _ _ _
     at.invariant.handed c.into_iter-event-iterator.ensures.into_iter_gives.0 at.invariant.rest c.in-None.ensures.steps.0 in
-    λ history s. subst (λ (es : List Event). ForEachAnswer (λ past e answer. StepsInside old.limits past e) history es
+    λ known history s. subst (λ (es : List Event). ForEachAnswer (λ past e answer. StepsInside
+    (begun old.limits known) past e) history es
     at.answers.items) whole
-    (each_inside c.steps_are_safe.ensures old at.self history at.yielded at.answers.items at.invariant.limits
-    (at.invariant.runs history s))
+    (each_inside c.steps_are_safe.ensures old at.self known history at.yielded at.answers.items at.invariant.limits
+    (at.invariant.runs known history s))

@@ -1,6 +1,7 @@
 use Rattle.std.proofs.Common.{◌≡◌, ◌≤◌, ◌++◌, List, length, vec_len}
 use Rattle.std.specs.Vec.{vec_capacity}
 use Rattle.std.specs.Vec.Iter.{into_iter_items, into_iter_len}
+use Rattle.gw_core.specs.Start.{Heard}
 use Rattle.gw_core.specs.declared.event.Event.{Event}
 use Rattle.gw_core.specs.Gateway.{Stands}
 use Rattle.gw_core.specs.Runs.{RunsTo}
@@ -14,5 +15,6 @@ invariant-loop-event l = record {
   count : vec_len l.answers ≡ length l.yielded;
   limits : l.self.limits ≡ l.fn.self.limits;
   turns : l.self.turns ≡ l.fn.self.turns;
-  runs : (history : List Event) → Stands l.fn.self history → RunsTo l.fn.self history l.yielded l.answers.items l.self;
+  runs : (known : Heard) (history : List Event) → Stands l.fn.self known history
+      → RunsTo l.fn.self known history l.yielded l.answers.items l.self;
 }

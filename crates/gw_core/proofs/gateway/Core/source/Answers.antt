@@ -1,5 +1,6 @@
 use Rattle.std.proofs.Common.{◌≡◌, ap, ◌∙◌}
 use Rattle.std.specs.Prelude.{slice_index}
+use Rattle.gw_core.specs.Start.{begun}
 use Rattle.gw_core.specs.Events.{accepted}
 use Rattle.gw_core.specs.Gateway.{Gateway}
 use Rattle.gw_core.proofs.Circles.{source_up, source_down}
@@ -21,9 +22,9 @@ returns-in-Some-clause-found c =
     ap (λ n. slice_index g.turns n) c.from.ensures ∙ ap (λ (x : Gateway). slice_index x.turns c.args.to) is_view in
     let ports : c.ports-ports.result ≡ c.args.self.now.limits.ports = c.ports-ports.ensures.ports
     ∙ ap (λ (x : Gateway). x.limits.ports) is_view in
-    λ history s. source_up c.args.self.now.limits (accepted c.args.self.now.limits history)
+    λ known history s. source_up (begun c.args.self.now.limits known) (accepted (begun c.args.self.now.limits known) history)
     (slice_index c.args.self.now.turns c.args.to) (slice_index g.turns c.from.result) c.ports-ports.result c.args.to
-    c.in-Some.from turn ports (c.in-Some.ensures.found history s)
+    c.in-Some.from turn ports (c.in-Some.ensures.found known history s)
 
 pub returns-in-None-clause-found : goal.returns-in-None-clause-found
 returns-in-None-clause-found c =
@@ -41,6 +42,7 @@ returns-in-None-clause-found c =
     ap (λ n. slice_index g.turns n) c.from.ensures ∙ ap (λ (x : Gateway). slice_index x.turns c.args.to) is_view in
     let ports : c.ports-ports.result ≡ c.args.self.now.limits.ports = c.ports-ports.ensures.ports
     ∙ ap (λ (x : Gateway). x.limits.ports) is_view in
-    λ history s. source_down c.args.self.now history (slice_index g.turns c.from.result) c.ports-ports.result c.min.result
-    c.args.to c.first_from-in-None.result s turn ports c.min.ensures (c.in-None.ensures.found history s)
-    (c.first_from-in-None.ensures.found history s)
+    λ known history s. source_down c.args.self.now known history
+    (slice_index g.turns c.from.result) c.ports-ports.result c.min.result
+    c.args.to c.first_from-in-None.result s turn ports c.min.ensures (c.in-None.ensures.found known history s)
+    (c.first_from-in-None.ensures.found known history s)

@@ -1,5 +1,6 @@
 use Rattle.std.proofs.Common.{◌≡◌, ◌<◌, List, subst, arith}
 use Rattle.std.specs.Prelude.{OnErr}
+use Rattle.gw_core.specs.Start.{Heard}
 use Rattle.gw_core.specs.Gateway.{Gateway, Stands, CoreAnswers}
 use Rattle.gw_core.specs.declared.event.Event.{Event}
 use Rattle.gw_core.specs.declared.event.Event.TheVariants.{Step}
@@ -52,8 +53,8 @@ returns-clause-answers c =
       turns = i.turns;
     } in
     let within : c.args.port < g.limits.ports = omega (arith, c.from-2.ensures, c.from.ensures, c.ports.ensures.ports) in
-    let P : Gateway → Type 0 = λ x. (history : List Event) → Stands x history
-    → CoreAnswers x (Step c.args.port) c.step.result (with_worker g c.from-2.result c.step.new.self) history in
+    let P : Gateway → Type 0 = λ x. (known : Heard) (history : List Event) → Stands x known history
+    → CoreAnswers x (Step c.args.port) c.step.result (with_worker g c.from-2.result c.step.new.self) known history in
     let is_view : g ≡ c.args.self.now = c.self.view_is in
     subst P is_view (core_step g c.deref.result.now c.from-2.result c.args.port c.index_mut.result.now c.step.new.self
     c.step.result c.deref.ensures.value c.from-2.ensures within c.index_mut.ensures.value

@@ -1,6 +1,7 @@
 use Rattle.std.proofs.Common.{rules, ◌≡◌, ◌<◌, List, length, subst, arith}
 use Rattle.std.specs.Prelude.{OnErr}
 use Rattle.gw_frame.specs.Record.{IsRecord}
+use Rattle.gw_core.specs.Start.{Heard}
 use Rattle.gw_core.specs.Gateway.{Gateway, Stands, CoreAnswers}
 use Rattle.gw_core.specs.declared.event.Event.{Event}
 use Rattle.gw_core.specs.declared.event.Event.TheVariants.{Take}
@@ -58,8 +59,8 @@ returns-clause-answers c =
     } in
     let within : c.args.port < g.limits.ports = omega (arith, c.from-2.ensures, c.from.ensures, c.ports.ensures.ports) in
     let front : c.len-front.result ≡ length g.batches = search rules in
-    let P : Gateway → Type 0 = λ x. (history : List Event) → Stands x history
-    → CoreAnswers x (Take c.args.port c.args.frame) c.take.result (with_worker g c.from-2.result c.take.new.self) history in
+    let P : Gateway → Type 0 = λ x. (known : Heard) (history : List Event) → Stands x known history
+    → CoreAnswers x (Take c.args.port c.args.frame) c.take.result (with_worker g c.from-2.result c.take.new.self) known history in
     let is_view : g ≡ c.args.self.now = c.self.view_is in
     let is_record : IsRecord c.args.frame = subst IsRecord c.bytes-record.ensures.octets c.bytes-record.ensures.record in
     subst P is_view

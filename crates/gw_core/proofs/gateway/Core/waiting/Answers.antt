@@ -1,4 +1,5 @@
 use Rattle.std.proofs.Common.{rules, ◌≡◌, ◌<◌, List, length, arith, sym, subst, ◌∙◌}
+use Rattle.gw_core.specs.Start.{Heard, begun}
 use Rattle.gw_core.specs.Gateway.{Gateway, Stands}
 use Rattle.gw_core.specs.Events.{waiting_after, accepted}
 use Rattle.gw_core.specs.declared.event.Event.{Event}
@@ -38,7 +39,8 @@ returns c =
     let own : c.args.from < g.limits.ports = subst (λ (x : Gateway). c.args.from < x.limits.ports) (sym is_view)
     c.requires.from in
     let lt : c.args.to < g.limits.ports = subst (λ (x : Gateway). c.args.to < x.limits.ports) (sym is_view) c.requires.to in
-    let P : Gateway → Type 0 = λ x. (history : List Event) → Stands x history
-    → c.waiting.result ≡ length (waiting_after x.limits c.args.from c.args.to (accepted x.limits history)) in
-    subst P is_view (λ history s. c.waiting.ensures
-    ∙ read_waiting g c.from.result c.args.from c.args.to c.index.result.now c.from.ensures own lt (search rules) history s)
+    let P : Gateway → Type 0 = λ x. (known : Heard) (history : List Event) → Stands x known history
+    → c.waiting.result ≡ length (waiting_after (begun x.limits known) c.args.from c.args.to (accepted
+    (begun x.limits known) history)) in
+    subst P is_view (λ known history s. c.waiting.ensures
+    ∙ read_waiting g c.from.result c.args.from c.args.to c.index.result.now c.from.ensures own lt (search rules) known history s)
