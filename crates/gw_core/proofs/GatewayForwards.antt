@@ -118,7 +118,7 @@ stands_forwarded c known done n p frame w w2 event s at stands limits own = reco
         }
 
 -- the ports of a worker of the gateway are those of its limits
-ingress_at : (c : Gateway) (known : Heard) (done : List Event) (p : ℕ) (w : Worker) → WorkerAt c known done p w
+pub ingress_at : (c : Gateway) (known : Heard) (done : List Event) (p : ℕ) (w : Worker) → WorkerAt c known done p w
     → ingress w ≡ ingress_of c.limits p
 ingress_at c known done p w at = ap (λ (l : Bounds). ingress_of l w.own) at.limits ∙ ap (ingress_of c.limits) at.own
 

@@ -1,12 +1,14 @@
 -- Worked examples: what gateways answer to whole lists of events, the oldest first.
-use Rattle.std.proofs.Common.{◌≡◌, ℕ, true, false, List, [], ◌∷◌, replicate, None, Result, Ok, Err, refl, sym, ap}
+use Rattle.std.proofs.Common.{◌≡◌, ◌==◌, if◌then◌else◌, ℕ, true, false, List, [], ◌∷◌, replicate, None, Result, Ok, Err, refl}
+use Rattle.std.proofs.Common.{sym, ap}
 use Rattle.gw_insn.specs.declared.insn.Insn.TheVariants.{ReturnConstant}
 use Rattle.gw_machine.specs.Answers.{answer_of, answer_within, steps_of}
 use Rattle.gw_policy.specs.Batches.{Pair}
-use Rattle.gw_core.specs.Start.{Start, fresh}
+use Rattle.gw_core.specs.Start.{Start, begun, fresh}
 use Rattle.gw_ledger.specs.Ports.{ports_below}
 use Rattle.gw_core.specs.PortHistory.{ingress_of, taking, need, instruction, placing, work_left, steps_since}
 use Rattle.gw_core.specs.Events.{history_of, accepted, keep_accepted, refusal, reply, reply_after, replies}
+use Rattle.gw_core.specs.Renewing.{all_heard, policies_in_force}
 use Rattle.gw_core.specs.declared.event.Event.{Event}
 use Rattle.gw_core.specs.declared.event.Event.TheVariants.{Publish, Take, Step, Send}
 use Rattle.gw_core.specs.declared.event.Answer.{Answer}
@@ -97,6 +99,25 @@ a_local_frame : replies two_frames [] with_a_local_frame
     ∷ Ok (Taken 0 1 false) ∷ Err Busy ∷ finished 0 1 [] [] ∷ Err FramesSpent ∷ []
 unfolding answer_of answer_within steps_of ports_below
 a_local_frame = sym (are_replies two_frames [] with_a_local_frame)
+
+-- a claim that was heard before the gateway began counts there and on no other segment, and is no frame of it
+abbrev after_a_claim : Start
+after_a_claim = begun two_frames.limits (λ p. if p == 0 then claim ∷ [] else [])
+
+a_known_claim : replies after_a_claim [] (Take 0 to_128 ∷ Take 1 to_128 ∷ [])
+    ≡ Ok (Taken 0 0 true) ∷ Ok (Taken 0 0 false) ∷ []
+unfolding answer_of answer_within steps_of ports_below
+a_known_claim = sym (are_replies after_a_claim [] (Take 0 to_128 ∷ Take 1 to_128 ∷ []))
+
+-- what a gateway that begins anew knows of port 0, the newest first, and its first batch: one pair for each policy in force
+abbrev two_batches : List Event
+two_batches = Publish (returning 2 0 ∷ returning 0 1 ∷ []) ∷ Take 0 claim ∷ Publish (returning 2 1 ∷ returning 1 1 ∷ []) ∷ []
+
+what_is_known : all_heard after_a_claim two_batches 0 ≡ claim ∷ claim ∷ []
+what_is_known = refl
+
+policies_taken_along : policies_in_force small_lanes two_batches ≡ returning 0 1 ∷ returning 1 1 ∷ returning 2 0 ∷ []
+policies_taken_along = refl
 
 -- a frame offered to a port that passes it and to one that has the opening block needs three steps
 abbrev taken : List Event

@@ -1,6 +1,6 @@
 //! The frame that a port's worker holds.
 
-ghost use Rattle.std.specs.Prelude.{◌≡◌, ℕ, ◌+◌, ◌<◌, Option, Some, OnSome, option_copied, All};
+ghost use Rattle.std.specs.Prelude.{◌≡◌, ℕ, ◌+◌, ◌<◌, Option, Some, OnSome, option_copied, option_map, All};
 ghost use Rattle.gw_policy.specs.Filter.{Filter};
 ghost use Rattle.gw_policy.specs.Batches.{passes as policy_passes};
 ghost use Rattle.gw_core.specs.Turns.{CanRun, HasMade, Progresses, IsFound};
@@ -11,6 +11,7 @@ use gw_frame::Frame;
 use gw_ledger::{FrameCopy, MAX_PORTS, Outcome, PortSet};
 use gw_machine::{State, one_answer};
 use gw_policy::{Batch, Policy};
+use std::sync::Arc;
 
 /// Where a policy stands: which published batch, and which of its pairs.
 #[derive(Clone, Copy)]
@@ -164,6 +165,16 @@ fn policy_at(batches: &[Batch], index: Option<PairIndex>) -> Option<&Policy>
     let index = index?;
     let (_, policy) = batches.get(index.batch)?.pair(index.pair)?;
     Some(&**policy)
+}
+
+/// The owner of the policy at an index, or none for the opening block.
+pub(crate) fn owner_at(batches: &[Batch], index: Option<PairIndex>) -> Option<&Arc<Policy>>
+    ensures { (policy : Option Filter) → IsFound batches.now index policy
+        → option_map (λ owner. owner.now.value) result ≡ policy }
+{
+    let index = index?;
+    let (_, policy) = batches.get(index.batch)?.pair(index.pair)?;
+    Some(policy)
 }
 
 /// Whether a policy passes a frame that was taken at a port. The opening block passes none.

@@ -1,6 +1,6 @@
 //! The event machine.
 
-ghost use Rattle.std.specs.Prelude.{◌≡◌, ℕ, ◌<◌, ◌≤◌, ◌↔◌, List, [], ◌∷◌, length, replicate, slice_index};
+ghost use Rattle.std.specs.Prelude.{◌≡◌, ℕ, ◌<◌, ◌≤◌, ◌↔◌, List, [], ◌∷◌, ◌++◌, length, replicate, slice_index};
 ghost use Rattle.std.specs.Prelude.{IfOk, IfErr, OnErr, IfSome, IsTrue};
 ghost use Rattle.gw_core.specs.Gateway.{Stands, CoreAnswers};
 ghost use Rattle.gw_core.specs.Start.{Heard, begun, unheard};
@@ -11,16 +11,17 @@ ghost use Rattle.gw_core.specs.Forwarding.{CoreForwards, ForwardsFrame, forwarde
 ghost use Rattle.gw_core.specs.Circle.{SendsNext, PeeksNext, FindsSource, FindsFirst, Waits};
 ghost use Rattle.gw_core.specs.declared.event.Event.{Event};
 
-use crate::active::{PairIndex, PairIndices};
+use crate::active::{PairIndex, PairIndices, owner_at};
 use crate::event::{Answer, Event, EventRefusal};
 use crate::laws::{finished_frames_were_forwarded, steps_are_safe};
-use crate::refusal::OutOfMemory;
+use crate::refusal::{OutOfMemory, RenewRefusal};
 use crate::worker::Worker;
 use gw_frame::Frame;
 use gw_ledger::{FrameCopy, InLedger, Limits, MAX_PORTS, OutLedger, Outcome};
-use gw_policy::Batch;
+use gw_policy::{Batch, Policy};
 use std::alloc::{AllocError, Global};
 use std::marker::Model;
+use std::sync::Arc;
 
 /// A gateway as one machine, whose events are the single steps of its actors: the operator, the ports' workers and the
 /// senders. What it holds after any list of events is what the definitions give for that list.
@@ -375,6 +376,110 @@ impl Core {
     {
         self.workers[usize::from(from)].waiting(to)
     }
+}
+
+impl Core {
+    ghost use Rattle.gw_core.specs.Gateway.{StandsAt};
+    ghost use Rattle.gw_core.specs.Renewing.{Renews, all_heard};
+
+    /// Begins anew, so that batches, frames and copies are counted from 0 again: the policies in force are the first batch, and
+    /// the claims stay. It is refused, and changes nothing, where a frame is unfinished (73), then where a copy waits (126), then
+    /// where a policy has too many owners (71). It takes no memory.
+    pub fn renew(&mut self) -> Result<(), RenewRefusal>
+        ensures answers { (known : Heard) (history : List Event) → Stands self.old known history
+            → Renews self.old known history result self.new }
+        ensures refused { OnErr result (self.new ≡ self.old) }
+        ensures limits { self.new.limits ≡ self.old.limits }
+    {
+        if any_frame(&self.workers) {
+            return Err(RenewRefusal::Busy);
+        }
+        if any_copy(&self.workers) {
+            return Err(RenewRefusal::CopiesWait);
+        }
+        let ports = self.limits.ports() as u8;
+        let Some(batch) = policies_in_force(&self.batches, &self.latest, ports) else {
+            return Err(RenewRefusal::OutOfMemory);
+        };
+        self.forget();
+        let _answer = self.publish(batch);
+        Ok(())
+    }
+
+    /// Forgets all events, where no copy waits. What the ports heard is known from now on.
+    fn forget(&mut self)
+        requires { list_any holds_copy self.old.workers ≡ false }
+        ensures begins { (known : Heard) (done : List Event) → StandsAt self.old known done
+            → StandsAt self.new (all_heard (begun self.old.limits known) done) [] }
+        ensures limits { self.new.limits ≡ self.old.limits }
+        ensures turns { self.new.turns ≡ replicate 16 0 }
+    {
+        renew_all(&mut self.workers);
+        self.outs.fill(OutLedger::new());
+        self.batches.clear();
+        self.latest = [None; MAX_PORTS];
+        self.turns = [0; MAX_PORTS];
+    }
+}
+
+ghost use Rattle.std.specs.Prelude.{map, option_map};
+ghost use Rattle.gw_core.specs.Standing.{AreFound};
+ghost use Rattle.std.specs.List.{list_any};
+ghost use Rattle.gw_core.specs.Renewing.{holds_frame, holds_copy, renewed, pair_if, policies_below};
+
+/// Whether a worker holds a frame that is not finished.
+fn any_frame(workers: &[Worker]) -> bool
+    ensures { result ≡ list_any holds_frame workers.now }
+{
+    workers.iter().any(|worker| worker.holds_frame())
+}
+
+/// Whether a copy waits for a port.
+fn any_copy(workers: &[Worker]) -> bool
+    ensures { result ≡ list_any holds_copy workers.now }
+{
+    workers.iter().any(|worker| worker.holds_copy())
+}
+
+/// Lets each worker count from 0 again.
+fn renew_all(workers: &mut Vec<Worker>)
+    ensures { workers.new.items ≡ map renewed workers.old.items }
+{
+    for port in 0..workers.len() {
+        workers[port].renew();
+    }
+}
+
+/// The policies in force for the ports below a number, as a batch, or none where a policy has too many owners.
+fn policies_in_force(batches: &[Batch], latest: &PairIndices, ports: u8) -> Option<Batch>
+    requires { ports ≤ 16 }
+    ensures { IfSome result (λ batch. (published : List (List Pair)) → AreFound batches.now latest.now published
+        → batch ≡ policies_below published ports) }
+{
+    let mut batch = Batch::new();
+    for port in 0..ports {
+        if !join(
+            &mut batch,
+            port,
+            owner_at(batches, latest[usize::from(port)]),
+        ) {
+            return None;
+        }
+    }
+    Some(batch)
+}
+
+/// Joins a policy to a batch for a port, if there is one, unless it has too many owners.
+fn join(batch: &mut Batch, port: u8, owner: Option<&Arc<Policy>>) -> bool
+    ensures { result ≡ true → batch.new ≡ batch.old ++ pair_if port (option_map (λ one. one.now.value) owner.entry) }
+{
+    let Some(owner) = owner else {
+        return true;
+    };
+    let Ok(more) = Arc::try_clone(owner) else {
+        return false;
+    };
+    batch.add(port, more).is_ok()
 }
 
 // The gateway, or that the memory for it was refused: room for every batch, and for the copies of every lane.

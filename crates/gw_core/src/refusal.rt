@@ -1,7 +1,7 @@
 //! Numbers and texts of the refusals.
 
 ghost use Rattle.std.specs.Prelude.{◌≡◌};
-ghost use Rattle.gw_core.specs.Refusals.{out_of_memory_number, refusal_number};
+ghost use Rattle.gw_core.specs.Refusals.{out_of_memory_number, refusal_number, renew_refusal_number};
 
 use crate::event::EventRefusal;
 use std::error::Error;
@@ -30,6 +30,42 @@ impl Display for OutOfMemory {
 }
 
 impl Error for OutOfMemory {}
+
+/// Why a gateway does not begin anew: the first of these, in this order.
+#[derive(Clone, Copy, PartialEq, Eq, Debug)]
+pub enum RenewRefusal {
+    /// 73: a frame is unfinished.
+    Busy,
+    /// 126: a copy waits.
+    CopiesWait,
+    /// 71: a policy has too many owners.
+    OutOfMemory,
+}
+
+impl RenewRefusal {
+    /// The number of the refusal: 73, 126 or 71.
+    pub const fn number(self) -> u32
+        ensures { result ≡ renew_refusal_number self }
+    {
+        match self {
+            RenewRefusal::Busy => 73,
+            RenewRefusal::CopiesWait => 126,
+            RenewRefusal::OutOfMemory => 71,
+        }
+    }
+}
+
+impl Display for RenewRefusal {
+    fn fmt<W: fmt::Write>(&self, f: &mut Formatter<W>) -> fmt::Result {
+        f.write_str(match self {
+            RenewRefusal::Busy => "a frame is unfinished: step each port's frame to its end first",
+            RenewRefusal::CopiesWait => "a copy waits: send the copies of all ports first",
+            RenewRefusal::OutOfMemory => "a policy in force has too many owners: let one go",
+        })
+    }
+}
+
+impl Error for RenewRefusal {}
 
 impl EventRefusal {
     /// The number of the refusal, 72 to 76.
