@@ -21,4 +21,4 @@ refusal_number FramesSpent = 76
 abbrev pub renew_refusal_number : RenewRefusal → ℕ
 renew_refusal_number renewing.Busy = 73
 renew_refusal_number renewing.CopiesWait = 126
-renew_refusal_number renewing.OutOfMemory = 71
+renew_refusal_number renewing.TooManyOwners = 100

@@ -16,7 +16,7 @@ use Rattle.gw_core.specs.declared.event.Event.{Event}
 use Rattle.gw_core.specs.declared.event.Event.TheVariants.{Publish}
 use Rattle.gw_core.specs.declared.event.Answer.TheVariants.{Published}
 use Rattle.gw_core.specs.declared.refusal.RenewRefusal.{RenewRefusal}
-use Rattle.gw_core.specs.declared.refusal.RenewRefusal.TheVariants.{Busy, CopiesWait, OutOfMemory}
+use Rattle.gw_core.specs.declared.refusal.RenewRefusal.TheVariants.{Busy, CopiesWait, TooManyOwners}
 
 -- no copy waits on any lane
 abbrev pub IsDrained : Start → List Event → Type 0
@@ -47,11 +47,12 @@ pub record BeginsAnew (start : Start) (done : List Event) (new : Gateway) : Type
   pub stands : Stands new (all_heard start done) (Publish (policies_in_force start done) ∷ [])
   pub turns : new.turns ≡ replicate 16 0
 
--- how renewing is answered after accepted events, the first refusal that holds first; another is that a policy has too many owners
+-- How renewing is answered after accepted events, by the first refusal that holds. Whether a policy has too many owners no definition
+-- says.
 abbrev pub RenewsAfter : Start → List Event → Result (Unit {0}) RenewRefusal → Gateway → Type 0
 RenewsAfter start done (Err Busy) new = IsSettled start done → ⊥
 RenewsAfter start done (Err CopiesWait) new = IsSettled start done × (IsDrained start done → ⊥)
-RenewsAfter start done (Err OutOfMemory) new = IsSettled start done × IsDrained start done
+RenewsAfter start done (Err TooManyOwners) new = IsSettled start done × IsDrained start done
 RenewsAfter start done (Ok done_so) new = IsSettled start done × IsDrained start done × BeginsAnew start done new
 
 -- and after a history

@@ -384,7 +384,7 @@ impl Core {
 
     /// Begins anew, so that batches, frames and copies are counted from 0 again: the policies in force are the first batch, and
     /// the claims stay. It is refused, and changes nothing, where a frame is unfinished (73), then where a copy waits (126), then
-    /// where a policy has too many owners (71). It takes no memory.
+    /// where a policy in force has too many owners (100). It takes no memory.
     pub fn renew(&mut self) -> Result<(), RenewRefusal>
         ensures answers { (known : Heard) (history : List Event) → Stands self.old known history
             → Renews self.old known history result self.new }
@@ -399,7 +399,7 @@ impl Core {
         }
         let ports = self.limits.ports() as u8;
         let Some(batch) = policies_in_force(&self.batches, &self.latest, ports) else {
-            return Err(RenewRefusal::OutOfMemory);
+            return Err(RenewRefusal::TooManyOwners);
         };
         self.forget();
         let _answer = self.publish(batch);
@@ -458,11 +458,8 @@ fn policies_in_force(batches: &[Batch], latest: &PairIndices, ports: u8) -> Opti
 {
     let mut batch = Batch::new();
     for port in 0..ports {
-        if !join(
-            &mut batch,
-            port,
-            owner_at(batches, latest[usize::from(port)]),
-        ) {
+        let owner = owner_at(batches, latest[usize::from(port)]);
+        if !join(&mut batch, port, owner) {
             return None;
         }
     }

@@ -38,19 +38,19 @@ pub enum RenewRefusal {
     Busy,
     /// 126: a copy waits.
     CopiesWait,
-    /// 71: a policy has too many owners.
-    OutOfMemory,
+    /// 100: a policy in force has too many owners.
+    TooManyOwners,
 }
 
 impl RenewRefusal {
-    /// The number of the refusal: 73, 126 or 71.
+    /// The number of the refusal: 73, 126 or 100.
     pub const fn number(self) -> u32
         ensures { result ≡ renew_refusal_number self }
     {
         match self {
             RenewRefusal::Busy => 73,
             RenewRefusal::CopiesWait => 126,
-            RenewRefusal::OutOfMemory => 71,
+            RenewRefusal::TooManyOwners => 100,
         }
     }
 }
@@ -60,7 +60,7 @@ impl Display for RenewRefusal {
         f.write_str(match self {
             RenewRefusal::Busy => "a frame is unfinished: step each port's frame to its end first",
             RenewRefusal::CopiesWait => "a copy waits: send the copies of all ports first",
-            RenewRefusal::OutOfMemory => "a policy in force has too many owners: let one go",
+            RenewRefusal::TooManyOwners => "a policy in force has too many owners: let one go",
         })
     }
 }
