@@ -122,7 +122,8 @@ enum jgw_refusal {
     JGW_NULL = 122,
     JGW_NO_ROOM = 123, /* fewer verdicts than frames */
     JGW_NOBODY = 124,  /* no NAME holds the address, or the NAME no address */
-    JGW_NO_COPY = 125  /* no copy waits for the port */
+    JGW_NO_COPY = 125, /* no copy waits for the port */
+    JGW_COPIES_WAIT = 126 /* a copy waits: take the copies of all ports first */
 };
 
 /* Stands for a line, place, word or rule that a refusal does not name. */
@@ -218,6 +219,7 @@ uint32_t jgw_call_gateway_peek(struct jgw_handle *gateway, uint8_t to, struct jg
 uint32_t jgw_call_gateway_waiting(struct jgw_handle *gateway, uint8_t from, uint8_t to, uint64_t *count);
 uint32_t jgw_call_gateway_counters_in(struct jgw_handle *gateway, uint8_t port, struct jgw_counters_in *counters);
 uint32_t jgw_call_gateway_counters_out(struct jgw_handle *gateway, uint8_t port, struct jgw_counters_out *counters);
+uint32_t jgw_call_gateway_renew(struct jgw_handle *gateway);
 uint32_t jgw_call_gateway_take(struct jgw_handle *gateway, uint8_t port, const struct can_frame *frame, struct jgw_taken *taken);
 uint32_t jgw_call_gateway_step(struct jgw_handle *gateway, uint8_t port, struct jgw_step *step);
 
@@ -409,6 +411,13 @@ static inline uint32_t jgw_next(struct jgw_handle *gateway, uint8_t to, struct j
 static inline uint32_t jgw_peek(struct jgw_handle *gateway, uint8_t to, struct jgw_copy *copy)
 {
     return gateway == NULL || copy == NULL ? (uint32_t)JGW_NULL : jgw_call_gateway_peek(gateway, to, copy);
+}
+
+/* FIXED. Begins anew, so that frames, batches and counters count from 0 again. The policies in force are the first batch, and the
+ * address claims stay. JGW_BUSY: a frame that was taken is unfinished. JGW_COPIES_WAIT: take the copies of all ports first. */
+static inline uint32_t jgw_gateway_renew(struct jgw_handle *gateway)
+{
+    return gateway == NULL ? (uint32_t)JGW_NULL : jgw_call_gateway_renew(gateway);
 }
 
 /* FIXED. How many copies wait at one port for another. */

@@ -251,6 +251,49 @@ static void test_circle(void)
     jgw_free(&gateway);
 }
 
+/* A gateway of one version and three frames begins anew: its policies and claims stay, and it counts from 0. */
+static void test_renewal(void)
+{
+    struct jgw_handle gateway = JGW_NOTHING, batch = JGW_NOTHING, policy = JGW_NOTHING;
+    struct can_frame claim = frame_of(0x98EEFF80, 5), to_128 = frame_of(0x98EF8034, 1), frame = frame_of(0x8CF00400, 1);
+    struct jgw_outcome outcome;
+    struct jgw_step step;
+    struct jgw_copy copy;
+    struct jgw_counters_in ingress;
+    struct jgw_counters_out egress;
+    uint32_t front = 7;
+    EXPECT(jgw_gateway_renew(NULL) == JGW_NULL && jgw_gateway_renew(&gateway) == JGW_WRONG_HANDLE);
+    EXPECT(jgw_policy_from_listing("1,6 0 0 1,", 10, &policy, NULL) == JGW_OK && jgw_batch_new(&batch) == JGW_OK);
+    EXPECT(jgw_gateway_renew(&policy) == JGW_WRONG_HANDLE && jgw_passes(&policy, &frame, 0));
+    EXPECT(jgw_batch_add(&batch, 1, &policy) == JGW_OK && jgw_gateway_open(3, 4, 3, 1, &gateway) == JGW_OK);
+    EXPECT(jgw_gateway_publish(&gateway, &batch, NULL) == JGW_OK);
+    jgw_free(&policy);
+    for (unsigned round = 0; round < 3; round++) {
+        /* The claim of the first round is heard ever after. */
+        EXPECT(jgw_offer(&gateway, 0, round == 0 ? &claim : &to_128, &outcome) == JGW_OK && outcome.number == 0);
+        EXPECT(round == 0 ? says(&outcome, 0, 1, 0, 2, 2) : says(&outcome, 0, 1, 1, 0, 0));
+        EXPECT(jgw_offer(&gateway, 2, &to_128, &outcome) == JGW_OK && says(&outcome, 0, 1, 0, 2, 2));
+        EXPECT(jgw_gateway_renew(&gateway) == JGW_COPIES_WAIT && jgw_gateway_take(&gateway, 0, &frame, NULL) == JGW_OK);
+        /* An unfinished frame is told first, and nothing has changed. */
+        EXPECT(jgw_gateway_renew(&gateway) == JGW_BUSY && jgw_gateway_take(&gateway, 0, &frame, NULL) == JGW_BUSY);
+        do
+            EXPECT(jgw_gateway_step(&gateway, 0, &step) == JGW_OK);
+        while (step.what != JGW_FINISHED);
+        EXPECT(says(&step.outcome, 1, 1, 0, 2, 2) && jgw_gateway_renew(&gateway) == JGW_COPIES_WAIT);
+        EXPECT(jgw_offer(&gateway, 0, &frame, &outcome) == JGW_OK && says(&outcome, 2, 1, 0, 2, 2));
+        EXPECT(jgw_offer(&gateway, 0, &frame, &outcome) == JGW_FRAMES_SPENT);
+        for (unsigned sent = round == 0 ? 4 : 3; sent > 0; sent--)
+            EXPECT(jgw_gateway_renew(&gateway) == JGW_COPIES_WAIT && jgw_next(&gateway, 1, &copy) == JGW_OK);
+        EXPECT(jgw_next(&gateway, 1, &copy) == JGW_NO_COPY && jgw_gateway_renew(&gateway) == JGW_OK);
+        EXPECT(jgw_gateway_counters_in(&gateway, 0, &ingress) == JGW_OK && ingress.taken == 0 && ingress.placed == 0);
+        EXPECT(jgw_gateway_counters_out(&gateway, 1, &egress) == JGW_OK && egress.sent[0] == 0 && egress.sent[2] == 0);
+        EXPECT(jgw_batch_new(&batch) == JGW_OK && jgw_gateway_publish(&gateway, &batch, &front) == JGW_VERSIONS_SPENT);
+        EXPECT(jgw_gateway_renew(&gateway) == JGW_OK && front == 7);
+    }
+    jgw_free(&batch);
+    jgw_free(&gateway);
+}
+
 static void test_handles(void)
 {
     struct jgw_handle claims = JGW_NOTHING, gateway = JGW_NOTHING, moved;
@@ -270,6 +313,7 @@ static void test_handles(void)
         EXPECT(jgw_gateway_counters_out(&claims, 0, &egress) == JGW_WRONG_HANDLE && egress.sent[0] == 7);
         EXPECT(jgw_gateway_take(&claims, 0, &frame, &taken) == JGW_WRONG_HANDLE && taken.number == 7);
         EXPECT(jgw_gateway_step(&claims, 0, &step) == JGW_WRONG_HANDLE && step.what == 7);
+        EXPECT(jgw_gateway_renew(&claims) == JGW_WRONG_HANDLE);
         EXPECT(i > 0 || jgw_claims_new(&claims) == JGW_OK);
     }
     EXPECT(jgw_gateway_open(2, 1, 9, 1, &gateway) == JGW_OK && jgw_verdict(&gateway, &frame, 0) == JGW_WRONG_HANDLE);
@@ -291,6 +335,7 @@ int main(void)
     test_steps();
     test_local();
     test_circle();
+    test_renewal();
     test_handles();
     printf("%u passed, %u failed\n", passed, failed);
     return failed != 0;

@@ -11,3 +11,4 @@ pub mod Offers
 pub mod Sendings
 pub mod Counts
 pub mod Steps
+pub mod Renewals

@@ -11,6 +11,7 @@ mod inner;
 mod offering;
 mod opening;
 mod policies;
+mod renewing;
 mod sending;
 mod slot;
 mod stepping;
@@ -37,6 +38,7 @@ pub use policies::{
     SockFilter, jgw_call_policy_from_assembler, jgw_call_policy_from_code,
     jgw_call_policy_from_listing, jgw_call_policy_from_table, jgw_call_policy_share,
 };
+pub use renewing::jgw_call_gateway_renew;
 pub use sending::{CCopy, jgw_call_gateway_next, jgw_call_gateway_peek};
 use std::alloc::Global;
 pub use stepping::{CStep, CTaken, jgw_call_gateway_step, jgw_call_gateway_take};
