@@ -201,6 +201,22 @@ static void test_tables(void)
 }
 
 /* 255 rules that block source 1, and one that passes two groups; one rule more is too many. */
+/* Arrays in arrays, as deep as a text may have them and deeper: an unknown key, or no TOML. */
+static void test_nesting(void)
+{
+    static char text[1024] = "a=";
+    struct jgw_handle policy = JGW_NOTHING;
+    struct jgw_error error;
+    bool told = true;
+    for (size_t depth = 1; depth <= 500; depth++) {
+        memset(text + 2, '[', depth);
+        memset(text + 2 + depth, ']', depth);
+        uint32_t refused = jgw_policy_from_table(text, 2 + 2 * depth, &policy, &error);
+        told = told && (refused == 50 || refused == 51) && error.number == refused;
+    }
+    EXPECT(told);
+}
+
 static void test_many_rules(void)
 {
     static char text[32768];
@@ -314,6 +330,7 @@ int main(void)
     test_code();
     test_assembler();
     test_tables();
+    test_nesting();
     test_many_rules();
     test_verdicts();
     test_handles();
