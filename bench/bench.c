@@ -1,8 +1,8 @@
 /*
  * Times the gateway's machine beside libpcap's bpf_filter, and a table's rules beside its program: the same records, one
- * process, in turn; then the event machine, scripts, runs beside libpcap's reader and filter, the assembler, and traces beside
- * libpcap's reader. Prints tables in markdown. Fails where two answers to the same question differ. With one word more,
- * `programs`, `tables`, `events`, `texts`, `traces`, `scripts` or `runs`, it times that alone.
+ * process, in turn; then the event machine, scripts, runs beside libpcap's reader and filter, the library for C, the assembler,
+ * and traces beside libpcap's reader. Prints tables in markdown. Fails where two answers to the same question differ. With one
+ * word more, `programs`, `tables`, `events`, `texts`, `traces`, `scripts`, `logs`, `runs` or `library`, it times that alone.
  */
 #include "bench.h"
 
@@ -183,7 +183,7 @@ static bool time_rules(const char *name, const uint8_t (*records)[16])
            rules_best / frames, our_best / frames, their_best / frames, our_best / rules_best, our_best / their_best);
     return time_tables(text, text_length, records) && time_events(text, text_length, records)
            && time_scripts(text, text_length, records) && time_logs(name, text, text_length, records)
-           && time_runs(name, text, text_length, records);
+           && time_runs(name, text, text_length, records) && time_library(name, text, text_length, records);
 }
 
 /* One part alone, with the table of a file where it needs one. */
@@ -211,6 +211,8 @@ static bool time_part(const char *part, const char *name, const uint8_t (*record
         return time_logs(name, text, length, records);
     if (strcmp(part, "runs") == 0)
         return time_runs(name, text, length, records);
+    if (strcmp(part, "library") == 0)
+        return time_library(name, text, length, records);
     return is_refused(part, "no such part");
 }
 
@@ -218,7 +220,7 @@ int main(int argc, char **argv)
 {
     static uint8_t records[RECORDS][16];
     if (argc != 2 && argc != 3) {
-        fprintf(stderr, "usage: bench TABLE.toml [programs|tables|differences|events|texts|traces|scripts|logs|runs]\n");
+        fprintf(stderr, "usage: bench TABLE.toml [programs|tables|differences|events|texts|traces|scripts|logs|runs|library]\n");
         return 2;
     }
     write_records(records);

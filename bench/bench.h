@@ -76,6 +76,9 @@ bool run_command(const char *command, struct cost *cost);
 /* Times `gw judge` on a log of these records, by the table of a text, which a file of this name has. */
 bool time_logs(const char *name, const char *text, size_t length, const uint8_t (*records)[16]);
 
+/* Times the library for C, with the table of a text, which a file of this name has. */
+bool time_library(const char *name, const char *text, size_t length, const uint8_t (*records)[16]);
+
 /* Times `gw run`, with the table of a text, which a file of this name has, for each port. */
 bool time_runs(const char *name, const char *text, size_t length, const uint8_t (*records)[16]);
 
