@@ -28,7 +28,7 @@ taken takes port (Ok (Some entry)) =
 unfoldable pub taken_at : (List ℕ → Option ℕ) → ℕ → List ℕ → List (List ℕ)
 taken_at takes port log = flat_map (λ line. taken takes port (line_of line)) (log_lines log)
 
--- the frames of a log's lines, in order: those that a port takes which takes each interface's
+-- the frames of a log's lines, in order: those of a port that takes each interface
 abbrev pub log_frames : List ℕ → List (List ℕ)
 log_frames log = taken_at (λ interface. Some 0) 0 log
 

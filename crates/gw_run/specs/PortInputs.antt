@@ -29,14 +29,13 @@ abbrev pub trace_frames : Result (List (List ℕ)) TraceRefusal → Result (List
 trace_frames (Ok frames) = Ok frames
 trace_frames (Err why) = Err (Trace why)
 
--- the frames of octets that are this, where they are no log
+-- the frames of octets: those of a log; those of a trace, where octets are one; or why octets of another kind have none
 abbrev pub frames_as : Option NoLog → List ℕ → Result (List (List ℕ)) ForwardRefusal
 frames_as None octets = Ok (log_frames octets)
 frames_as (Some Pcap) octets = trace_frames (whole_trace octets)
 frames_as (Some why) octets = Err (refuses.NoLog why)
 
--- the frames of octets, of which the first ones tell what they are: those of a trace, or of the lines of a log; or why they are
--- neither
+-- the same, where the first octets tell what they are
 abbrev pub frames_in : List ℕ → Result (List (List ℕ)) ForwardRefusal
 frames_in octets = frames_as (no_log octets) octets
 

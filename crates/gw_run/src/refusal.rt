@@ -21,12 +21,12 @@ const NO_LOG: u32 = 114;
 /// Why a trace or a log is not forwarded.
 #[derive(Drop, Debug)]
 pub enum ForwardRefusal {
-    /// What a command refuses: 10 to 13, 20 to 30, 50 to 55 and 98 of a policy's text, 96 and 98 of its file, and 100, a growth
-    /// of the program's own was refused.
+    /// What a command refuses: 10 to 13, 20 to 30, 50 to 55 and 98 of a policy's text, 96 and 98 of its file, 96 of a port's
+    /// input that could not be read, and 100, a growth of the program's own was refused.
     Command(Refusal),
     /// 90 to 93, 95 and 96: octets that are no trace.
     Trace(TraceRefusal),
-    /// 114: octets that are no log, where a log is to be read.
+    /// 114: octets that are no log, where a log is to be read; or neither a log nor a trace.
     NoLog(NoLog),
     /// 71, 77, 80 to 83, 85 and 86: no run of a gateway, or no report of one.
     Run(RunRefusal),
