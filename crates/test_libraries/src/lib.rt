@@ -49,6 +49,8 @@ mod ports;
 #[cfg(test)]
 mod questions;
 #[cfg(test)]
+mod renewing;
+#[cfg(test)]
 mod replay;
 #[cfg(test)]
 mod running;
