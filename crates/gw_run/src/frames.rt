@@ -17,7 +17,7 @@ use gw_trace::Checked;
 use std::alloc::{AllocError, Global};
 use std::io::Write;
 
-/// The frames of octets, which the first ones tell to be a trace or a log. Of a trace the refusals are 90 to 93 and 95, and of
+/// The frames of octets, which the first ones tell to be a trace or a log. Of a trace the refusals are 91 to 93 and 95, and of
 /// what is neither 114. A person is told of the lines of a log that say no classic frame.
 pub(crate) fn frames_in<F: Write>(
     alloc: Global,

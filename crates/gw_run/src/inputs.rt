@@ -43,7 +43,7 @@ pub enum PortInput<'a> {
 
 /// Forwards the frames of the ports' inputs, each port's in their order, under policies from the first frame on, and writes what
 /// each port counted; with `lanes` also what was placed on each lane and lost there. The first input that is refused is told: 96
-/// of a file that could not be read, 90 to 93 and 95 of a trace, and 114 of what is neither a log nor a trace. It may wait.
+/// of a file that could not be read, 91 to 93 and 95 of a trace, and 114 of what is neither a log nor a trace. It may wait.
 pub fn forward_inputs<R: Threads + Wait + Sync, G: Observer, W: Write, F: Write>(
     rt: &R,
     alloc: Global,

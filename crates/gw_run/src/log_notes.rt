@@ -91,7 +91,7 @@ impl<'a> LogNotes<'a> {
     /// Tells a person of the log of a port, a file of this name, where there is something to tell.
     pub fn tell_of<F: Write>(&self, port: usize, file: &str, faults: &mut Tried<F>) {
         if self.lines == 0 || self.causes.iter().any(|cause| cause.count > 0) {
-            let _ = writeln!(faults, "gw: of the log of port {port}, {file}:");
+            let _ = writeln!(faults, "gw: the log of port {port}, {file}:");
             self.tell_refused(faults);
         }
     }
