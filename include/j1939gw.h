@@ -120,9 +120,9 @@ enum jgw_refusal {
     JGW_NOT_UTF8 = 120,
     JGW_WRONG_HANDLE = 121, /* a handle of another kind, or one that holds nothing */
     JGW_NULL = 122,
-    JGW_NO_ROOM = 123, /* fewer verdicts than frames */
-    JGW_NOBODY = 124,  /* no NAME holds the address, or the NAME no address */
-    JGW_NO_COPY = 125, /* no copy waits for the port */
+    JGW_NO_ROOM = 123,    /* fewer verdicts than frames */
+    JGW_NOBODY = 124,     /* no NAME holds the address, or the NAME no address */
+    JGW_NO_COPY = 125,    /* no copy waits for the port */
     JGW_COPIES_WAIT = 126 /* a copy waits: take the copies of all ports first */
 };
 
