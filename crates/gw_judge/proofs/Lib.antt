@@ -7,4 +7,5 @@ pub mod Counting
 pub mod JudgedLines
 pub mod PartByPart
 pub mod Streams
+pub mod Captured
 mod JudgeExamples

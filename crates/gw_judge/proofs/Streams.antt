@@ -5,7 +5,7 @@ use Rattle.std.proofs.Common.{length-append}
 use Rattle.std.specs.Prelude.{IfOk, IfErr}
 use Rattle.std.specs.Io.KnownBytes.{Appends, Consumes, Keeps, IsAtEnd}
 use Rattle.gw_io.specs.Written.{WritesPart}
-use Rattle.gw_io.proofs.Callers.{consumed_nothing, consumed_more, consumed_kept, appended_on, whole_part}
+use Rattle.gw_io.proofs.Callers.{consumed_more, consumed_kept, appended_on, whole_part}
 use Rattle.gw_judge.specs.declared.fate.Fate.{Fate}
 use Rattle.gw_judge.specs.declared.tally.Tally.{Tally}
 use Rattle.gw_judge.specs.declared.judging.Judging.{Judging}
@@ -239,13 +239,14 @@ ends_partly (Err fault) fate front strict a b c w x y read_failed failed rest p 
 
 -- ---- before and behind the parts
 
-pub starts : (fate : List ℕ → Fate) (front : Fate → Option (List ℕ)) (strict : Bool) (a w : Option (List ℕ)) (rest : List ℕ)
-    (p : Judging) (parts : ℕ) (groups : Grouped) → groups ≡ no_groups groups.grouping → rest ≡ [] → p.kept.items ≡ []
-    → p.gathered.held.items ≡ [] → p.tally ≡ no_tally groups → parts ≡ 0 → IsUnderWay fate front strict a a w w rest p parts
-starts fate front strict a w rest p parts groups fresh none empty unheld untold zero_parts = record {
+pub starts : (fate : List ℕ → Fate) (front : Fate → Option (List ℕ)) (strict : Bool) (a b w : Option (List ℕ))
+    (first rest : List ℕ) (p : Judging) (parts : ℕ) (groups : Grouped) → Consumes a b first → groups ≡ no_groups groups.grouping
+    → rest ≡ first → p.kept.items ≡ [] → p.gathered.held.items ≡ [] → p.tally ≡ no_tally groups → parts ≡ 0
+    → IsUnderWay fate front strict a b w w rest p parts
+starts fate front strict a b w first rest p parts groups opened fresh there empty unheld untold zero_parts = record {
   octets = [];
   text = [];
-  consumed = subst (Consumes a a) (sym none) (consumed_nothing a);
+  consumed = subst (Consumes a b) (sym there) opened;
   written = appended_nothing w;
   judged = judged_nothing fate front strict p groups fresh empty unheld untold;
   some = omega arith;

@@ -3,7 +3,11 @@ pub mod Fates
 pub mod Grouped
 pub mod Tallies
 pub mod Judged
+-- the first octets of an input, and what judging a trace reads and counts
+pub mod Openings
+pub mod Captures
 -- the inside: a tally with a line more, parts of lines, and how far a log was judged
 pub mod Counting
 pub mod LineParts
 pub mod UnderWay
+pub mod CapturesUnderWay

@@ -1,6 +1,8 @@
 //! Logs, judged: which of their lines say a frame that a policy passes, and which rule of a table decides each.
 #![tactic(auto)]
 
+mod capture;
+mod capture_fault;
 mod changed;
 mod counts;
 mod decider;
@@ -10,11 +12,14 @@ mod gathered;
 mod groups;
 mod head;
 mod judging;
+mod opening;
 mod parts;
 mod report;
 mod tally;
 mod whole;
 
+pub use capture::judge_capture;
+pub use capture_fault::CaptureFault;
 pub use changed::Changed;
 pub use counts::Counts;
 pub use decider::Decider;
@@ -23,6 +28,7 @@ pub use fault::{JudgeFault, RefusedLine};
 pub use groups::{Grouping, Groups, Verdicts};
 pub use head::{Head, NoLog};
 pub use judging::Asked;
+pub use opening::Opening;
 pub use report::{Named, Report, Wanted};
 pub use tally::{Cause, MAX_RULES, Tally};
-pub use whole::judge;
+pub use whole::{judge, judge_opened};

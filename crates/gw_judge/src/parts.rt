@@ -39,15 +39,18 @@ impl Model for Parts {
 impl Parts {
     ghost use Rattle.gw_judge.specs.LineParts.{GivesPart, Fills};
 
-    /// Holds no piece yet.
-    pub fn new() -> Parts
-        ensures { result.rest ≡ [] }
+    /// Holds octets that were read before, and no part yet.
+    pub fn behind(first: &[u8]) -> Parts
+        requires { length first.now ≤ 65536 }
+        ensures { result.rest ≡ first.now }
     {
+        let mut octets = [0; PIECE];
+        octets[..first.len()].copy_from_slice(first);
         Parts {
-            octets: [0; PIECE],
+            octets,
             begin: 0,
             end: 0,
-            len: 0,
+            len: first.len(),
         }
     }
 
