@@ -1,12 +1,18 @@
 -- What the command `judge` reads and writes: `before` and `after` are what its reader has left, `old` and `new` what its writer
 -- took.
-use Rattle.std.specs.Prelude.{◌≡◌, ◌≢◌, ◌⊎◌, ℕ, Bool, false, List, [], ◌∷◌, Option, None, Err}
+use Rattle.std.specs.Prelude.{◌≡◌, ◌≢◌, ◌⊎◌, ℕ, ◌<◌, Bool, true, false, List, [], ◌∷◌, length, Option, None, Err}
+use Rattle.std.specs.Io.KnownBytes.{Consumes}
 use Rattle.gw_insn.specs.declared.insn.Insn.{Insn}
 use Rattle.gw_table.specs.Table.{Meaning}
 use Rattle.gw_input.specs.Programs.{NamesProgram}
 use Rattle.gw_input.specs.Tables.{IsTable}
 use Rattle.gw_input.specs.Refused.{refused_line}
 use Rattle.gw_log.specs.LogFrames.{refusal_number}
+use Rattle.gw_frame.specs.Record as frame
+use Rattle.gw_trace.specs.Refusals as trace
+use Rattle.gw_trace.specs.declared.refusal.TraceRefusal.{TraceRefusal}
+use Rattle.gw_trace.specs.declared.refusal.TraceRefusal.TheVariants.{BadRecord}
+use Rattle.gw_judge.specs.declared.capture_fault.CaptureFault.{CaptureFault}
 use Rattle.gw_judge.specs.declared.fate.Fate.{Fate}
 use Rattle.gw_judge.specs.declared.fault.JudgeFault.{JudgeFault}
 use Rattle.gw_judge.specs.declared.fault.JudgeFault.TheVariants as ends
@@ -15,8 +21,10 @@ use Rattle.gw_judge.specs.declared.groups.Grouping.TheVariants as grouping
 use Rattle.gw_judge.specs.declared.report.Wanted.{Wanted}
 use Rattle.gw_judge.specs.declared.report.Wanted.TheVariants as wanted
 use Rattle.gw_judge.specs.declared.tally.Tally.{Tally}
+use Rattle.gw_judge.specs.Captures.{IsCaptureJudged, IsCapturePartlyJudged}
 use Rattle.gw_judge.specs.Fates.{fate_of, policy_fate, table_fate}
 use Rattle.gw_judge.specs.Judged.{IsJudged, IsPartlyJudged, fault_number, wanted_front}
+use Rattle.gw_judge.specs.Openings.{Opens, is_capture}
 use Rattle.gw_commands.specs.declared.judge_command.LogQuery.{LogQuery}
 use Rattle.gw_commands.specs.declared.judge_command.PolicyKind.{PolicyKind}
 use Rattle.gw_commands.specs.declared.judge_command.PolicyKind.TheVariants as kind
@@ -89,6 +97,81 @@ EndsLog fate lines counts by shown strict before after read_failed old new faile
     (IsEnded fate lines counts by shown strict before after old new failed status × (read_failed ≡ false))
     ⊎ EndsEarly fate lines shown strict before after read_failed old new failed status
 
+-- ---- captures
+
+-- the record of a capture, and the number of what is wrong with it
+abbrev pub capture_details : TraceRefusal → List ℕ
+capture_details (BadRecord index why) = index ∷ frame.refusal_number why ∷ []
+capture_details _ = []
+
+-- the line of what ends a capture early
+abbrev pub capture_line : TraceRefusal → List ℕ
+capture_line why = refused_line (trace.refusal_number why) (capture_details why)
+
+-- the frames of a capture were judged to its end and counted in these groups, and the counts told
+pub record IsCaptureEnded (fate : List ℕ → Fate) (counts : Tally → List ℕ) (by : Grouping) (first : List ℕ)
+    (before after old new : Option (List ℕ)) (failed : Bool) (status : ℕ) : Type 0 where
+  pub tally : Tally
+  pub judged : IsCaptureJudged fate first before after tally
+  pub grouped : tally.groups.grouping ≡ by
+  pub told : TellsCounts (told_counts counts by) Counts tally old new failed status
+
+-- the capture ended early, and it is told why
+pub record CaptureEndsEarly (first : List ℕ) (before after : Option (List ℕ)) (read_failed : Bool)
+    (old new : Option (List ℕ)) (failed : Bool) (status : ℕ) : Type 0 where
+  pub fault : CaptureFault
+  pub judged : IsCapturePartlyJudged first before after read_failed fault
+  pub told : WritesText (capture_line fault.why) 1 status old new failed
+
+abbrev pub CountsCapture : (List ℕ → Fate) → (Tally → List ℕ) → Grouping → List ℕ → Option (List ℕ) → Option (List ℕ) → Bool
+    → Option (List ℕ) → Option (List ℕ) → Bool → ℕ → Type 0
+CountsCapture fate counts by first before after read_failed old new failed status =
+    (IsCaptureEnded fate counts by first before after old new failed status × (read_failed ≡ false))
+    ⊎ CaptureEndsEarly first before after read_failed old new failed status
+
+-- a capture has no lines: where they are asked for, nothing more is read and nothing is written
+abbrev pub HasNoLines : Option (List ℕ) → Option (List ℕ) → Bool → Option (List ℕ) → Option (List ℕ) → Bool → ℕ → Type 0
+HasNoLines before after read_failed old new failed status =
+    (after ≡ before) × (read_failed ≡ false) × WritesText [] 1 status old new failed
+
+abbrev pub EndsCapture : (List ℕ → Fate) → (Tally → List ℕ) → Grouping → Shown → List ℕ → Option (List ℕ) → Option (List ℕ)
+    → Bool → Option (List ℕ) → Option (List ℕ) → Bool → ℕ → Type 0
+EndsCapture fate counts by Counts first before after read_failed old new failed status =
+    CountsCapture fate counts by first before after read_failed old new failed status
+EndsCapture fate counts by Passed first before after read_failed old new failed status =
+    HasNoLines before after read_failed old new failed status
+EndsCapture fate counts by Blocked first before after read_failed old new failed status =
+    HasNoLines before after read_failed old new failed status
+EndsCapture fate counts by Each first before after read_failed old new failed status =
+    HasNoLines before after read_failed old new failed status
+
+-- ---- any input
+
+-- a read failed within the first four octets
+pub record FailsToOpen (shown : Shown) (before after : Option (List ℕ)) (read_failed : Bool) (old new : Option (List ℕ))
+    (failed : Bool) (status : ℕ) : Type 0 where
+  pub got : List ℕ
+  pub consumed : Consumes before after got
+  pub short : length got < 4
+  pub fault : read_failed ≡ true
+  pub told : TellsEnd shown ends.ReadFault old new failed status
+
+-- a log, or a capture where these first octets are a magic number
+abbrev pub EndsOpened : Bool → (List ℕ → Fate) → List ℕ → (Tally → List ℕ) → Grouping → Shown → Bool → List ℕ
+    → Option (List ℕ) → Option (List ℕ) → Option (List ℕ) → Bool → Option (List ℕ) → Option (List ℕ) → Bool → ℕ → Type 0
+EndsOpened true fate lines counts by shown strict first before middle after read_failed old new failed status =
+    EndsCapture fate counts by shown first middle after read_failed old new failed status
+EndsOpened false fate lines counts by shown strict first before middle after read_failed old new failed status =
+    EndsLog (fate_of fate) lines counts by shown strict before after read_failed old new failed status
+
+-- the first octets tell a capture from a log: this becomes of each frame of a capture, and of a line that says such a frame
+abbrev pub EndsInput : (List ℕ → Fate) → List ℕ → (Tally → List ℕ) → Grouping → Shown → Bool → Option (List ℕ)
+    → Option (List ℕ) → Bool → Option (List ℕ) → Option (List ℕ) → Bool → ℕ → Type 0
+EndsInput fate lines counts by shown strict before after read_failed old new failed status =
+    ((first : List ℕ) × (middle : Option (List ℕ)) × Opens before middle first
+    × EndsOpened (is_capture first) fate lines counts by shown strict first before middle after read_failed old new failed status)
+    ⊎ FailsToOpen shown before after read_failed old new failed status
+
 -- a refusal was written, and nothing was read
 abbrev pub OnlyRefuses : Refusal → Option (List ℕ) → Option (List ℕ) → Option (List ℕ) → Option (List ℕ) → Bool → ℕ → Type 0
 OnlyRefuses refusal before after old new failed status = (after ≡ before) × Writes (Err refusal) status old new failed
@@ -97,17 +180,17 @@ OnlyRefuses refusal before after old new failed status = (after ≡ before) × W
 abbrev pub JudgesGroups : (List ℕ → Fate) → List ℕ → (Tally → List ℕ) → Grouping → Shown → Bool → Option (List ℕ)
     → Option (List ℕ) → Bool → Option (List ℕ) → Option (List ℕ) → Bool → ℕ → Type 0
 JudgesGroups fate lines counts by shown strict before after read_failed old new failed status =
-    EndsLog fate lines counts by shown strict before after read_failed old new failed status
+    EndsInput fate lines counts by shown strict before after read_failed old new failed status
     ⊎ ((by ≢ grouping.Nothing) × OnlyRefuses OutOfMemory before after old new failed status)
 
--- what becomes of each line, where the rules stand, and how it is told: by the table of a text, or by the program of a listing
+-- what becomes of each frame, where the rules stand, and how it is told: by the table of a text, or by the program of a listing
 abbrev pub Decides : PolicyKind → ℕ → List ℕ → (List ℕ → Fate) → List ℕ → (Tally → List ℕ) → Type 0
 Decides kind.Table port text fate lines counts =
-    (table : Meaning) × IsTable text table × (fate ≡ fate_of (table_fate table port))
+    (table : Meaning) × IsTable text table × (fate ≡ table_fate table port)
     × (lines ≡ known_lines text table) × (counts ≡ table_counts table lines)
 Decides kind.Listing port text fate lines counts =
     (program : List Insn) × NamesProgram text program
-    × (fate ≡ fate_of (policy_fate (record { code = program; table = None }) port))
+    × (fate ≡ policy_fate (record { code = program; table = None }) port)
     × (lines ≡ []) × (counts ≡ policy_counts (record { code = program; table = None }) lines)
 
 abbrev pub RefusesPolicy : PolicyKind → List ℕ → Refusal → Type 0

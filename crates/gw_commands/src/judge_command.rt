@@ -1,17 +1,23 @@
 //! The command `judge`: the lines of a log, as a policy decides them.
 
-ghost use Rattle.std.specs.Prelude.{◌≡◌, true, false};
+ghost use Rattle.std.specs.Prelude.{◌≡◌, ◌≤◌, ℕ, List, Option, length, true, false};
+ghost use Rattle.std.specs.Io.KnownBytes.{Consumes};
 ghost use Rattle.gw_io.specs.Tries.{inner_of, has_failed};
 ghost use Rattle.gw_judge.specs.Fates.{fate_of, table_fate};
 ghost use Rattle.gw_judge.specs.Grouped.{no_groups};
 ghost use Rattle.gw_commands.specs.LogCounts.{table_counts, told_counts};
+ghost use Rattle.gw_commands.specs.declared.judge_command.Shown.TheVariants.{Counts};
 ghost use Rattle.gw_commands.specs.Judgings.{
+  CountsCapture,
+  EndsCapture,
+  EndsInput,
   EndsLog,
   JudgesGroups,
   JudgesLog,
   JudgesNamed,
   TellsCounts,
   TellsEnd,
+  capture_line,
   fault_line,
   wanted_of,
 };
@@ -19,16 +25,20 @@ ghost use Rattle.gw_commands.specs.Judgings.{
 use crate::answer::Answer;
 use crate::files::read_file;
 use crate::log_counts::{TellsParts, told_text};
-use crate::notes::{note_file, note_no_log, note_refused_lines};
+use crate::notes::{note_file, note_no_frames, note_no_lines, note_no_log, note_refused_lines};
 use crate::refusal::Refusal;
 use crate::responding::{respond, write_refusal};
 use crate::stated::StatedTable;
 use crate::texts::program;
 use gw_input::{Line, refused};
-use gw_io::Tried;
-use gw_judge::{Asked, Grouping, Groups, Head, JudgeFault, Named, Tally, Wanted, judge};
+use gw_io::{ReadFault, Tried};
+use gw_judge::{
+    Asked, Grouping, Groups, Head, JudgeFault, Named, Opening, Tally, Wanted, judge_capture,
+    judge_opened,
+};
 use gw_policy::Policy;
 use gw_table::IndexedTable;
+use gw_trace::TraceRefusal;
 use std::alloc::{AllocError, Global};
 use std::io::{Read, Write};
 use std::rt::Files;
@@ -152,7 +162,7 @@ fn judge_table<I: Read, W: Write, F: Write>(
 ) -> u8
     requires input { has_failed input.old ≡ false }
     requires output { has_failed output.old ≡ false }
-    ensures { JudgesGroups (fate_of (table_fate stated.table query.port)) stated.lines.items
+    ensures { JudgesGroups (table_fate stated.table query.port) stated.lines.items
         (table_counts stated.table stated.lines.items) query.by query.shown query.strict
         (I.remaining (inner_of input.old)) (I.remaining (inner_of input.new)) (has_failed input.new)
         (W.contents (inner_of output.old)) (W.contents (inner_of output.new)) (has_failed output.new) result }
@@ -178,7 +188,7 @@ fn judge_by<D: TellsParts, I: Read, W: Write, F: Write>(
 ) -> u8
     requires input { has_failed input.old ≡ false }
     requires output { has_failed output.old ≡ false }
-    ensures { JudgesGroups (fate_of (D.fate_by decider.now query.port)) rule_lines.now
+    ensures { JudgesGroups (D.fate_by decider.now query.port) rule_lines.now
         (D.counts_by decider.now rule_lines.now) query.by query.shown query.strict
         (I.remaining (inner_of input.old)) (I.remaining (inner_of input.new)) (has_failed input.new)
         (W.contents (inner_of output.old)) (W.contents (inner_of output.new)) (has_failed output.new) result }
@@ -193,7 +203,7 @@ fn judge_by<D: TellsParts, I: Read, W: Write, F: Write>(
     }
 }
 
-/// Judges each line of a log by what decides, and counts it in its group.
+/// Judges each frame of an input by what decides, and counts it in its group. The first octets tell a capture from a log.
 fn judge_grouped<D: TellsParts, I: Read, W: Write, F: Write>(
     alloc: Global,
     query: LogQuery,
@@ -206,9 +216,102 @@ fn judge_grouped<D: TellsParts, I: Read, W: Write, F: Write>(
     requires input { has_failed input.old ≡ false }
     requires output { has_failed output.old ≡ false }
     requires groups { groups ≡ no_groups query.by }
-    ensures { EndsLog (fate_of (D.fate_by policy.entry.decider.now query.port)) policy.entry.rule_lines.now
+    ensures { EndsInput (D.fate_by policy.entry.decider.now query.port) policy.entry.rule_lines.now
         (D.counts_by policy.entry.decider.now policy.entry.rule_lines.now) query.by query.shown query.strict
         (I.remaining (inner_of input.old)) (I.remaining (inner_of input.new)) (has_failed input.new)
+        (W.contents (inner_of output.old)) (W.contents (inner_of output.new)) (has_failed output.new) result }
+{
+    match Opening::read(input) {
+        Ok(opening) => {
+            let first = opening.octets();
+            if opening.is_capture() {
+                judge_frames(alloc, query, policy, groups, first, input, output, faults)
+            } else {
+                judge_lines(alloc, query, policy, groups, first, input, output, faults)
+            }
+        }
+        Err(ReadFault) => tell_end(query.shown, JudgeFault::ReadFault, output, faults),
+    }
+}
+
+/// Judges each frame of a capture, of which these first octets were read before. It has no lines: where they are asked for, a
+/// person is told so.
+fn judge_frames<D: TellsParts, I: Read, W: Write, F: Write>(
+    alloc: Global,
+    query: LogQuery,
+    policy: LogPolicy<D>,
+    groups: Groups,
+    first: &[u8],
+    input: &mut Tried<I>,
+    output: &mut Tried<W>,
+    faults: &mut Tried<F>,
+) -> u8
+    requires input { has_failed input.old ≡ false }
+    requires output { has_failed output.old ≡ false }
+    requires groups { groups ≡ no_groups query.by }
+    ensures { EndsCapture (D.fate_by policy.entry.decider.now query.port)
+        (D.counts_by policy.entry.decider.now policy.entry.rule_lines.now) query.by query.shown first.now
+        (I.remaining (inner_of input.old)) (I.remaining (inner_of input.new)) (has_failed input.new)
+        (W.contents (inner_of output.old)) (W.contents (inner_of output.new)) (has_failed output.new) result }
+{
+    match query.shown {
+        Shown::Counts => count_frames(alloc, query, policy, groups, first, input, output, faults),
+        Shown::Passed | Shown::Blocked | Shown::Each => {
+            note_no_lines(faults);
+            1
+        }
+    }
+}
+
+/// Counts each frame of a capture, of which these first octets were read before.
+fn count_frames<D: TellsParts, I: Read, W: Write, F: Write>(
+    alloc: Global,
+    query: LogQuery,
+    policy: LogPolicy<D>,
+    groups: Groups,
+    first: &[u8],
+    input: &mut Tried<I>,
+    output: &mut Tried<W>,
+    faults: &mut Tried<F>,
+) -> u8
+    requires input { has_failed input.old ≡ false }
+    requires output { has_failed output.old ≡ false }
+    requires groups { groups ≡ no_groups query.by }
+    requires counts { query.shown ≡ Counts }
+    ensures { CountsCapture (D.fate_by policy.entry.decider.now query.port)
+        (D.counts_by policy.entry.decider.now policy.entry.rule_lines.now) query.by first.now
+        (I.remaining (inner_of input.old)) (I.remaining (inner_of input.new)) (has_failed input.new)
+        (W.contents (inner_of output.old)) (W.contents (inner_of output.new)) (has_failed output.new) result }
+{
+    let (decider, port) = (policy.decider, query.port);
+    match judge_capture(alloc, decider, port, groups, first, input) {
+        Ok(tally) => {
+            note_no_frames(&tally, faults);
+            tell_counts(alloc, query, policy, &tally, output, faults)
+        }
+        Err(fault) => write_refusal(capture_line(fault.why).as_bytes(), &fault, output, faults),
+    }
+}
+
+/// Judges each line of a log, of which these first octets were read before.
+fn judge_lines<D: TellsParts, I: Read, W: Write, F: Write>(
+    alloc: Global,
+    query: LogQuery,
+    policy: LogPolicy<D>,
+    groups: Groups,
+    first: &[u8],
+    input: &mut Tried<I>,
+    output: &mut Tried<W>,
+    faults: &mut Tried<F>,
+) -> u8
+    requires input { has_failed input.old ≡ false }
+    requires output { has_failed output.old ≡ false }
+    requires groups { groups ≡ no_groups query.by }
+    requires first { length first.now ≤ 4 }
+    ensures { (before : Option (List ℕ)) → Consumes before (I.remaining (inner_of input.old)) first.now
+        → EndsLog (fate_of (D.fate_by policy.entry.decider.now query.port)) policy.entry.rule_lines.now
+        (D.counts_by policy.entry.decider.now policy.entry.rule_lines.now) query.by query.shown query.strict
+        before (I.remaining (inner_of input.new)) (has_failed input.new)
         (W.contents (inner_of output.old)) (W.contents (inner_of output.new)) (has_failed output.new) result }
 {
     let report = Named {
@@ -222,7 +325,7 @@ fn judge_grouped<D: TellsParts, I: Read, W: Write, F: Write>(
         strict: query.strict,
     };
     let mut head = Head::new();
-    match judge(&asked, groups, &mut head, input, output) {
+    match judge_opened(&asked, groups, first, &mut head, input, output) {
         Ok(tally) => {
             note_no_log(&head, faults);
             note_refused_lines(&tally, faults);
@@ -297,6 +400,19 @@ fn fault_line(fault: JudgeFault) -> Line
     let number = fault.number();
     match fault {
         JudgeFault::Refused(at) => refused(number, &[at.line]),
+        _ => refused(number, &[]),
+    }
+}
+
+/// The line of what ends a capture early: its number, and of a record that is no frame its index and what is wrong with it.
+fn capture_line(why: TraceRefusal) -> Line
+    ensures { result ≡ capture_line why }
+{
+    let number = why.number();
+    match why {
+        TraceRefusal::BadRecord { index, why } => {
+            refused(number, &[index as u64, u64::from(why.number())])
+        }
         _ => refused(number, &[]),
     }
 }

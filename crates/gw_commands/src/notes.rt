@@ -127,7 +127,7 @@ pub fn note_refused_lines<F: Write>(tally: &Tally, faults: &mut Tried<F>) {
 pub fn note_no_log<F: Write>(head: &Head, faults: &mut Tried<F>) {
     let told = match head.no_log() {
         Some(NoLog::Pcap) =>
-            "the input is a pcap capture and no log of candump; `gw run` takes one of link type 227",
+            "the input is a pcap capture and no log of candump; `gw judge` and `gw run` take one of link type 227",
         Some(NoLog::PcapNg) => {
             "the input is a pcapng capture and no log of candump; `editcap -F pcap` makes a pcap capture of it for `gw run`"
         }
@@ -136,4 +136,19 @@ pub fn note_no_log<F: Write>(head: &Head, faults: &mut Tried<F>) {
         None => return,
     };
     let _ = writeln!(faults, "gw: {told}");
+}
+
+/// Tells of a capture that it has no lines.
+pub fn note_no_lines<F: Write>(faults: &mut Tried<F>) {
+    let _ = writeln!(
+        faults,
+        "gw: the input is a pcap capture and has no lines to write: without --passed, --blocked and --each its frames are counted"
+    );
+}
+
+/// Tells of a capture without frames.
+pub fn note_no_frames<F: Write>(tally: &Tally, faults: &mut Tried<F>) {
+    if tally.lines == 0 {
+        let _ = writeln!(faults, "gw: the capture is empty");
+    }
 }
