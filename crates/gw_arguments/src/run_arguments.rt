@@ -11,7 +11,7 @@ use clap::error::ErrorKind;
 use clap::{Arg, ArgAction, ArgMatches, Command, Error, value_parser};
 use gw_commands::{PolicyKind, PolicySource};
 use gw_ledger::{Limits, MAX_PORTS};
-use gw_run::NamedInterface;
+use gw_run::{NamedInterface, Shown};
 use std::alloc::{AllocError, Global};
 use std::convert::AsStr;
 
@@ -31,7 +31,8 @@ pub struct RunRequest<'a> {
     pub interfaces: Vec<NamedInterface<'a>>,
     /// The file from which each port takes its frames, if one is named; where there is none for any port, the input is read.
     pub inputs: Vec<Option<&'a str>>,
-    pub lanes: bool,
+    /// What is told behind the lines of the ports.
+    pub shown: Shown,
     pub progress: bool,
 }
 
@@ -42,7 +43,7 @@ pub fn run_arguments<'a>(alloc: Global) -> Result<Command<'a>, AllocError> {
         "run",
         "Forwards the frames of a trace or a log in threads, and tells what each port took and what of it the others let leave",
         "gw run --ports N [--lane N] [--program LISTING] [--table P=FILE].. [--listing P=FILE].. \
-        ([--interface NAME=P].. | [--in P=FILE]..) [--lanes] [--progress] < INPUT",
+        ([--interface NAME=P].. | [--in P=FILE]..) [--policies] [--lanes] [--progress] < INPUT",
         "A port's line counts the frames taken there; those of them that were for its own segment, as local; and as allowed the \
         copies of its frames that the policies of other ports let leave there.\n\
         Example: gw run --ports 2 --program '1,6 0 0 1,' < TRACE",
@@ -67,6 +68,12 @@ pub fn run_arguments<'a>(alloc: Global) -> Result<Command<'a>, AllocError> {
     ))
     .arg(interface_option(alloc))
     .made_arg(input_option(alloc))
+    .arg(flag(
+        alloc,
+        "policies",
+        "Tells behind the ports, for each port, how many frames of the others its policy judged, and passed, and how many \
+        copies of these were lost",
+    ))
     .arg(flag(
         alloc,
         "lanes",
@@ -144,7 +151,10 @@ fn asked<'a>(alloc: Global, run: &ArgMatches<'a>) -> Result<RunRequest<'a>, Erro
         sources,
         interfaces,
         inputs,
-        lanes: run.get_flag("lanes"),
+        shown: Shown {
+            policies: run.get_flag("policies"),
+            lanes: run.get_flag("lanes"),
+        },
         progress: run.get_flag("progress"),
     })
 }

@@ -59,9 +59,9 @@ abbrev pub DoesRun : RunRequest → Option (List ℕ) → Option (List ℕ) → 
     → Type 0
 DoesRun run before after failed reads old new write_failed status =
     ((taking : Taking) × (list_any is_some run.inputs.items ≡ false)
-    × ForwardsNamed taking run.limits run.sources.items run.lanes before after failed reads old new write_failed status)
+    × ForwardsNamed taking run.limits run.sources.items run.shown before after failed reads old new write_failed status)
     ⊎ ((list_any is_some run.inputs.items ≡ true) × (after ≡ before)
-    × ForwardsFiles run.limits run.sources.items run.inputs.items run.lanes old new write_failed status)
+    × ForwardsFiles run.limits run.sources.items run.inputs.items run.shown old new write_failed status)
 
 -- what was asked of `run` was done, for a request that has a source and maybe a file for each port; or the arguments were
 -- answered and nothing was read

@@ -119,16 +119,16 @@ where
         (I.remaining (inner_of input.old)) (I.remaining (inner_of input.new)) (has_failed input.new) (reads_of input.new)
         (W.contents (inner_of output.old)) (W.contents (inner_of output.new)) (has_failed output.new) result }
 {
-    let (limits, sources, lanes) = (run.limits, run.sources.as_slice(), run.lanes);
+    let (limits, sources, shown) = (run.limits, run.sources.as_slice(), run.shown);
     let files = run.inputs.as_slice();
     if names_file(files) {
         return forward_files(
-            rt, alloc, limits, sources, files, lanes, observer, output, faults,
+            rt, alloc, limits, sources, files, shown, observer, output, faults,
         );
     }
     let taking = asked_taking(run.interfaces.as_slice());
     forward_named(
-        rt, alloc, limits, sources, &taking, lanes, observer, input, output, faults,
+        rt, alloc, limits, sources, &taking, shown, observer, input, output, faults,
     )
 }
 

@@ -7,6 +7,7 @@ use Rattle.std.specs.declared.vec.IntoIter.{IntoIter}
 use Rattle.gw_ledger.specs.Bounds.{Bounds}
 use Rattle.gw_policy.specs.Batches.{Pair}
 use Rattle.gw_commands.specs.declared.policies.PolicySource.{PolicySource}
+use Rattle.gw_run.specs.declared.lines.Shown.{Shown}
 use Rattle.gw_run.specs.declared.taking.Taking.{Taking}
 use Rattle.gw_run.specs.declared.refusal.ForwardRefusal.{ForwardRefusal}
 use Rattle.gw_run.specs.Forwarding.{IsFirst, IsForwarded, IsForwardRefusal, IsOctetsRun, IsTraceInput, IsTraceRun}
@@ -17,11 +18,11 @@ use Rattle.gw_run.specs.Forwarding.{AreShares, IsListRun, IsRunOn, IsStopOf, Non
 use Rattle.gw_run.specs.Forwarding.{RefusesInputs, RefusesOctets, RefusesTrace}
 
 -- under the policies of the sources
-pub under_policies : (taking : Taking) (limits : Bounds) (sources : List PolicySource) (texts : List (List ℕ)) (lanes : Bool)
+pub under_policies : (taking : Taking) (limits : Bounds) (sources : List PolicySource) (texts : List (List ℕ)) (shown : Shown)
     (before after : Option (List ℕ)) (failed : Bool) (first : List Pair) (text : List ℕ) → IsFirst sources texts first
-    → IsTraceRun taking limits first lanes before after failed text
-    → IsForwarded taking limits sources texts lanes before after failed text
-under_policies taking limits sources texts lanes before after failed first text policies run =
+    → IsTraceRun taking limits first shown before after failed text
+    → IsForwarded taking limits sources texts shown before after failed text
+under_policies taking limits sources texts shown before after failed first text policies run =
     record { first = first; policies = policies; run = run }
 
 pub refused_under_policies : (taking : Taking) (limits : Bounds) (sources : List PolicySource) (texts : List (List ℕ))
@@ -32,19 +33,19 @@ refused_under_policies taking limits sources texts before after failed reads fir
     inr (record { first = first; policies = policies; why = why })
 
 -- of the octets that the reader gave
-pub of_trace : (taking : Taking) (limits : Bounds) (first : List Pair) (lanes : Bool) (before after : Option (List ℕ))
-    (failed : Bool) (octets shown text : List ℕ) → IsTraceInput before after failed octets → shown ≡ octets
-    → IsOctetsRun taking limits first lanes shown text → IsTraceRun taking limits first lanes before after failed text
-of_trace taking limits first lanes before after failed octets shown text read same run = record {
+pub of_trace : (taking : Taking) (limits : Bounds) (first : List Pair) (shown : Shown) (before after : Option (List ℕ))
+    (failed : Bool) (octets given text : List ℕ) → IsTraceInput before after failed octets → given ≡ octets
+    → IsOctetsRun taking limits first shown given text → IsTraceRun taking limits first shown before after failed text
+of_trace taking limits first shown before after failed octets given text read same run = record {
   octets = octets;
   read = read;
-  run = subst (λ (o : List ℕ). IsOctetsRun taking limits first lanes o text) same run;
+  run = subst (λ (o : List ℕ). IsOctetsRun taking limits first shown o text) same run;
 }
 
 pub refused_of_trace : (taking : Taking) (limits : Bounds) (first : List Pair) (before after : Option (List ℕ)) (failed : Bool)
-    (reads : ℕ) (octets shown : List ℕ) (refusal : ForwardRefusal) → IsTraceInput before after failed octets → shown ≡ octets
-    → RefusesOctets taking limits first shown refusal → RefusesTrace taking limits first before after failed reads refusal
-refused_of_trace taking limits first before after failed reads octets shown refusal read same why =
+    (reads : ℕ) (octets given : List ℕ) (refusal : ForwardRefusal) → IsTraceInput before after failed octets → given ≡ octets
+    → RefusesOctets taking limits first given refusal → RefusesTrace taking limits first before after failed reads refusal
+refused_of_trace taking limits first before after failed reads octets given refusal read same why =
     inr (octets, read, subst (λ (o : List ℕ). RefusesOctets taking limits first o refusal) same why)
 
 -- a run on shares and one on lists, in which no batch is published

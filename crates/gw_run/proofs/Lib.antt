@@ -2,4 +2,5 @@ pub mod FirstBatch
 pub mod Forwarded
 pub mod Forwards
 pub mod LogLines
+pub mod PolicyLines
 pub mod PortInputs

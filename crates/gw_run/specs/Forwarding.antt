@@ -4,7 +4,7 @@ use Rattle.std.specs.Prelude.{◌≡◌, ℕ, ◌<◌, ◌⊎◌, ◌==◌, Bool
 use Rattle.std.specs.Prelude.{codes, decimal, slice_get, slice_index_or, map, Option, Some, None, Result, Ok, Err, MatchResult}
 use Rattle.std.specs.Prelude.{All, Any}
 use Rattle.std.specs.Option.{option_map_or}
-use Rattle.std.specs.List.{flat_map, count_by, range_with_len}
+use Rattle.std.specs.List.{flat_map, count_by, sum_by, range_with_len}
 use Rattle.std.specs.Io.KnownBytes.{IsAtEnd, Consumes}
 use Rattle.std.specs.Iterator.{YieldsFirst}
 use Rattle.std.specs.Vec.Iter.{into_iter_items, into_iter_steps}
@@ -35,6 +35,9 @@ use Rattle.gw_commands.specs.Policies.{MeansPolicy, NamesFile, RefusesFile, Refu
 use Rattle.gw_run.specs.declared.refusal.ForwardRefusal.{ForwardRefusal}
 use Rattle.gw_run.specs.declared.refusal.ForwardRefusal.TheVariants as refuses
 use Rattle.gw_run.specs.declared.refusal.ForwardRefusal.TheVariants.{Command, Trace, Run, Stopped}
+use Rattle.gw_run.specs.declared.lines.Shown.{Shown}
+use Rattle.gw_run.specs.declared.policy_lines.Counted.{Counted}
+use Rattle.gw_run.specs.declared.policy_lines.Counted.TheVariants.{Judged, Passed, Lost}
 use Rattle.gw_run.specs.declared.taking.NamedInterface.{NamedInterface}
 use Rattle.gw_run.specs.declared.taking.Taking.{Taking}
 use Rattle.gw_run.specs.declared.taking.Taking.TheVariants.{InTurn, ByInterface}
@@ -165,20 +168,50 @@ lines_from ports outcomes from = option_map_or (lane_lines_from from ports) (sli
 unfoldable pub lane_lines : ℕ → List (List Outcome) → List ℕ
 lane_lines ports outcomes = flat_map (lines_from ports outcomes) (range_with_len 0 ports)
 
-abbrev pub report_lines : ℕ → Bool → RunReport → List ℕ
-report_lines ports lanes report =
+-- what a port's policy does with a frame of another port: it judges each that is not for its own segment; it passes those that are
+-- allowed there; and the copies of some of these are lost
+abbrev pub is_counted : Counted → ℕ → Outcome → Bool
+is_counted Judged to outcome = not outcome.local
+is_counted Passed to outcome = has_port to outcome.allowed
+is_counted Lost to outcome = is_lost to outcome
+
+-- how many of the frames of one port are counted for another
+abbrev pub count_from : Counted → ℕ → List (List Outcome) → ℕ → ℕ
+count_from what to outcomes from =
+    if from == to then 0 else option_map_or (count_by (is_counted what to)) (slice_get outcomes from) 0
+
+-- how many of the frames of all other ports are counted for a port
+unfoldable pub count_others : Counted → ℕ → List (List Outcome) → ℕ
+count_others what to outcomes = sum_by (count_from what to outcomes) (range_with_len 0 (length outcomes))
+
+-- what a port's policy judged, passed and lost
+abbrev pub policy_line : List (List Outcome) → ℕ → List ℕ
+policy_line outcomes to =
+    codes "policy " ++ decimal to ++ codes " judged " ++ decimal (count_others Judged to outcomes)
+    ++ codes " passed " ++ decimal (count_others Passed to outcomes)
+    ++ codes " lost " ++ decimal (count_others Lost to outcomes) ++ 10 ∷ []
+
+-- a line for each port's policy, in ascending order
+unfoldable pub policy_lines : ℕ → List (List Outcome) → List ℕ
+policy_lines ports outcomes = flat_map (policy_line outcomes) (range_with_len 0 ports)
+
+-- a line for each port, and behind them those of the policies and of the lanes that are to be shown
+abbrev pub report_lines : ℕ → Shown → RunReport → List ℕ
+report_lines ports shown report =
+    let outcomes = map (λ outcomes. outcomes.items) report.outcomes.items in
     port_lines report.report.ins.items
-    ++ (if lanes then lane_lines ports (map (λ outcomes. outcomes.items) report.outcomes.items) else [])
+    ++ (if shown.policies then policy_lines ports outcomes else [])
+    ++ (if shown.lanes then lane_lines ports outcomes else [])
 
 -- ---- the command
 
 -- the text of a run on what the ports take of an input's octets, which begins with this batch
-pub record IsOctetsRun (taking : Taking) (limits : Bounds) (first : List Pair) (lanes : Bool) (octets text : List ℕ)
+pub record IsOctetsRun (taking : Taking) (limits : Bounds) (first : List Pair) (shown : Shown) (octets text : List ℕ)
     : Type 0 where
   pub report : RunReport
   pub ran : IsRunOf taking limits first octets report
   pub unstopped : NoneStopped report.stops.items
-  pub lines : text ≡ report_lines limits.ports lanes report
+  pub lines : text ≡ report_lines limits.ports shown report
 
 -- what refuses such a run: what refuses the gateway's run, but for a port that is not there, which no source names; or the least
 -- port's that stopped; memory may be wanting for what the ports take and for the lines
@@ -205,11 +238,11 @@ RefusesOctets InTurn limits first octets refusal =
 RefusesOctets (ByInterface names) limits first octets refusal = RefusesLog names.now limits first octets refusal
 
 -- the text of a run on the input that the reader gave
-pub record IsTraceRun (taking : Taking) (limits : Bounds) (first : List Pair) (lanes : Bool) (before after : Option (List ℕ))
+pub record IsTraceRun (taking : Taking) (limits : Bounds) (first : List Pair) (shown : Shown) (before after : Option (List ℕ))
     (failed : Bool) (text : List ℕ) : Type 0 where
   pub octets : List ℕ
   pub read : IsTraceInput before after failed octets
-  pub run : IsOctetsRun taking limits first lanes octets text
+  pub run : IsOctetsRun taking limits first shown octets text
 
 -- what refuses an input: its reading before its octets
 abbrev pub RefusesTrace : Taking → Bounds → List Pair → Option (List ℕ) → Option (List ℕ) → Bool → ℕ → ForwardRefusal → Type 0
@@ -218,11 +251,11 @@ RefusesTrace taking limits first before after failed reads refusal =
     ⊎ ((octets : List ℕ) × IsTraceInput before after failed octets × RefusesOctets taking limits first octets refusal)
 
 -- the text for what the reader gave: the lines of a run on what the ports take of it, under the policies of the ports' sources
-pub record IsForwarded (taking : Taking) (limits : Bounds) (sources : List PolicySource) (texts : List (List ℕ)) (lanes : Bool)
+pub record IsForwarded (taking : Taking) (limits : Bounds) (sources : List PolicySource) (texts : List (List ℕ)) (shown : Shown)
     (before after : Option (List ℕ)) (failed : Bool) (text : List ℕ) : Type 0 where
   pub first : List Pair
   pub policies : IsFirst sources texts first
-  pub run : IsTraceRun taking limits first lanes before after failed text
+  pub run : IsTraceRun taking limits first shown before after failed text
 
 -- the sources mean policies, and the input is refused
 pub record RefusesForwarding (taking : Taking) (limits : Bounds) (sources : List PolicySource) (texts : List (List ℕ))
@@ -244,11 +277,11 @@ WritesForward (Ok text) status old new failed = WritesText text 0 status old new
 WritesForward (Err refusal) status old new failed = WritesText (forward_refusal_line refusal) 1 status old new failed
 
 -- what was found is written, and tells the status
-pub record Forwards (taking : Taking) (limits : Bounds) (sources : List PolicySource) (texts : List (List ℕ)) (lanes : Bool)
+pub record Forwards (taking : Taking) (limits : Bounds) (sources : List PolicySource) (texts : List (List ℕ)) (shown : Shown)
     (before after : Option (List ℕ)) (failed : Bool) (reads : ℕ) (old new : Option (List ℕ)) (write_failed : Bool) (status : ℕ)
     : Type 0 where
   pub found : Result (List ℕ) ForwardRefusal
-  pub is_found : MatchResult found (IsForwarded taking limits sources texts lanes before after failed)
+  pub is_found : MatchResult found (IsForwarded taking limits sources texts shown before after failed)
       (IsForwardRefusal taking limits sources texts before after failed reads)
   pub written : WritesForward found status old new write_failed
 
@@ -261,9 +294,9 @@ RefusesNamed sources refusal = Any NamesFile sources × RefusesFile refusal
 
 -- the input was forwarded under the policies of the sources, whatever their files hold; or a file was refused, and nothing was
 -- read
-abbrev pub ForwardsNamed : Taking → Bounds → List PolicySource → Bool → Option (List ℕ) → Option (List ℕ) → Bool → ℕ
+abbrev pub ForwardsNamed : Taking → Bounds → List PolicySource → Shown → Option (List ℕ) → Option (List ℕ) → Bool → ℕ
     → Option (List ℕ) → Option (List ℕ) → Bool → ℕ → Type 0
-ForwardsNamed taking limits sources lanes before after failed reads old new write_failed status =
-    ((texts : List (List ℕ)) × Forwards taking limits sources texts lanes before after failed reads old new write_failed status)
+ForwardsNamed taking limits sources shown before after failed reads old new write_failed status =
+    ((texts : List (List ℕ)) × Forwards taking limits sources texts shown before after failed reads old new write_failed status)
     ⊎ ((refusal : Refusal) × RefusesNamed sources refusal × (after ≡ before)
     × Writes (Err refusal) status old new write_failed)

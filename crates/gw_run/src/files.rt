@@ -6,6 +6,7 @@ ghost use Rattle.gw_commands.specs.Policies.{RefusesFile};
 ghost use Rattle.gw_run.specs.Forwarding.{ForwardsNamed, RefusesNamed};
 
 use crate::forwarding::forward;
+use crate::lines::Shown;
 use crate::observing::Observer;
 use crate::taking::Taking;
 use gw_commands::{PolicySource, Refusal, read_file, respond};
@@ -26,7 +27,7 @@ pub fn forward_named<R: Threads + Wait + Sync + Files, G: Observer, I: Read, W: 
     limits: Limits,
     sources: &[PolicySource],
     taking: &Taking,
-    lanes: bool,
+    shown: Shown,
     observer: &G,
     input: &mut Tried<I>,
     output: &mut Tried<W>,
@@ -36,7 +37,7 @@ pub fn forward_named<R: Threads + Wait + Sync + Files, G: Observer, I: Read, W: 
     requires unread { reads_of input.old ≡ 0 }
     requires input { has_failed input.old ≡ false }
     requires output { has_failed output.old ≡ false }
-    ensures { ForwardsNamed taking.now limits sources.now lanes
+    ensures { ForwardsNamed taking.now limits sources.now shown
         (I.remaining (inner_of input.old)) (I.remaining (inner_of input.new))
         (has_failed input.new) (reads_of input.new)
         (W.contents (inner_of output.old)) (W.contents (inner_of output.new)) (has_failed output.new) result }
@@ -46,7 +47,7 @@ pub fn forward_named<R: Threads + Wait + Sync + Files, G: Observer, I: Read, W: 
         Err(refusal) => return respond(&Err(refusal), output, faults),
     };
     forward(
-        rt, alloc, limits, sources, &texts, taking, lanes, observer, input, output, faults,
+        rt, alloc, limits, sources, &texts, taking, shown, observer, input, output, faults,
     )
 }
 

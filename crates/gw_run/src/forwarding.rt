@@ -21,7 +21,7 @@ ghost use Rattle.gw_run.specs.declared.refusal.ForwardRefusal.TheVariants.{Comma
 ghost use Rattle.gw_run.specs.declared.taking.Taking.TheVariants.{InTurn};
 
 use crate::first::first_batch;
-use crate::lines::report_text;
+use crate::lines::{Shown, report_text};
 use crate::log::{named_lists, no_log};
 use crate::log_notes::LogNotes;
 use crate::notes::{note_dealt, note_log, note_lost};
@@ -43,7 +43,7 @@ use std::sync::Wait;
 use std::thread::Threads;
 
 /// Reads an input, forwards the frames that each port takes of it, under the policies of the ports' sources, and writes what each
-/// port counted; with `lanes` also what was placed on each lane and lost there. `texts` has what the files of the sources hold,
+/// port counted, and the lines behind that are `shown`. `texts` has what the files of the sources hold,
 /// port by port. It may wait.
 pub fn forward<R: Threads + Wait + Sync, G: Observer, I: Read, W: Write, F: Write>(
     rt: &R,
@@ -52,7 +52,7 @@ pub fn forward<R: Threads + Wait + Sync, G: Observer, I: Read, W: Write, F: Writ
     sources: &[PolicySource],
     texts: &[Vec<u8>],
     taking: &Taking,
-    lanes: bool,
+    shown: Shown,
     observer: &G,
     input: &mut Tried<I>,
     output: &mut Tried<W>,
@@ -63,12 +63,12 @@ pub fn forward<R: Threads + Wait + Sync, G: Observer, I: Read, W: Write, F: Writ
     requires unread { reads_of input.old ≡ 0 }
     requires input { has_failed input.old ≡ false }
     requires output { has_failed output.old ≡ false }
-    ensures { Forwards taking.now limits sources.now (map (λ text. text.items) texts.now) lanes
+    ensures { Forwards taking.now limits sources.now (map (λ text. text.items) texts.now) shown
         (I.remaining (inner_of input.old)) (I.remaining (inner_of input.new)) (has_failed input.new) (reads_of input.new)
         (W.contents (inner_of output.old)) (W.contents (inner_of output.new)) (has_failed output.new) result }
 {
     let found = forwarded(
-        rt, alloc, limits, sources, texts, taking, lanes, observer, input, faults,
+        rt, alloc, limits, sources, texts, taking, shown, observer, input, faults,
     );
     match found {
         Ok(text) => respond(&Ok(Answer::Text(text)), output, faults),
@@ -84,7 +84,7 @@ fn forwarded<R: Threads + Wait + Sync, G: Observer, I: Read, F: Write>(
     sources: &[PolicySource],
     texts: &[Vec<u8>],
     taking: &Taking,
-    lanes: bool,
+    shown: Shown,
     observer: &G,
     input: &mut Tried<I>,
     faults: &mut Tried<F>,
@@ -93,14 +93,14 @@ fn forwarded<R: Threads + Wait + Sync, G: Observer, I: Read, F: Write>(
     requires texts { length texts.now ≡ limits.ports }
     requires unread { reads_of input.old ≡ 0 }
     requires input { has_failed input.old ≡ false }
-    ensures forwarded { IfOk result (λ text. IsForwarded taking.now limits sources.now (map (λ text. text.items) texts.now) lanes
+    ensures forwarded { IfOk result (λ text. IsForwarded taking.now limits sources.now (map (λ text. text.items) texts.now) shown
         (I.remaining (inner_of input.old)) (I.remaining (inner_of input.new)) (has_failed input.new) text.items) }
     ensures refused { IfErr result (IsForwardRefusal taking.now limits sources.now (map (λ text. text.items) texts.now)
         (I.remaining (inner_of input.old)) (I.remaining (inner_of input.new)) (has_failed input.new) (reads_of input.new)) }
 {
     match first_batch(alloc, sources, texts, faults) {
         Ok(first) => run_input(
-            rt, alloc, limits, first, taking, lanes, observer, input, faults,
+            rt, alloc, limits, first, taking, shown, observer, input, faults,
         ),
         Err(refusal) => Err(ForwardRefusal::Command(refusal)),
     }
@@ -113,7 +113,7 @@ fn run_input<R: Threads + Wait + Sync, G: Observer, I: Read, F: Write>(
     limits: Limits,
     first: Batch,
     taking: &Taking,
-    lanes: bool,
+    shown: Shown,
     observer: &G,
     input: &mut Tried<I>,
     faults: &mut Tried<F>,
@@ -121,7 +121,7 @@ fn run_input<R: Threads + Wait + Sync, G: Observer, I: Read, F: Write>(
     requires ports { All (λ pair. pair.port < limits.ports) first }
     requires unread { reads_of input.old ≡ 0 }
     requires input { has_failed input.old ≡ false }
-    ensures ran { IfOk result (λ text. IsTraceRun taking.now limits first lanes
+    ensures ran { IfOk result (λ text. IsTraceRun taking.now limits first shown
         (I.remaining (inner_of input.old)) (I.remaining (inner_of input.new)) (has_failed input.new) text.items) }
     ensures refused { IfErr result (RefusesTrace taking.now limits first
         (I.remaining (inner_of input.old)) (I.remaining (inner_of input.new)) (has_failed input.new) (reads_of input.new)) }
@@ -133,7 +133,7 @@ fn run_input<R: Threads + Wait + Sync, G: Observer, I: Read, F: Write>(
             limits,
             first,
             taking,
-            lanes,
+            shown,
             observer,
             octets.as_slice(),
             faults,
@@ -149,17 +149,17 @@ fn run_octets<R: Threads + Wait + Sync, G: Observer, F: Write>(
     limits: Limits,
     first: Batch,
     taking: &Taking,
-    lanes: bool,
+    shown: Shown,
     observer: &G,
     octets: &[u8],
     faults: &mut Tried<F>,
 ) -> Result<Vec<u8>, ForwardRefusal>
     requires { All (λ pair. pair.port < limits.ports) first }
-    ensures ran { IfOk result (λ text. IsOctetsRun taking.now limits first lanes octets.now text.items) }
+    ensures ran { IfOk result (λ text. IsOctetsRun taking.now limits first shown octets.now text.items) }
     ensures refused { IfErr result (RefusesOctets taking.now limits first octets.now) }
 {
     match run_taken(rt, alloc, limits, first, taking, observer, octets, faults) {
-        Ok(report) => report_octets(alloc, limits, &report, lanes, faults),
+        Ok(report) => report_octets(alloc, limits, &report, shown, faults),
         Err(refusal) => Err(refusal),
     }
 }
@@ -169,14 +169,14 @@ pub(crate) fn report_octets<F: Write>(
     alloc: Global,
     limits: Limits,
     report: &RunReport,
-    lanes: bool,
+    shown: Shown,
     faults: &mut Tried<F>,
 ) -> Result<Vec<u8>, ForwardRefusal>
-    ensures lines { IfOk result (λ text. text.items ≡ report_lines limits.ports lanes report.now) }
+    ensures lines { IfOk result (λ text. text.items ≡ report_lines limits.ports shown report.now) }
     ensures refused { IfErr result (λ refusal. refusal ≡ Command OutOfMemory) }
 {
     note_lost(&report.report.ins, faults);
-    match report_text(alloc, limits.ports() as u8, report, lanes) {
+    match report_text(alloc, limits.ports() as u8, report, shown) {
         Ok(text) => Ok(text.into_bytes()),
         Err(AllocError) => Err(ForwardRefusal::Command(Refusal::OutOfMemory)),
     }

@@ -15,6 +15,7 @@ ghost use Rattle.gw_run.specs.declared.refusal.ForwardRefusal.TheVariants.{Comma
 
 use crate::forwarding::report_octets;
 use crate::frames::frames_in;
+use crate::lines::Shown;
 use crate::notes::note_input;
 use crate::observing::Observer;
 use crate::refusal::ForwardRefusal;
@@ -42,7 +43,7 @@ pub enum PortInput<'a> {
 }
 
 /// Forwards the frames of the ports' inputs, each port's in their order, under policies from the first frame on, and writes what
-/// each port counted; with `lanes` also what was placed on each lane and lost there. The first input that is refused is told: 96
+/// each port counted, and the lines behind that are `shown`. The first input that is refused is told: 96
 /// of a file that could not be read, 91 to 93 and 95 of a trace, and 114 of what is neither a log nor a trace. It may wait.
 pub fn forward_inputs<R: Threads + Wait + Sync, G: Observer, W: Write, F: Write>(
     rt: &R,
@@ -50,7 +51,7 @@ pub fn forward_inputs<R: Threads + Wait + Sync, G: Observer, W: Write, F: Write>
     limits: Limits,
     first: Batch,
     inputs: &[PortInput],
-    lanes: bool,
+    shown: Shown,
     observer: &G,
     output: &mut Tried<W>,
     faults: &mut Tried<F>,
@@ -58,10 +59,10 @@ pub fn forward_inputs<R: Threads + Wait + Sync, G: Observer, W: Write, F: Write>
     requires first { All (λ pair. pair.port < limits.ports) first }
     requires inputs { length inputs.now ≡ limits.ports }
     requires output { has_failed output.old ≡ false }
-    ensures { ForwardsInputs limits first inputs.now lanes
+    ensures { ForwardsInputs limits first inputs.now shown
         (W.contents (inner_of output.old)) (W.contents (inner_of output.new)) (has_failed output.new) result }
 {
-    match inputs_text(rt, alloc, limits, first, inputs, lanes, observer, faults) {
+    match inputs_text(rt, alloc, limits, first, inputs, shown, observer, faults) {
         Ok(text) => respond(&Ok(Answer::Text(text)), output, faults),
         Err(refusal) => write_refusal(refusal.line().as_bytes(), &refusal, output, faults),
     }
@@ -74,13 +75,13 @@ fn inputs_text<R: Threads + Wait + Sync, G: Observer, F: Write>(
     limits: Limits,
     first: Batch,
     inputs: &[PortInput],
-    lanes: bool,
+    shown: Shown,
     observer: &G,
     faults: &mut Tried<F>,
 ) -> Result<Vec<u8>, ForwardRefusal>
     requires first { All (λ pair. pair.port < limits.ports) first }
     requires inputs { length inputs.now ≡ limits.ports }
-    ensures ran { IfOk result (λ text. IsInputsRun limits first inputs.now lanes text.items) }
+    ensures ran { IfOk result (λ text. IsInputsRun limits first inputs.now shown text.items) }
     ensures refused { IfErr result (RefusesInputsRun limits first inputs.now) }
 {
     let lists = match input_lists(alloc, inputs, faults) {
@@ -89,7 +90,7 @@ fn inputs_text<R: Threads + Wait + Sync, G: Observer, F: Write>(
     };
     observer.begins(frame_count(lists.as_slice()));
     match run_lists(rt, alloc, limits, first, lists, observer) {
-        Ok(report) => report_octets(alloc, limits, &report, lanes, faults),
+        Ok(report) => report_octets(alloc, limits, &report, shown, faults),
         Err(refusal) => Err(refusal),
     }
 }

@@ -1,4 +1,4 @@
-//! What a run is told by: a line for each port, and a line for each lane.
+//! What a run is told by: a line for each port, one for each policy, and one for each lane.
 
 ghost use Rattle.std.specs.Prelude.{◌≡◌, ◌++◌, map, string_bytes, IfOk, OnOk};
 ghost use Rattle.std.specs.List.{count_by};
@@ -13,22 +13,35 @@ ghost use Rattle.gw_run.specs.Forwarding.{
   report_lines,
 };
 
+use crate::policy_lines::push_policies;
 use gw_ledger::{InLedger, Outcome};
 use gw_ports::RunReport;
 use std::alloc::{AllocError, Global};
 
-/// The lines of so many ports, and with `lanes` those of the lanes behind them.
+/// What a run tells behind the lines of its ports.
+#[derive(Clone, Copy, PartialEq, Eq, Debug)]
+pub struct Shown {
+    /// For each port, how many frames its policy judged and let leave, and how many copies of these were lost.
+    pub policies: bool,
+    /// For each lane, how many copies were placed on it, and how many were lost there.
+    pub lanes: bool,
+}
+
+/// The lines of so many ports, and behind them those that are shown of the policies and of the lanes.
 pub(crate) fn report_text(
     alloc: Global,
     ports: u8,
     report: &RunReport,
-    lanes: bool,
+    shown: Shown,
 ) -> Result<String, AllocError>
-    ensures { IfOk result (λ text. string_bytes text ≡ report_lines ports lanes report.now) }
+    ensures { IfOk result (λ text. string_bytes text ≡ report_lines ports shown report.now) }
 {
     let mut text = String::new(alloc);
     push_ports(&mut text, &report.report.ins)?;
-    if lanes {
+    if shown.policies {
+        push_policies(&mut text, ports, &report.outcomes)?;
+    }
+    if shown.lanes {
         push_lanes(&mut text, ports, &report.outcomes)?;
     }
     Ok(text)
@@ -105,7 +118,7 @@ fn placed_to(to: u8, outcomes: &[Outcome]) -> usize
 }
 
 /// How many frames a port's policy passes that were not copied to it.
-fn lost_to(to: u8, outcomes: &[Outcome]) -> usize
+pub(crate) fn lost_to(to: u8, outcomes: &[Outcome]) -> usize
     ensures { result ≡ count_by (is_lost to) outcomes.now }
 {
     outcomes

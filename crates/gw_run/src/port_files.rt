@@ -9,6 +9,7 @@ ghost use Rattle.gw_run.specs.PortInputs.{AreInputsOf, ForwardsFiles, IsInputOf,
 use crate::files::texts;
 use crate::first::first_batch;
 use crate::inputs::{PortInput, forward_inputs};
+use crate::lines::Shown;
 use crate::notes::note_input;
 use crate::observing::Observer;
 use crate::octets::read_trace;
@@ -34,7 +35,7 @@ pub fn forward_files<R: Threads + Wait + Sync + Files, G: Observer, W: Write, F:
     limits: Limits,
     sources: &[PolicySource],
     files: &[Option<&str>],
-    lanes: bool,
+    shown: Shown,
     observer: &G,
     output: &mut Tried<W>,
     faults: &mut Tried<F>,
@@ -42,7 +43,7 @@ pub fn forward_files<R: Threads + Wait + Sync + Files, G: Observer, W: Write, F:
     requires sources { length sources.now ≡ limits.ports }
     requires files { length files.now ≡ limits.ports }
     requires output { has_failed output.old ≡ false }
-    ensures { ForwardsFiles limits sources.now files.now lanes
+    ensures { ForwardsFiles limits sources.now files.now shown
         (W.contents (inner_of output.old)) (W.contents (inner_of output.new)) (has_failed output.new) result }
 {
     let first = match named_batch(rt, alloc, sources, faults) {
@@ -59,7 +60,7 @@ pub fn forward_files<R: Threads + Wait + Sync + Files, G: Observer, W: Write, F:
         limits,
         first,
         inputs.as_slice(),
-        lanes,
+        shown,
         observer,
         output,
         faults,

@@ -14,12 +14,12 @@ returns-then-names_file g c =
       ap (list_any is_some) (sym c.as_slice-files.ensures.value) ∙ sym c.names_file.ensures ∙ c.if-names_file.true,
       refl,
       subst
-          (λ (files : List (Option (Bor (List ℕ)))). ForwardsFiles run.limits run.sources.items files run.lanes
+          (λ (files : List (Option (Bor (List ℕ)))). ForwardsFiles run.limits run.sources.items files run.shown
           (g.W.Write.contents (inner_of c.args.output.now)) (g.W.Write.contents (inner_of c.forward_files.new.output))
           (has_failed c.forward_files.new.output) c.forward_files.result)
           c.as_slice-files.ensures.value
           (subst
-          (λ (sources : List PolicySource). ForwardsFiles run.limits sources c.as_slice-files.result.now run.lanes
+          (λ (sources : List PolicySource). ForwardsFiles run.limits sources c.as_slice-files.result.now run.shown
           (g.W.Write.contents (inner_of c.args.output.now)) (g.W.Write.contents (inner_of c.forward_files.new.output))
           (has_failed c.forward_files.new.output) c.forward_files.result)
           c.as_slice-sources.ensures.value c.forward_files.ensures),
@@ -33,7 +33,7 @@ returns g c =
       taking,
       ap (list_any is_some) (sym c.as_slice-files.ensures.value) ∙ sym c.names_file.ensures ∙ c.if-names_file.false,
       subst
-          (λ (sources : List PolicySource). ForwardsNamed taking run.limits sources run.lanes
+          (λ (sources : List PolicySource). ForwardsNamed taking run.limits sources run.shown
           (g.I.Read.remaining (inner_of c.args.input.now)) (g.I.Read.remaining (inner_of c.forward_named.new.input))
           (has_failed c.forward_named.new.input) (reads_of c.forward_named.new.input)
           (g.W.Write.contents (inner_of c.args.output.now)) (g.W.Write.contents (inner_of c.forward_named.new.output))
