@@ -11,6 +11,7 @@ use Rattle.gw_log.specs.LogFrames.{refusal_number}
 use Rattle.gw_frame.specs.Record as frame
 use Rattle.gw_trace.specs.Refusals as trace
 use Rattle.gw_trace.specs.declared.refusal.TraceRefusal.{TraceRefusal}
+use Rattle.gw_trace.specs.declared.refusal.TraceRefusal.TheVariants as trace_refusal
 use Rattle.gw_trace.specs.declared.refusal.TraceRefusal.TheVariants.{BadRecord}
 use Rattle.gw_judge.specs.declared.capture_fault.CaptureFault.{CaptureFault}
 use Rattle.gw_judge.specs.declared.fate.Fate.{Fate}
@@ -99,14 +100,11 @@ EndsLog fate lines counts by shown strict before after read_failed old new faile
 
 -- ---- captures
 
--- the record of a capture, and the number of what is wrong with it
-abbrev pub capture_details : TraceRefusal → List ℕ
-capture_details (BadRecord index why) = index ∷ frame.refusal_number why ∷ []
-capture_details _ = []
-
--- the line of what ends a capture early
+-- the line of what ends a capture early: of a record that is no frame its index, and the number of what is wrong with it
 abbrev pub capture_line : TraceRefusal → List ℕ
-capture_line why = refused_line (trace.refusal_number why) (capture_details why)
+capture_line (BadRecord index why) = refused_line 93 (index ∷ frame.refusal_number why ∷ [])
+capture_line trace_refusal.OutOfMemory = refused_line 100 []
+capture_line why = refused_line (trace.refusal_number why) []
 
 -- the frames of a capture were judged to its end and counted in these groups, and the counts told
 pub record IsCaptureEnded (fate : List ℕ → Fate) (counts : Tally → List ℕ) (by : Grouping) (first : List ℕ)

@@ -404,15 +404,16 @@ fn fault_line(fault: JudgeFault) -> Line
     }
 }
 
-/// The line of what ends a capture early: its number, and of a record that is no frame its index and what is wrong with it.
+/// The line of what ends a capture early: its number, and of a record that is no frame its index and what is wrong with it. Want
+/// of memory is 100, as of every command.
 fn capture_line(why: TraceRefusal) -> Line
     ensures { result ≡ capture_line why }
 {
-    let number = why.number();
     match why {
         TraceRefusal::BadRecord { index, why } => {
-            refused(number, &[index as u64, u64::from(why.number())])
+            refused(93, &[index as u64, u64::from(why.number())])
         }
-        _ => refused(number, &[]),
+        TraceRefusal::OutOfMemory => refused(100, &[]),
+        _ => refused(why.number(), &[]),
     }
 }

@@ -15,7 +15,7 @@ pub struct CaptureFault {
 
 impl Display for CaptureFault {
     fn fmt<W: fmt::Write>(&self, f: &mut Formatter<W>) -> fmt::Result {
-        write!(f, "{}; {} frames were judged before", self.why, self.judged)
+        write!(f, "{}; frames judged before: {}", self.why, self.judged)
     }
 }
 
