@@ -13,8 +13,7 @@ use Rattle.gw_trace.specs.declared.refusal.TraceRefusal.TheVariants.{OutOfMemory
 use Rattle.gw_trace.specs.FaultKinds.{IsFault}
 use Rattle.gw_trace.specs.Progress.{HasRead, Gives, IsRefused}
 use Rattle.gw_trace.specs.Traces.{reading, ending, whole_trace}
-use Rattle.gw_trace.proofs.Faults.{reading_faults}
-use Rattle.gw_trace.proofs.Resuming.{nothing_read}
+use Rattle.gw_trace.proofs.Callers.{no_frames, faults_of}
 use Rattle.gw_judge.specs.declared.fate.Fate.{Fate}
 use Rattle.gw_judge.specs.declared.tally.Tally.{Tally}
 use Rattle.gw_judge.specs.declared.capture.CaptureJudging.{CaptureJudging}
@@ -31,7 +30,7 @@ pub counted_nothing : (fate : List ℕ → Fate) (p : CaptureJudging) (groups : 
     → HasRead p.trace [] → p.tally ≡ no_tally groups → HasCounted fate [] p
 counted_nothing fate p groups fresh read untold = record {
   read = read;
-  tallied = subst (λ frames. IsTally (map fate frames) p.tally) (sym nothing_read)
+  tallied = subst (λ frames. IsTally (map fate frames) p.tally) (sym no_frames)
       (subst (IsTally []) (sym untold) (none_told groups fresh));
 }
 
@@ -53,7 +52,7 @@ pub refused_at : (fate : List ℕ → Fate) (octets piece : List ℕ) (p : Captu
     → HasCounted fate octets p → IsRefused octets piece fault.why → fault.judged ≡ p.tally.lines
     → Refuses (octets ++ piece) fault
 refused_at fate octets piece p fault h refused judged = record {
-  kind = reading_faults (octets ++ piece) fault.why refused.fault_shows;
+  kind = faults_of (octets ++ piece) fault.why refused.fault_shows;
   refused = ap (λ stage. option_map_or Err (ending stage (reading (octets ++ piece)).rest) (Ok (reading (octets ++ piece)).frames))
       refused.fault_shows;
   judged = judged ∙ lines_of fate octets p.tally h.tallied
@@ -74,7 +73,7 @@ pub ends_refused : (fate : List ℕ → Fate) (octets : List ℕ) (p : CaptureJu
     → Some fault.why ≡ ending (reading octets).stage (reading octets).rest → fault.judged ≡ p.tally.lines
     → Closes fate octets (Err fault)
 ends_refused fate octets p fault h ends judged = (
-  λ why. no_read_fault (reading octets).stage (reading octets).rest (reading_faults octets) (sym (ap Some why) ∙ ends),
+  λ why. no_read_fault (reading octets).stage (reading octets).rest (faults_of octets) (sym (ap Some why) ∙ ends),
   ap (λ e. option_map_or Err e (Ok (reading octets).frames)) (sym ends),
   judged ∙ lines_of fate octets p.tally h.tallied,
 )

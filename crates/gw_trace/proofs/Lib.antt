@@ -1,4 +1,5 @@
 pub mod Beginnings
+pub mod Callers
 pub mod Contents
 pub mod Faults
 pub mod Feeding
