@@ -71,8 +71,7 @@ pub fn run_arguments<'a>(alloc: Global) -> Result<Command<'a>, AllocError> {
     .arg(flag(
         alloc,
         "policies",
-        "Tells behind the ports, for each port, how many frames of the others its policy judged, and passed, and how many \
-        copies of these were lost",
+        "Tells behind the ports how many frames each port's policy judged and passed, and how many copies of these were lost",
     ))
     .arg(flag(
         alloc,

@@ -168,8 +168,7 @@ lines_from ports outcomes from = option_map_or (lane_lines_from from ports) (sli
 unfoldable pub lane_lines : ℕ → List (List Outcome) → List ℕ
 lane_lines ports outcomes = flat_map (lines_from ports outcomes) (range_with_len 0 ports)
 
--- what a port's policy does with a frame of another port: it judges each that is not for its own segment; it passes those that are
--- allowed there; and the copies of some of these are lost
+-- a port's policy judged a frame of another port, since it was not local; passed it; or passed it, and its copy was lost
 abbrev pub is_counted : Counted → ℕ → Outcome → Bool
 is_counted Judged to outcome = not outcome.local
 is_counted Passed to outcome = has_port to outcome.allowed

@@ -1,6 +1,6 @@
 //! What the policies of a run did: a line for each port.
 
-ghost use Rattle.std.specs.Prelude.{◌≡◌, ◌++◌, ◌<◌, length, map, slice_get, string_bytes, OnOk};
+ghost use Rattle.std.specs.Prelude.{◌≡◌, ◌++◌, ◌<◌, length, map, string_bytes, OnOk};
 ghost use Rattle.std.specs.List.{count_by};
 ghost use Rattle.gw_run.specs.Forwarding.{count_from, count_others, is_counted, policy_line, policy_lines};
 
@@ -10,7 +10,7 @@ use std::alloc::AllocError;
 
 /// What is counted for a policy.
 #[derive(Clone, Copy, Debug)]
-pub enum Counted {
+pub(crate) enum Counted {
     /// The frames that it judged.
     Judged,
     /// Those of them that it let leave.
