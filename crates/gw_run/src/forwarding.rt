@@ -43,8 +43,8 @@ use std::sync::Wait;
 use std::thread::Threads;
 
 /// Reads an input, forwards the frames that each port takes of it, under the policies of the ports' sources, and writes what each
-/// port counted, and the lines behind that are `shown`. `texts` has what the files of the sources hold,
-/// port by port. It may wait.
+/// port counted, and behind it the lines that are `shown`. `texts` has what the files of the sources hold, port by port. It may
+/// wait.
 pub fn forward<R: Threads + Wait + Sync, G: Observer, I: Read, W: Write, F: Write>(
     rt: &R,
     alloc: Global,

@@ -43,8 +43,8 @@ pub enum PortInput<'a> {
 }
 
 /// Forwards the frames of the ports' inputs, each port's in their order, under policies from the first frame on, and writes what
-/// each port counted, and the lines behind that are `shown`. The first input that is refused is told: 96
-/// of a file that could not be read, 91 to 93 and 95 of a trace, and 114 of what is neither a log nor a trace. It may wait.
+/// each port counted, and behind it the lines that are `shown`. The first input that is refused is told: 96 of a file that could
+/// not be read, 91 to 93 and 95 of a trace, and 114 of what is neither a log nor a trace. It may wait.
 pub fn forward_inputs<R: Threads + Wait + Sync, G: Observer, W: Write, F: Write>(
     rt: &R,
     alloc: Global,
