@@ -1,4 +1,4 @@
-//! The command `judge`: the lines of a log, as a policy decides them.
+//! The command `judge`: the lines of a log or the frames of a capture, as a policy decides them.
 
 ghost use Rattle.std.specs.Prelude.{◌≡◌, ◌≤◌, ℕ, List, Option, length, true, false};
 ghost use Rattle.std.specs.Io.KnownBytes.{Consumes};
@@ -112,9 +112,11 @@ pub fn judge_named<R: Files, I: Read, W: Write, F: Write>(
     }
 }
 
-/// Judges each line of a log by the policy of a file's text, and writes the lines that are asked for, or the counts of all.
-/// Refused are the policy's text as by the commands `table` and `check`, and a person is told which file it is; 96, a read that failed; and strictly 101 to 113, the first line
-/// that says no classic frame. Where lines are asked for, nothing else is written, and a person is told of the rest.
+/// Judges each line of a log by the policy of a file's text, and writes the lines that are asked for, or the counts of all. An
+/// input that begins with a magic number of classic pcap is a capture: each of its frames is judged, and it has counts alone.
+/// Refused are the policy's text as by the commands `table` and `check`, and a person is told which file it is; 96, a read that
+/// failed; strictly 101 to 113, the first line that says no classic frame; and 91 to 93 and 95, what is wrong with a capture.
+/// Where lines are asked for, nothing else is written, and a person is told of the rest.
 pub fn judge_log<I: Read, W: Write, F: Write>(
     alloc: Global,
     query: LogQuery,
@@ -151,7 +153,7 @@ pub fn judge_log<I: Read, W: Write, F: Write>(
     }
 }
 
-/// Judges each line of a log by a table: by its index, unless memory for that is wanting.
+/// Judges each frame of an input by a table: by its index, unless memory for that is wanting.
 fn judge_table<I: Read, W: Write, F: Write>(
     alloc: Global,
     query: LogQuery,
@@ -175,8 +177,8 @@ fn judge_table<I: Read, W: Write, F: Write>(
     }
 }
 
-/// Judges each line of a log by what decides. `rule_lines` are the lines at which the rules of a table stand, where they are
-/// known. 100 is want of memory for groups that are asked for, before the log is read.
+/// Judges each frame of an input by what decides. `rule_lines` are the lines at which the rules of a table stand, where they are
+/// known. 100 is want of memory for groups that are asked for, before the input is read.
 fn judge_by<D: TellsParts, I: Read, W: Write, F: Write>(
     alloc: Global,
     query: LogQuery,
