@@ -21,7 +21,7 @@ pub fn judge_arguments<'a>(alloc: Global) -> Result<Command<'a>, AllocError> {
     let command = described(
         alloc,
         "judge",
-        "Judges each line of a log of candump by a policy: counts what each rule decided, or writes the lines that pass",
+        "Judges each frame of a log of candump or of a pcap trace: counts what each rule decided, or writes the lines that pass",
         "gw judge (--table FILE | --listing FILE) [--port P] [--by WHAT | --passed | --blocked | --each] [--strict] < LOG",
         "Example: gw judge --table examples/display.toml < examples/traces/diagnostics.log",
     );
