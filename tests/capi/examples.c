@@ -1,5 +1,6 @@
 /*
- * Judges frames by a policy of examples/, a table or a program in assembler text, and counts those whose verdict is the stated one:
+ * Judges frames by a policy of examples/, a table or a program in assembler text, and counts those whose verdict is the stated
+ * one:
  *
  *     examples POLICY < FRAMES
  *

@@ -47,8 +47,8 @@ pub record BeginsAnew (start : Start) (done : List Event) (new : Gateway) : Type
   pub stands : Stands new (all_heard start done) (Publish (policies_in_force start done) ∷ [])
   pub turns : new.turns ≡ replicate 16 0
 
--- How renewing is answered after accepted events, by the first refusal that holds. Whether a policy has too many owners no definition
--- says.
+-- How renewing is answered after accepted events, by the first refusal that holds. No definition says whether a policy has too
+-- many owners.
 abbrev pub RenewsAfter : Start → List Event → Result (Unit {0}) RenewRefusal → Gateway → Type 0
 RenewsAfter start done (Err Busy) new = IsSettled start done → ⊥
 RenewsAfter start done (Err CopiesWait) new = IsSettled start done × (IsDrained start done → ⊥)

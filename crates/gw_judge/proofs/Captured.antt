@@ -53,7 +53,8 @@ pub refused_at : (fate : List ℕ → Fate) (octets piece : List ℕ) (p : Captu
     → Refuses (octets ++ piece) fault
 refused_at fate octets piece p fault h refused judged = record {
   kind = faults_of (octets ++ piece) fault.why refused.fault_shows;
-  refused = ap (λ stage. option_map_or Err (ending stage (reading (octets ++ piece)).rest) (Ok (reading (octets ++ piece)).frames))
+  refused =
+      ap (λ stage. option_map_or Err (ending stage (reading (octets ++ piece)).rest) (Ok (reading (octets ++ piece)).frames))
       refused.fault_shows;
   judged = judged ∙ lines_of fate octets p.tally h.tallied
       ∙ sym (ap (λ (frames : List (List ℕ)). up_to_most (length frames)) refused.nothing);

@@ -112,7 +112,8 @@ returns-in_err-take-clause-part g c begun opened =
     rw (fault.1, fault.2) (stops c.take.result fate front asked.strict
     begun before after (g.W.Write.contents (inner_of c.args.writer.now)) old new
     (has_failed c.next.new.reader) (has_failed c.take.new.writer) c.parts.parts.rest c.next.new.self c.parts.judging
-    c.take.new.self (18446744073709551615 - c.parts.left) c.in_err-take.field-0.0 c.in_err-take.was (c.parts.invariant.way begun opened)
+    c.take.new.self (18446744073709551615 - c.parts.left) c.in_err-take.field-0.0 c.in_err-take.was
+    (c.parts.invariant.way begun opened)
     (met_part before after c.parts.parts.rest c.next.new.self c.in_ok-next.field-0 c.if-not-branch.false
     c.in_ok-next.ensures.part)
     (subst Taken c.part-part.ensures c.take.ensures.taken))
