@@ -6,10 +6,7 @@ ghost use Rattle.gw_io.specs.Tries.{inner_of, has_failed};
 ghost use Rattle.gw_judge.specs.Fates.{fate_of, table_fate};
 ghost use Rattle.gw_judge.specs.Grouped.{no_groups};
 ghost use Rattle.gw_commands.specs.LogCounts.{table_counts, told_counts};
-ghost use Rattle.gw_commands.specs.declared.judge_command.Shown.TheVariants.{Counts};
 ghost use Rattle.gw_commands.specs.Judgings.{
-  CountsCapture,
-  EndsCapture,
   EndsInput,
   EndsLog,
   JudgesGroups,
@@ -17,15 +14,15 @@ ghost use Rattle.gw_commands.specs.Judgings.{
   JudgesNamed,
   TellsCounts,
   TellsEnd,
-  capture_line,
   fault_line,
   wanted_of,
 };
 
 use crate::answer::Answer;
+use crate::capture_command::judge_frames;
 use crate::files::read_file;
 use crate::log_counts::{TellsParts, told_text};
-use crate::notes::{note_file, note_no_frames, note_no_lines, note_no_log, note_refused_lines};
+use crate::notes::{note_file, note_no_log, note_refused_lines};
 use crate::refusal::Refusal;
 use crate::responding::{respond, write_refusal};
 use crate::stated::StatedTable;
@@ -33,12 +30,10 @@ use crate::texts::program;
 use gw_input::{Line, refused};
 use gw_io::{ReadFault, Tried};
 use gw_judge::{
-    Asked, Grouping, Groups, Head, JudgeFault, Named, Opening, Tally, Wanted, judge_capture,
-    judge_opened,
+    Asked, Grouping, Groups, Head, JudgeFault, Named, Opening, Tally, Wanted, judge_opened,
 };
 use gw_policy::Policy;
 use gw_table::IndexedTable;
-use gw_trace::TraceRefusal;
 use std::alloc::{AllocError, Global};
 use std::io::{Read, Write};
 use std::rt::Files;
@@ -65,10 +60,10 @@ pub enum Shown {
 
 /// What judges a log.
 #[derive(Clone, Copy)]
-struct LogPolicy<'a, D> {
-    decider: &'a D,
+pub(crate) struct LogPolicy<'a, D> {
+    pub(crate) decider: &'a D,
     /// The lines at which the rules of a table stand, where they are known.
-    rule_lines: &'a [usize],
+    pub(crate) rule_lines: &'a [usize],
 }
 
 /// What is asked of a log.
@@ -236,65 +231,6 @@ fn judge_grouped<D: TellsParts, I: Read, W: Write, F: Write>(
     }
 }
 
-/// Judges each frame of a capture, of which these first octets were read before. It has no lines: where they are asked for, a
-/// person is told so.
-fn judge_frames<D: TellsParts, I: Read, W: Write, F: Write>(
-    alloc: Global,
-    query: LogQuery,
-    policy: LogPolicy<D>,
-    groups: Groups,
-    first: &[u8],
-    input: &mut Tried<I>,
-    output: &mut Tried<W>,
-    faults: &mut Tried<F>,
-) -> u8
-    requires input { has_failed input.old ≡ false }
-    requires output { has_failed output.old ≡ false }
-    requires groups { groups ≡ no_groups query.by }
-    ensures { EndsCapture (D.fate_by policy.entry.decider.now query.port)
-        (D.counts_by policy.entry.decider.now policy.entry.rule_lines.now) query.by query.shown first.now
-        (I.remaining (inner_of input.old)) (I.remaining (inner_of input.new)) (has_failed input.new)
-        (W.contents (inner_of output.old)) (W.contents (inner_of output.new)) (has_failed output.new) result }
-{
-    match query.shown {
-        Shown::Counts => count_frames(alloc, query, policy, groups, first, input, output, faults),
-        Shown::Passed | Shown::Blocked | Shown::Each => {
-            note_no_lines(faults);
-            1
-        }
-    }
-}
-
-/// Counts each frame of a capture, of which these first octets were read before.
-fn count_frames<D: TellsParts, I: Read, W: Write, F: Write>(
-    alloc: Global,
-    query: LogQuery,
-    policy: LogPolicy<D>,
-    groups: Groups,
-    first: &[u8],
-    input: &mut Tried<I>,
-    output: &mut Tried<W>,
-    faults: &mut Tried<F>,
-) -> u8
-    requires input { has_failed input.old ≡ false }
-    requires output { has_failed output.old ≡ false }
-    requires groups { groups ≡ no_groups query.by }
-    requires counts { query.shown ≡ Counts }
-    ensures { CountsCapture (D.fate_by policy.entry.decider.now query.port)
-        (D.counts_by policy.entry.decider.now policy.entry.rule_lines.now) query.by first.now
-        (I.remaining (inner_of input.old)) (I.remaining (inner_of input.new)) (has_failed input.new)
-        (W.contents (inner_of output.old)) (W.contents (inner_of output.new)) (has_failed output.new) result }
-{
-    let (decider, port) = (policy.decider, query.port);
-    match judge_capture(alloc, decider, port, groups, first, input) {
-        Ok(tally) => {
-            note_no_frames(&tally, faults);
-            tell_counts(alloc, query, policy, &tally, output, faults)
-        }
-        Err(fault) => write_refusal(capture_line(fault.why).as_bytes(), &fault, output, faults),
-    }
-}
-
 /// Judges each line of a log, of which these first octets were read before.
 fn judge_lines<D: TellsParts, I: Read, W: Write, F: Write>(
     alloc: Global,
@@ -353,7 +289,7 @@ fn wanted(shown: Shown) -> Wanted
 }
 
 /// Writes the counts, where they are asked for.
-fn tell_counts<D: TellsParts, W: Write, F: Write>(
+pub(crate) fn tell_counts<D: TellsParts, W: Write, F: Write>(
     alloc: Global,
     query: LogQuery,
     policy: LogPolicy<D>,
@@ -403,19 +339,5 @@ fn fault_line(fault: JudgeFault) -> Line
     match fault {
         JudgeFault::Refused(at) => refused(number, &[at.line]),
         _ => refused(number, &[]),
-    }
-}
-
-/// The line of what ends a capture early: its number, and of a record that is no frame its index and what is wrong with it. Want
-/// of memory is 100, as of every command.
-fn capture_line(why: TraceRefusal) -> Line
-    ensures { result ≡ capture_line why }
-{
-    match why {
-        TraceRefusal::BadRecord { index, why } => {
-            refused(93, &[index as u64, u64::from(why.number())])
-        }
-        TraceRefusal::OutOfMemory => refused(100, &[]),
-        _ => refused(why.number(), &[]),
     }
 }

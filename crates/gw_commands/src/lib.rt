@@ -5,6 +5,7 @@ mod answer;
 mod answer_lines;
 mod ask_command;
 mod asm_command;
+mod capture_command;
 mod check_command;
 mod claims_command;
 mod crossing_lines;

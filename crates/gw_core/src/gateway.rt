@@ -11,17 +11,18 @@ ghost use Rattle.gw_core.specs.Forwarding.{CoreForwards, ForwardsFrame, forwarde
 ghost use Rattle.gw_core.specs.Circle.{SendsNext, PeeksNext, FindsSource, FindsFirst, Waits};
 ghost use Rattle.gw_core.specs.declared.event.Event.{Event};
 
-use crate::active::{PairIndex, PairIndices, owner_at};
+use crate::active::PairIndices;
 use crate::event::{Answer, Event, EventRefusal};
+use crate::in_force::{indices_with, policies_in_force};
 use crate::laws::{finished_frames_were_forwarded, steps_are_safe};
 use crate::refusal::{OutOfMemory, RenewRefusal};
+use crate::renewing::{any_copy, any_frame, renew_all};
 use crate::worker::Worker;
 use gw_frame::Frame;
 use gw_ledger::{FrameCopy, InLedger, Limits, MAX_PORTS, OutLedger, Outcome};
-use gw_policy::{Batch, Policy};
+use gw_policy::Batch;
 use std::alloc::{AllocError, Global};
 use std::marker::Model;
-use std::sync::Arc;
 
 /// A gateway as one machine, whose events are the single steps of its actors: the operator, the ports' workers and the
 /// senders. What it holds after any list of events is what the definitions give for that list.
@@ -286,33 +287,6 @@ impl Core {
     }
 }
 
-ghost use Rattle.std.specs.Prelude.{MatchOption, true, false};
-ghost use Rattle.gw_policy.specs.Batches.{Pair};
-ghost use Rattle.gw_core.specs.Events.{names_no_port};
-ghost use Rattle.gw_core.specs.Gateway.{IndicesWith};
-
-/// Where the policies in force stand once a batch is published as the one of this index, or none where the batch
-/// names a port that is not there.
-fn indices_with(batch: &Batch, ports: u32, index: usize, latest: PairIndices) -> Option<PairIndices>
-    requires { ports ≤ 16 }
-    ensures { MatchOption result (names_no_port ports batch.now ≡ true)
-        (λ indices. (names_no_port ports batch.now ≡ false) × IndicesWith batch.now index latest indices) }
-{
-    let mut indices = latest;
-    for pair in 0..batch.len() {
-        let Some((port, policy)) = batch.pair(pair) else {
-            unreachable!()
-        };
-        // A policy's program is accepted, and means what its table does.
-        let _program = policy.program();
-        if u32::from(port) >= ports {
-            return None;
-        }
-        indices[usize::from(port)] = Some(PairIndex { batch: index, pair });
-    }
-    Some(indices)
-}
-
 impl Core {
     ghost use Rattle.std.specs.Prelude.{MatchResult};
     ghost use Rattle.gw_core.specs.Runs.{RunsTo, ForEachAnswer};
@@ -379,8 +353,10 @@ impl Core {
 }
 
 impl Core {
+    ghost use Rattle.std.specs.Prelude.{false};
+    ghost use Rattle.std.specs.List.{list_any};
     ghost use Rattle.gw_core.specs.Gateway.{StandsAt};
-    ghost use Rattle.gw_core.specs.Renewing.{Renews, all_heard};
+    ghost use Rattle.gw_core.specs.Renewing.{Renews, all_heard, holds_copy};
 
     /// Begins anew, so that batches, frames and copies are counted from 0 again: the policies in force are the first batch, and
     /// the claims stay. It is refused, and changes nothing, where a frame is unfinished (73), then where a copy waits (126), then
@@ -420,63 +396,6 @@ impl Core {
         self.latest = [None; MAX_PORTS];
         self.turns = [0; MAX_PORTS];
     }
-}
-
-ghost use Rattle.std.specs.Prelude.{map, option_map};
-ghost use Rattle.gw_core.specs.Standing.{AreFound};
-ghost use Rattle.std.specs.List.{list_any};
-ghost use Rattle.gw_core.specs.Renewing.{holds_frame, holds_copy, renewed, pair_if, policies_below};
-
-/// Whether a worker holds a frame that is not finished.
-fn any_frame(workers: &[Worker]) -> bool
-    ensures { result ≡ list_any holds_frame workers.now }
-{
-    workers.iter().any(|worker| worker.holds_frame())
-}
-
-/// Whether a copy waits for a port.
-fn any_copy(workers: &[Worker]) -> bool
-    ensures { result ≡ list_any holds_copy workers.now }
-{
-    workers.iter().any(|worker| worker.holds_copy())
-}
-
-/// Lets each worker count from 0 again.
-fn renew_all(workers: &mut Vec<Worker>)
-    ensures { workers.new.items ≡ map renewed workers.old.items }
-{
-    for port in 0..workers.len() {
-        workers[port].renew();
-    }
-}
-
-/// The policies in force for the ports below a number, as a batch, or none where a policy has too many owners.
-fn policies_in_force(batches: &[Batch], latest: &PairIndices, ports: u8) -> Option<Batch>
-    requires { ports ≤ 16 }
-    ensures { IfSome result (λ batch. (published : List (List Pair)) → AreFound batches.now latest.now published
-        → batch ≡ policies_below published ports) }
-{
-    let mut batch = Batch::new();
-    for port in 0..ports {
-        let owner = owner_at(batches, latest[usize::from(port)]);
-        if !join(&mut batch, port, owner) {
-            return None;
-        }
-    }
-    Some(batch)
-}
-
-/// Joins a policy to a batch for a port, if there is one, unless it has too many owners.
-fn join(batch: &mut Batch, port: u8, owner: Option<&Arc<Policy>>) -> bool
-    ensures { result ≡ true → batch.new ≡ batch.old ++ pair_if port (option_map (λ one. one.now.value) owner.entry) }
-{
-    let Some(owner) = owner else {
-        return true;
-    };
-    let Ok(more) = Arc::try_clone(owner) else {
-        return false;
-    };
-    batch.add(port, more).is_ok()
 }
 
 // The gateway, or that the memory for it was refused: room for every batch, and for the copies of every lane.

@@ -5,7 +5,7 @@ use Rattle.gw_policy.specs.Batches.{Pair}
 use Rattle.gw_core.specs.Events.{names_no_port}
 use Rattle.gw_core.specs.Turns.{index_in}
 use Rattle.gw_core.specs.Gateway.{last_index}
-use Rattle.gw_core.proofs.gateway.indices_with.Given as goal
+use Rattle.gw_core.proofs.in_force.indices_with.Given as goal
 
 abbrev pub invariant-loop-pair : goal.invariant-loop-pair
 invariant-loop-pair l = record {

@@ -4,7 +4,7 @@ use Rattle.std.specs.Prelude.{slice_set}
 use Rattle.gw_core.specs.Standing.{Worker}
 use Rattle.gw_core.specs.Renewing.{renewed}
 use Rattle.gw_core.proofs.Renewals.{one_renewed}
-use Rattle.gw_core.proofs.gateway.renew_all.Goals as goal
+use Rattle.gw_core.proofs.renewing.renew_all.Goals as goal
 
 pub loop-port-preserved : goal.loop-port-preserved
 loop-port-preserved c =

@@ -1,6 +1,6 @@
 use Rattle.std.proofs.Common.{◌≡◌, ◌++◌, length, map, take, drop}
 use Rattle.gw_core.specs.Renewing.{renewed}
-use Rattle.gw_core.proofs.gateway.renew_all.Given as goal
+use Rattle.gw_core.proofs.renewing.renew_all.Given as goal
 
 abbrev pub invariant-loop-port : goal.invariant-loop-port
 invariant-loop-port l = record {

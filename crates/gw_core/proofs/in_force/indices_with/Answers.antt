@@ -7,7 +7,7 @@ use Rattle.std.proofs.lemmas.Option.{slice_get_within}
 use Rattle.gw_core.specs.Events.{names_no_port}
 use Rattle.gw_core.specs.Turns.{index_in}
 use Rattle.gw_core.specs.Gateway.{last_index}
-use Rattle.gw_core.proofs.gateway.indices_with.Goals as goal
+use Rattle.gw_core.proofs.in_force.indices_with.Goals as goal
 
 pub returns-then-from-ports : goal.returns-then-from-ports
 returns-then-from-ports c =
