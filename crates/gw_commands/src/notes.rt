@@ -91,8 +91,8 @@ pub fn note_program<F: Write>(alloc: Global, text: &[u8], faults: &mut Tried<F>)
     if read_listing(alloc, text).is_ok() {
         let _ = writeln!(
             faults,
-            "gw: it lists a program, which may read the payload, so it is not compared over every frame; `gw judge --listing FILE` \
-            judges a log by it"
+            "gw: it lists a program, which may read the payload, so it is not compared over every frame; \
+            `gw judge --listing FILE` judges a log by it"
         );
     }
 }

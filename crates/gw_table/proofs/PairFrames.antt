@@ -125,7 +125,8 @@ whole octets port table ranges fits of =
     subst (λ r. matches octets port r ≡ true) (some_is _ ranges of)
     (all_from _ _ _ _ (inside (parameter_group word) _ (omega arith) (group_fits word))
     (inside (source_address word) _ (omega arith) (omega arith))
-    (inside (destination_address word) _ (omega arith) (destination_fits word)) (inside port _ (omega arith) (omega (arith, fits))))
+    (inside (destination_address word) _ (omega arith) (destination_fits word))
+    (inside port _ (omega arith) (omega (arith, fits))))
 
 module _ (table : Meaning) (octets : List ℕ) (port : ℕ) where
   pub holds_where_it_decides : (by : Part) (ranges : Rule) → ranges_of table by ≡ Some ranges → port < 16
