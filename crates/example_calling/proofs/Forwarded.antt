@@ -173,7 +173,8 @@ module _ (first second : List Pair) (frames : List (List ℕ)) (operator : Publi
     apart.none_yet.1,
   )
 
-  pub run_refused : (fault : Fault) → IsRunFault ends second fault → IsForwardingFault first second frames fault
+  pub run_refused : (fault : Fault) → IsRunFault ends.operator ends.feed second fault
+      → IsForwardingFault first second frames fault
   run_refused (Record why) refuses = absurd refuses
   run_refused (Listing why) refuses = absurd refuses
   run_refused (Program why place) refuses = absurd refuses
@@ -195,13 +196,13 @@ module _ (first second : List Pair) (frames : List (List ℕ)) (operator : Publi
   module _ (after : Ends) (ran : HaveRun ends second after) where
     both : after.operator.published ≡ first ∷ second ∷ []
     both =
-        ap (λ (o : Publishing). o.published) ran.published
+        ap (λ (o : Publishing). o.published) ran.met.published
         ∙ ap (λ (o : Publishing). o.published ++ second ∷ []) (apart.operator_is ∙ opened.published)
 
     offers : Offers [] ends.feed.port frames after.feed.outcomes.items after.feed.port
     offers =
         subst (λ (l : List (List ℕ)). Offers [] ends.feed.port l after.feed.outcomes.items after.feed.port)
-        apart.frames_are ran.offered.offers
+        apart.frames_are ran.met.offered.offers
 
     own : ends.feed.port.port ≡ 0
     own = ap (λ (i : Ingress). i.port) told_is ∙ new_at_0.number
@@ -240,7 +241,7 @@ module _ (first second : List Pair) (frames : List (List ℕ)) (operator : Publi
     inlet : (x : Inlet) × (after.feed.port.lanes ≡ None ∷ Some x ∷ [])
     inlet =
         inlet_by_ring after.feed.port.lanes lanes_0.0.ring
-        (ap (λ (e : EndIn). e.rings) (ran.offered.same ∙ ap end_in apart.told) ∙ ap (map ring_to) lanes_0.1)
+        (ap (λ (e : EndIn). e.rings) (ran.met.offered.same ∙ ap end_in apart.told) ∙ ap (map ring_to) lanes_0.1)
 
     unused : idle.port_out.lanes ≡ None ∷ Some (new_outlet lanes_1.0) ∷ []
     unused =

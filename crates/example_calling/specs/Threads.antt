@@ -91,10 +91,19 @@ pub record HasSent (before after : Drain) : Type 0 where
   pub sent : taken_out after.port ≡ taken_out before.port ++ after.copies.items
   pub same : end_out after.port ≡ end_out before.port
 
--- frames were offered and copies taken out, and the batch was published
+-- the operator once it published the batch
+abbrev pub with_batch : Publishing → List Pair → Publishing
+with_batch operator batch = record operator { published = operator.published ++ batch ∷ [] }
+
+-- the batch was published, and frames were offered
+pub record HaveMet (operator : Publishing) (feed : Feed) (batch : List Pair) (operator' : Publishing) (feed' : Feed)
+    : Type 0 where
+  pub published : operator' ≡ with_batch operator batch
+  pub offered : HasOffered feed feed'
+
+-- the same, and copies were taken out
 pub record HaveRun (before : Ends) (batch : List Pair) (after : Ends) : Type 0 where
-  pub published : after.operator ≡ record before.operator { published = before.operator.published ++ batch ∷ [] }
-  pub offered : HasOffered before.feed after.feed
+  pub met : HaveMet before.operator before.feed batch after.operator after.feed
   pub sent : HasSent before.drain after.drain
 
 -- of the lanes, that from port 0 to port 1 and the other one: the copies that were placed on the first were taken out or are
@@ -126,11 +135,11 @@ IsOpenFault first (NotPublished why) = (board : Board) × (after : Publishing) �
 IsOpenFault first _ = ⊥
 
 -- what is refused: a thread, the batch, or a frame
-abbrev pub IsRunFault : Ends → List Pair → Fault → Type 0
-IsRunFault ends batch NoThread = Unit {0}
-IsRunFault ends batch (NotPublished why) = (after : Publishing) × Refuses ends.operator batch why after
-IsRunFault ends batch (NotTaken why) = IsOfferFault ends.feed (NotTaken why)
-IsRunFault ends batch _ = ⊥
+abbrev pub IsRunFault : Publishing → Feed → List Pair → Fault → Type 0
+IsRunFault operator feed batch NoThread = Unit {0}
+IsRunFault operator feed batch (NotPublished why) = (after : Publishing) × Refuses operator batch why after
+IsRunFault operator feed batch (NotTaken why) = IsOfferFault feed (NotTaken why)
+IsRunFault operator feed batch _ = ⊥
 
 -- what is refused: memory for the parts, or the close
 abbrev pub IsClosingFault : Fault → Type 0

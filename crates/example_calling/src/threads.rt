@@ -1,19 +1,21 @@
-//! The ends of a gateway in threads of the caller's own: one offers frames, one takes their copies out, and the calling thread
-//! replaces a policy meanwhile.
+//! The ends of a gateway in threads of the caller's own: one offers frames, one takes their copies out, and one replaces a policy
+//! meanwhile.
 
-ghost use Rattle.std.specs.Prelude.{◌≡◌, ◌⊎◌, ◌++◌, ◌∷◌, [], Ok, Err, IfOk, IfErr, MatchBool, vec_len, All};
+ghost use Rattle.std.specs.Prelude.{◌≡◌, ◌⊎◌, ◌++◌, ◌∷◌, [], Ok, Err, IfOk, IfErr, MatchBool, MatchResult, vec_len, All};
 ghost use Rattle.j1939_gateway.specs.PortEnds.{end_out};
 ghost use Rattle.j1939_gateway.specs.Making.{AreOfOneGateway};
 ghost use Rattle.j1939_gateway.specs.Closing.{Closes};
 ghost use Rattle.j1939_gateway.specs.Sending.{Sends};
 ghost use Rattle.j1939_gateway.specs.MakeRefusal.{MakeRefusal};
 ghost use Rattle.example_calling.specs.declared.fault.Fault.TheVariants.{NotMade, OutOfMemory};
+ghost use Rattle.example_calling.specs.Replacing.{IsNotPublished};
 ghost use Rattle.example_calling.specs.Threads.{
   AreApart,
   CanOffer,
   CanStart,
   HasOffered,
   HasSent,
+  HaveMet,
   HaveRun,
   IsClosingFault,
   IsForwarded,
@@ -22,6 +24,7 @@ ghost use Rattle.example_calling.specs.Threads.{
   IsOpen,
   IsOpenFault,
   IsRunFault,
+  with_batch,
 };
 
 use crate::fault::Fault;
@@ -81,8 +84,8 @@ struct Idle {
 }
 
 /// Forwards frames from port 0 to port 1 of a new gateway. The first batch is in force at the first of them. One thread offers
-/// the frames, another takes copies out, and the second batch is published meanwhile: which of the frames it judges depends on
-/// the schedule. Once the threads are joined, the gateway is closed. It may wait.
+/// the frames, another takes copies out, and a third publishes the second batch meanwhile: which of the frames it judges depends
+/// on the schedule. Once the threads are joined, the gateway is closed. It may wait.
 pub fn forward_in_threads<R: Threads + Wait + Sync>(
     rt: &R,
     alloc: Global,
@@ -210,8 +213,20 @@ impl Promise<Drain> for DrainPromise {
     ghost kept_by = { λ p done. HasSent p.0.value done };
 }
 
-/// Starts the threads, publishes the batch while they run, and joins them. Copies are taken out until no frame is offered any
-/// more and none waits.
+// What is known of a thread that published a batch.
+#[derive(Drop)]
+struct OperatorPromise(Snapshot<Operator>, Snapshot<Batch>);
+
+impl Promise<(Operator, Result<(), Fault>)> for OperatorPromise {
+    ghost use Rattle.std.specs.Prelude.{◌≡◌, MatchResult};
+    ghost use Rattle.example_calling.specs.Replacing.{IsNotPublished};
+    ghost use Rattle.example_calling.specs.Threads.{with_batch};
+
+    ghost kept_by = { λ p done.
+        MatchResult done.1 (λ u. done.0 ≡ with_batch p.0.value p.1.value) (IsNotPublished p.0.value p.1.value) };
+}
+
+/// Starts a thread for each end, and joins them. Copies are taken out until no frame is offered any more and none waits.
 fn run_ends<'s, E, R: Threads + Wait + Sync>(
     threads: &'s Scope<'s, E>,
     rt: &'s R,
@@ -221,10 +236,10 @@ fn run_ends<'s, E, R: Threads + Wait + Sync>(
 ) -> Result<Ends, Fault>
     requires { CanStart ends }
     ensures ran { IfOk result (HaveRun ends batch) }
-    ensures refused { IfErr result (IsRunFault ends batch) }
+    ensures refused { IfErr result (IsRunFault ends.operator ends.feed batch) }
 {
     let Ends {
-        mut operator,
+        operator,
         feed,
         drain,
     } = ends;
@@ -237,6 +252,29 @@ fn run_ends<'s, E, R: Threads + Wait + Sync>(
     ) else {
         return Err(Fault::NoThread);
     };
+    let met = replace_meanwhile(threads, rt, operator, feed, batch);
+    is_over.store(true, Ordering::SeqCst);
+    let drain = sending.join(rt);
+    let (operator, feed) = met?;
+    Ok(Ends {
+        operator,
+        feed,
+        drain,
+    })
+}
+
+/// Starts a thread that offers the frames and one that publishes the batch, and joins both.
+fn replace_meanwhile<'s, E, R: Threads + Wait + Sync>(
+    threads: &'s Scope<'s, E>,
+    rt: &'s R,
+    operator: Operator,
+    feed: Feed,
+    batch: Batch,
+) -> Result<(Operator, Feed), Fault>
+    requires { CanOffer feed }
+    ensures met { IfOk result (λ met. HaveMet operator feed batch met.0 met.1) }
+    ensures refused { IfErr result (IsRunFault operator feed batch) }
+{
     let promise = FeedPromise(Snapshot::of(&feed));
     let Ok(offering) = threads.spawn_with(
         promise,
@@ -244,33 +282,43 @@ fn run_ends<'s, E, R: Threads + Wait + Sync>(
             requires { CanOffer feed }
         { offer_all(feed) },
     ) else {
-        is_over.store(true, Ordering::SeqCst);
         return Err(Fault::NoThread);
     };
-    let published = publish(rt, &mut operator, batch);
-    let offered = offering.join(rt);
-    is_over.store(true, Ordering::SeqCst);
-    put_together(operator, published, offered, sending.join(rt))
+    let promise = OperatorPromise(Snapshot::of(&operator), Snapshot::of(&batch));
+    let Ok(replacing) = threads.spawn_with(promise, move || -> (Operator, Result<(), Fault>) {
+        replace_policies(rt, operator, batch)
+    }) else {
+        return Err(Fault::NoThread);
+    };
+    let (operator, published) = replacing.join(rt);
+    put_together(operator, published, offering.join(rt))
 }
 
-/// The ends that the threads hand back, unless the batch or a frame was refused.
+/// What the two threads hand back, unless the batch or a frame was refused.
 fn put_together(
     operator: Operator,
     published: Result<(), Fault>,
     offered: Result<Feed, Fault>,
-    drain: Drain,
-) -> Result<Ends, Fault>
-    ensures ran { IfOk result (λ ends. (ends.operator ≡ operator) × (published ≡ Ok (record {}))
-        × (offered ≡ Ok ends.feed) × (ends.drain ≡ drain)) }
+) -> Result<(Operator, Feed), Fault>
+    ensures met { IfOk result (λ met. (met.0 ≡ operator) × (published ≡ Ok (record {})) × (offered ≡ Ok met.1)) }
     ensures refused { IfErr result (λ fault. (published ≡ Err fault) ⊎ (offered ≡ Err fault)) }
 {
     published?;
     let feed = offered?;
-    Ok(Ends {
-        operator,
-        feed,
-        drain,
-    })
+    Ok((operator, feed))
+}
+
+/// Publishes the batch, and hands the operator back. It waits for ports that are reading.
+fn replace_policies<R: Wait>(
+    rt: &R,
+    operator: Operator,
+    batch: Batch,
+) -> (Operator, Result<(), Fault>)
+    ensures { MatchResult result.1 (λ done. result.0 ≡ with_batch operator batch) (IsNotPublished operator batch) }
+{
+    let mut held = operator;
+    let published = publish(rt, &mut held, batch);
+    (held, published)
 }
 
 /// Offers the frames in order, up to one that is refused.

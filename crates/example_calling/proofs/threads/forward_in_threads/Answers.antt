@@ -18,7 +18,8 @@ scoped-requires g c =
 pub returns-in_err-ends-2-clause-refused : goal.returns-in_err-ends-2-clause-refused
 returns-in_err-ends-2-clause-refused g c =
     let parts = c.in_ok-parts.parts in
-    let refused : IsRunFault c.in_ok-ends.ends c.args.second c.in_err-ends-2.field-0.0 = search rules in
+    let ends = c.in_ok-ends.ends in
+    let refused : IsRunFault ends.operator ends.feed c.args.second c.in_err-ends-2.field-0.0 = search rules in
     passed_on (IsForwardingFault c.args.first c.args.second c.args.frames.items) c.in_err-ends-2.field-0.0
     c.from_residual-in_err-ends-2.result c.from_residual-in_err-ends-2.ensures
     (run_refused c.args.first c.args.second c.args.frames.items parts.operator parts.ins.items parts.outs.items
