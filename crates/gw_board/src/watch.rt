@@ -100,7 +100,8 @@ impl Watch {
         self.known.len()
     }
 
-    /// Advances to the newer of two policy versions: the one that it knows, and the one that it is told.
+    /// Advances to the newer of two policy versions: the one that it knows, and the one that it is told. It takes the batches in
+    /// here, so that the next reading need not.
     pub fn learn(&mut self, told: &Told)
         requires { told.now.board ≡ self.old.board }
         ensures board { self.new.board ≡ self.old.board }
@@ -109,6 +110,9 @@ impl Watch {
         ensures told { IsPrefix told.now.batches self.new.batches }
     {
         self.known = self.known.longer(&told.list);
+        let count = self.len();
+        // What is refused here is tried again at the next reading.
+        let _ = self.catch_up(count);
     }
 
     /// Enters the board, and calls `f` once on the policies that are shown then, or on newer ones that it was told. It never goes
