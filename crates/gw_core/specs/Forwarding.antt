@@ -1,18 +1,20 @@
 -- What becomes of a frame that is taken and makes all of its steps in one call. A history has the newest event first.
 use Rattle.std.specs.Prelude.{◌≡◌, ℕ, zero, suc, ◌<◌, true, false, List, [], ◌∷◌, ◌++◌, replicate, length}
-use Rattle.std.specs.Prelude.{Bool, ◌+◌, slice_index_or, Option, Some, None, Result, Ok, Err}
+use Rattle.std.specs.Prelude.{Bool, ◌+◌, slice_index_or, if◌then◌else◌, Option, Some, None, Result, Ok, Err}
 use Rattle.gw_policy.specs.Batches.{Pair}
 use Rattle.gw_ledger.specs.declared.outcome.Outcome.{Outcome}
 use Rattle.gw_core.specs.Start.{Start, Heard, begun}
 use Rattle.gw_core.specs.PortHistory.{PortEvent, frame_taken, step_made, batches, Ingress, ingress_of, is_unfinished}
 use Rattle.gw_core.specs.Events.{history_of, accepted, reply, take_refusal, take_answer, step_answer}
-use Rattle.gw_core.specs.Standing.{Worker, WorkerStands, AreFound, ingress}
+use Rattle.gw_core.specs.Standing.{Worker, WorkerStands, AreFound, AnswersTake, ingress}
 use Rattle.gw_core.specs.Gateway.{Gateway, Stands}
 use Rattle.gw_claims.specs.Claims.{is_local}
+use Rattle.gw_claims.specs.Holders.{HoldsAfter}
 use Rattle.gw_core.specs.LaneView.{LaneView}
 use Rattle.gw_core.specs.PortHistory.{ever_heard, taking, work_from, work_left, waiting}
-use Rattle.gw_core.specs.Standing.{SoFar, has_room, lane_with, active_placed, copy_from}
+use Rattle.gw_core.specs.Standing.{SoFar, has_room, lane_with}
 use Rattle.gw_core.specs.declared.active.Active.{Active}
+use Rattle.gw_core.specs.declared.judging.Judging.{Judging}
 use Rattle.gw_core.specs.Headline.{WasForwarded}
 use Rattle.gw_core.specs.declared.active.PairIndex.{PairIndex}
 use Rattle.gw_core.specs.declared.event.Event.{Event}
@@ -80,36 +82,56 @@ pub record CanForward (all : List (List Pair)) (w : Worker) (indices : List (Opt
   pub found : AreFound all indices (batches done)
   pub published : front ≡ length (batches done)
 
--- the frame that a worker holds after a history makes so many steps and one more, which is its last
-pub record FinishesBy (all : List (List Pair)) (w : Worker) (o : Outcome) (new : Worker) (done : List PortEvent) (n : ℕ) : Type 0
-  where
-    pub unfinished : (k : ℕ) → k < suc n → is_unfinished (ingress w) (replicate k step_made ++ done) ≡ true
-    pub told : step_answer (ingress w) (replicate n step_made ++ done) ≡ Finished o
-    pub stands : WorkerStands all new (replicate (suc n) step_made ++ done)
-
--- A worker took a frame, which was judged for the ports below one in one call: so many steps were made for it, those of the work
--- for these ports, and lanes hold what these steps placed.
-pub record Judged (all : List (List Pair)) (w : Worker) (frame : List ℕ) (done : List PortEvent) (port : ℕ) (a : Active)
-    (lanes : List LaneView) : Type 0 where
-  pub stands : WorkerStands all w (frame_taken frame ∷ done)
+-- a foreign frame was heard and counted, and is not finished
+pub record HeardForeign (old new : Worker) (done : List PortEvent) (frame : List ℕ) : Type 0 where
+  pub idle : old.active ≡ None
+  pub more : old.taken < old.limits.frames
   pub foreign : is_local (ever_heard done) frame ≡ false
-  pub indices : AreFound all a.indices (batches done)
+  pub claims : HoldsAfter new.claims (frame ∷ ever_heard done)
+  pub becomes : new ≡ record old { claims = new.claims; taken = old.taken + 1 }
+
+-- a worker refuses a frame as its taking is refused, or tells whether the frame is local; a local one is taken and finished
+abbrev pub Admits : List (List Pair) → Worker → Result Bool EventRefusal → Worker → List PortEvent → List ℕ → ℕ → Type 0
+Admits all old (Err why) new done frame front = AnswersTake all old (Err why) new done frame
+Admits all old (Ok true) new done frame front = AnswersTake all old (Ok (Taken old.taken front true)) new done frame
+Admits all old (Ok false) new done frame front = HeardForeign old new done frame
+
+-- a frame that is judged in one call, as the worker would hold it that makes one step after another
+abbrev pub held_by : Judging → Active
+held_by j = record {
+  frame = j.copy.frame;
+  number = j.copy.number;
+  front = j.front;
+  indices = [];
+  allowed = j.allowed;
+  placed = j.placed;
+  port = 0;
+  running = None;
+}
+
+-- A worker heard a foreign frame, which was judged for the ports below one in one call: so many steps were made for it, those of the
+-- work for these ports, and lanes hold what these steps placed.
+pub record Judged (all : List (List Pair)) (w : Worker) (indices : List (Option PairIndex)) (frame : List ℕ) (done : List PortEvent)
+    (port : ℕ) (j : Judging) (lanes : List LaneView) : Type 0 where
+  pub stands : WorkerStands all w done
+  pub foreign : is_local (ever_heard done) frame ≡ false
+  pub found : AreFound all indices (batches done)
+  pub source : j.copy.from ≡ w.own
   pub steps : ℕ
   pub count : steps + length (work_from (ingress w) (taking frame done) port)
       ≡ length (work_from (ingress w) (taking frame done) 0)
   pub left : work_left (ingress w) (port_forwarded steps frame done) ≡ work_from (ingress w) (taking frame done) port
-  pub so_far : SoFar (ingress w) (taking frame done) (port_forwarded steps frame done) port a
+  pub so_far : SoFar (ingress w) (taking frame done) (port_forwarded steps frame done) port (held_by j)
   pub many : length lanes ≡ w.limits.ports
   pub waits : (q : ℕ) → q < w.limits.ports → slice_index_or lanes q (record { room = 0; waiting = [] })
       ≡ record { room = w.limits.lane; waiting = waiting (ingress w) q (port_forwarded steps frame done) }
 
--- what becomes of a frame that a policy passes or blocks, and of the lane to its port
-abbrev pub Judges : Bool → ℕ → ℕ → Active → LaneView → Active → LaneView → Type 0
-Judges true own port old lane new after =
-    (new ≡ active_placed (has_room lane) (record old { port = port })) × (after ≡ lane_with lane (copy_from own old))
-Judges false own port old lane new after = (new ≡ record old { port = port }) × (after ≡ lane)
+-- the frame once its copy for a port was placed or lost
+abbrev pub judging_placed : Bool → ℕ → Judging → Judging
+judging_placed room port j =
+    record j { allowed = j.allowed ++ port ∷ []; placed = (if room then j.placed ++ port ∷ [] else j.placed) }
 
--- a worker that took a foreign frame, of which it made no step yet
-pub record TookForeign (all : List (List Pair)) (w : Worker) (frame : List ℕ) (done : List PortEvent) : Type 0 where
-  pub stands : WorkerStands all w (frame_taken frame ∷ done)
-  pub foreign : is_local (ever_heard done) frame ≡ false
+-- what becomes of a frame that a policy passes or blocks, and of the lane to its port
+abbrev pub Judges : Bool → ℕ → Judging → LaneView → Judging → LaneView → Type 0
+Judges true port old lane new after = (new ≡ judging_placed (has_room lane) port old) × (after ≡ lane_with lane old.copy)
+Judges false port old lane new after = (new ≡ old) × (after ≡ lane)

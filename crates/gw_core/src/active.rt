@@ -2,7 +2,6 @@
 
 ghost use Rattle.std.specs.Prelude.{◌≡◌, ℕ, ◌+◌, ◌<◌, Option, Some, OnSome, option_copied, option_map, All};
 ghost use Rattle.gw_policy.specs.Filter.{Filter};
-ghost use Rattle.gw_policy.specs.Batches.{passes as policy_passes};
 ghost use Rattle.gw_core.specs.Turns.{CanRun, HasMade, Progresses, IsFound};
 
 use crate::event::Answer;
@@ -51,11 +50,6 @@ pub(crate) enum Progress {
 }
 
 impl Active {
-    ghost use Rattle.std.specs.Prelude.{List, length, ◌≤◌};
-    ghost use Rattle.gw_policy.specs.Batches.{passes};
-    ghost use Rattle.gw_core.specs.PortHistory.{PortEvent};
-    ghost use Rattle.gw_core.specs.Standing.{Worker};
-    ghost use Rattle.gw_core.specs.Forwarding.{Judged, Judges};
     ghost use Rattle.gw_core.specs.Turns.{CanInstruct, Instructs, index_in};
     ghost use Rattle.gw_core.specs.Standing.{has_room, lane_with, copy_from, active_placed, placing_answer, outcome_held};
 
@@ -101,49 +95,6 @@ impl Active {
         Answer::Placed { to }
     }
 
-    /// Judges the frame for each other port, and enqueues its copies on the lanes there.
-    pub(crate) fn judge_all(&mut self, batches: &[Batch], own: u8, lanes: &mut [Lane])
-        requires { length lanes.old ≤ 16 }
-        ensures { (w : Worker) (frame : List ℕ) (done : List PortEvent) → own ≡ w.own
-            → Judged batches.now w frame done 0 self.old lanes.old
-            → Judged batches.now w frame done (length lanes.new) self.new lanes.new }
-    {
-        for port in 0..lanes.len() as u8 {
-            self.judge_other(batches, own, port, lanes);
-        }
-    }
-
-    /// Judges the frame for a port, if that is another.
-    fn judge_other(&mut self, batches: &[Batch], own: u8, port: u8, lanes: &mut [Lane])
-        requires few { length lanes.old ≤ 16 }
-        requires there { port < length lanes.old }
-        ensures judged { (w : Worker) (frame : List ℕ) (done : List PortEvent) → own ≡ w.own
-            → Judged batches.now w frame done port self.old lanes.old
-            → Judged batches.now w frame done (port + 1) self.new lanes.new }
-    {
-        // Each program has an instruction to begin with.
-        one_answer();
-        if port == own {
-            return;
-        }
-        self.judge(batches, own, port, &mut lanes[usize::from(port)]);
-    }
-
-    /// Judges the frame for a port, and enqueues its copy on the lane there where the policy passes it. A table is judged by
-    /// its index.
-    fn judge(&mut self, batches: &[Batch], own: u8, port: u8, lane: &mut Lane)
-        requires { port < 16 }
-        ensures { (policy : Option Filter) → IsFound batches.now (index_in self.old.indices port) policy
-            → All (λ q. q < port) self.old.allowed → All (λ q. q < port) self.old.placed
-            → Judges (passes policy self.old.frame own) own port self.old lane.old self.new lane.new }
-    {
-        self.port = port;
-        let policy = policy_at(batches, self.indices[usize::from(port)]);
-        if passes(policy, &self.frame, own) {
-            let _answer = self.enqueue(own, lane);
-        }
-    }
-
     /// What became of the frame.
     pub(crate) fn outcome(&self) -> Outcome
         ensures { result ≡ outcome_held self.now }
@@ -159,7 +110,7 @@ impl Active {
 }
 
 /// The policy at an index, or the opening block.
-fn policy_at(batches: &[Batch], index: Option<PairIndex>) -> Option<&Policy>
+pub(crate) fn policy_at(batches: &[Batch], index: Option<PairIndex>) -> Option<&Policy>
     ensures { (policy : Option Filter) → IsFound batches.now index policy → option_copied result ≡ policy }
 {
     let index = index?;
@@ -175,16 +126,6 @@ pub(crate) fn owner_at(batches: &[Batch], index: Option<PairIndex>) -> Option<&A
     let index = index?;
     let (_, policy) = batches.get(index.batch)?.pair(index.pair)?;
     Some(policy)
-}
-
-/// Whether a policy passes a frame that was taken at a port. The opening block passes none.
-fn passes(policy: Option<&Policy>, frame: &Frame, own: u8) -> bool
-    ensures { result ≡ policy_passes (option_copied policy.entry) frame.now own }
-{
-    match policy {
-        Some(policy) => policy.verdict(frame, own),
-        None => false,
-    }
 }
 
 /// One instruction of a policy for a frame that was taken at a port: whether the frame passes, where it is the policy's

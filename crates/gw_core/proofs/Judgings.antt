@@ -1,6 +1,6 @@
 -- A frame that a worker took, judged for one port after another in one call.
 use Rattle.std.proofs.Common.{◌≡◌, ◌≢◌, ℕ, zero, suc, ◌+◌, ◌-◌, ◌<◌, ◌≤◌, Bool, true, false, ltb, List, [], ◌∷◌, ◌++◌, length}
-use Rattle.std.proofs.Common.{Option, Some, refl, sym, ap, subst, ◌∙◌, arith, replicate, ⊎_elim, slice_index_or}
+use Rattle.std.proofs.Common.{Option, Some, None, refl, sym, ap, subst, ◌∙◌, arith, replicate, ⊎_elim, slice_index_or}
 use Rattle.std.proofs.Common.{get_or-set_same, get_or-set_other, length-set, append_assoc, length-append}
 use Rattle.std.specs.Prelude.{slice_set, All}
 use Rattle.std.proofs.lemmas.Bool.{cases_eq}
@@ -15,8 +15,10 @@ use Rattle.gw_core.specs.PortHistory.{placing_if}
 use Rattle.gw_core.specs.PortHistory.{instructions_from, steps_at, is_allowed, work_for, work_from, work_left, waiting}
 use Rattle.gw_core.specs.PortHistory.{last_taking}
 use Rattle.gw_core.specs.PortHistory.{copy_of, batches, need_at}
-use Rattle.gw_core.specs.Standing.{Worker, ingress, SoFar, has_room, lane_with, copy_from, AreFound}
-use Rattle.gw_core.specs.Forwarding.{port_forwarded, Judged, Judges}
+use Rattle.gw_core.specs.Standing.{Worker, ingress, SoFar, has_room, lane_with, active_placed}
+use Rattle.gw_core.specs.Forwarding.{port_forwarded, Judged, Judges, held_by}
+use Rattle.gw_core.specs.declared.active.PairIndex.{PairIndex}
+use Rattle.gw_core.specs.declared.judging.Judging.{Judging}
 use Rattle.gw_core.specs.declared.active.Active.{Active}
 use Rattle.gw_core.proofs.Histories.{left_over, one_less, placed_instruction, placed_elsewhere, placed_here, work_here}
 use Rattle.gw_core.proofs.Histories.{work_skipped}
@@ -63,12 +65,13 @@ steps_after m k x = sym (append_assoc (replicate m step_made) (replicate k step_
     ∙ ap (λ (s : List PortEvent). s ++ x) (replicate-append-replicate m k step_made)
 
 -- so the frame is judged for one port more
-past_is_judged : (all : List (List Pair)) (w : Worker) (frame : List ℕ) (done : List PortEvent) (n more : ℕ) (a a2 : Active)
-    (lanes lanes2 : List LaneView) → (j : Judged all w frame done n a lanes) → n < w.limits.ports → n ≢ w.own
-    → a2.indices ≡ a.indices → length lanes2 ≡ length lanes
-    → Past w (taking frame done) (port_forwarded j.steps frame done) n a2 lanes2 more
-    → Judged all w frame done (n + 1) a2 lanes2
-past_is_judged all w frame done n more a a2 lanes lanes2 j within other indices same past =
+past_is_judged : (all : List (List Pair)) (w : Worker) (indices : List (Option PairIndex)) (frame : List ℕ)
+    (done : List PortEvent) (n more : ℕ) (a a2 : Judging) (lanes lanes2 : List LaneView)
+    → (j : Judged all w indices frame done n a lanes) → n < w.limits.ports → n ≢ w.own
+    → a2.copy.from ≡ a.copy.from → length lanes2 ≡ length lanes
+    → Past w (taking frame done) (port_forwarded j.steps frame done) n (held_by a2) lanes2 more
+    → Judged all w indices frame done (n + 1) a2 lanes2
+past_is_judged all w indices frame done n more a a2 lanes lanes2 j within other source same past =
     let p = ingress w in
     let t = taking frame done in
     let h = steps_after more j.steps (frame_taken frame ∷ done) in
@@ -79,21 +82,22 @@ past_is_judged all w frame done n more a a2 lanes lanes2 j within other indices 
     record {
       stands = j.stands;
       foreign = j.foreign;
-      indices = subst (λ i. AreFound all i (batches done)) (sym indices) j.indices;
+      found = j.found;
+      source = source ∙ j.source;
       steps = more + j.steps;
       count = omega (arith, count, work, need);
       left = ap (work_left p) (sym h) ∙ past.left;
-      so_far = subst (λ (x : List PortEvent). SoFar p t x (n + 1) a2) h past.so_far;
+      so_far = subst (λ (x : List PortEvent). SoFar p t x (n + 1) (held_by a2)) h past.so_far;
       many = same ∙ j.many;
       waits = λ q lt. past.waits q lt
           ∙ ap (λ (x : List PortEvent). record { room = w.limits.lane; waiting = waiting p q x }) h;
     }
 
 -- the own port has no work
-pub judged_skip : (all : List (List Pair)) (w : Worker) (frame : List ℕ) (done : List PortEvent) (n : ℕ) (a : Active)
-    (lanes : List LaneView) → Judged all w frame done n a lanes → n < length lanes → n ≡ w.own
-    → Judged all w frame done (n + 1) a lanes
-judged_skip all w frame done n a lanes j fits same =
+pub judged_skip : (all : List (List Pair)) (w : Worker) (indices : List (Option PairIndex)) (frame : List ℕ)
+    (done : List PortEvent) (n : ℕ) (a : Judging) (lanes : List LaneView) → Judged all w indices frame done n a lanes
+    → n < length lanes → n ≡ w.own → Judged all w indices frame done (n + 1) a lanes
+judged_skip all w indices frame done n a lanes j fits same =
     let p = ingress w in
     let t = taking frame done in
     let within : n < w.limits.ports = let m = j.many in omega arith in
@@ -101,11 +105,12 @@ judged_skip all w frame done n a lanes j fits same =
     record {
       stands = j.stands;
       foreign = j.foreign;
-      indices = j.indices;
+      found = j.found;
+      source = j.source;
       steps = j.steps;
       count = ap (λ (x : List Work). j.steps + length x) (sym over) ∙ j.count;
       left = j.left ∙ over;
-      so_far = carried p t _ (port_forwarded j.steps frame done) n (n + 1) a a.port a.running (omega arith)
+      so_far = carried p t _ (port_forwarded j.steps frame done) n (n + 1) (held_by a) 0 None (omega arith)
           (allowed_skip p t n j.foreign same) refl j.so_far;
       many = j.many;
       waits = j.waits;
@@ -133,14 +138,14 @@ last_over zero x = refl
 last_over (suc m) x = last_over m x
 
 -- a frame judged for another port
-pub judged_more : StepsLaw → (all : List (List Pair)) (w : Worker) (frame : List ℕ) (done : List PortEvent) (n i : ℕ)
-    (a a2 : Active) (lanes : List LaneView) (lane lane2 : LaneView)
-    → Judged all w frame done n a lanes → n < length lanes → n ≢ w.own → i ≡ n → lane ≡ slice_index_or lanes i lane
-    → ((policy : Option Filter) → IsFound all (index_in a.indices n) policy → All (λ q. q < n) a.allowed
-    → All (λ q. q < n) a.placed → Judges (passes policy a.frame w.own) w.own n a lane a2 lane2)
-    → Judged all w frame done (n + 1) a2 (slice_set lanes i lane2)
-judged_more law all w frame done n i a a2 lanes lane lane2 j fits other at read judges =
-    subst (λ x. Judged all w frame done (n + 1) a2 (slice_set lanes x lane2)) (sym at)
+pub judged_more : StepsLaw → (all : List (List Pair)) (w : Worker) (indices : List (Option PairIndex)) (frame : List ℕ)
+    (done : List PortEvent) (n i : ℕ) (a a2 : Judging) (lanes : List LaneView) (lane lane2 : LaneView)
+    → Judged all w indices frame done n a lanes → n < length lanes → n ≢ w.own → i ≡ n → lane ≡ slice_index_or lanes i lane
+    → ((policy : Option Filter) → IsFound all (index_in indices n) policy → All (λ q. q < n) a.allowed
+    → All (λ q. q < n) a.placed → Judges (passes policy a.copy.frame a.copy.from) n a lane a2 lane2)
+    → Judged all w indices frame done (n + 1) a2 (slice_set lanes i lane2)
+judged_more law all w indices frame done n i a a2 lanes lane lane2 j fits other at read judges =
+    subst (λ x. Judged all w indices frame done (n + 1) a2 (slice_set lanes x lane2)) (sym at)
     (go (is_allowed (ingress w) (taking frame done) n) refl told)
   where
     p : Ingress
@@ -161,10 +166,11 @@ judged_more law all w frame done n i a a2 lanes lane lane2 j fits other at read 
     policy : Option Filter
     policy = in_force n (batches done)
 
-    told : Judges (is_allowed p t n) w.own n a lane a2 lane2
-    told = subst (λ (f : List ℕ). Judges (passes policy f w.own) w.own n a lane a2 lane2) j.so_far.frame
-        (judges policy (j.indices n (let most = j.stands.limits.most_ports in omega arith))
-        (subst (λ (x : List ℕ). All (λ q. q < n) x) (sym j.so_far.allowed) (all_allowed p t n)) j.so_far.below)
+    told : Judges (is_allowed p t n) n a lane a2 lane2
+    told = subst (λ (f : List ℕ). Judges (passes policy f w.own) n a lane a2 lane2) j.so_far.frame
+        (subst (λ from. Judges (passes policy a.copy.frame from) n a lane a2 lane2) j.source
+        (judges policy (j.found n (let most = j.stands.limits.most_ports in omega arith))
+        (subst (λ (x : List ℕ). All (λ q. q < n) x) (sym j.so_far.allowed) (all_allowed p t n)) j.so_far.below))
 
     is_lane : lane ≡ record { room = w.limits.lane; waiting = waiting p n h }
     is_lane = read ∙ ap (λ x. slice_index_or lanes x lane) at
@@ -176,10 +182,10 @@ judged_more law all w frame done n i a a2 lanes lane lane2 j fits other at read 
     pos : 1 ≤ steps_at p t n
     pos = some_steps law policy frame w.own (j.stands.sound.filters n)
 
-    blocks_it : (k : ℕ) → steps_at p t n ≡ suc k → is_allowed p t n ≡ false → Judges false w.own n a lane a2 lane2
-        → Judged all w frame done (n + 1) a2 (slice_set lanes n lane2)
+    blocks_it : (k : ℕ) → steps_at p t n ≡ suc k → is_allowed p t n ≡ false → Judges false n a lane a2 lane2
+        → Judged all w indices frame done (n + 1) a2 (slice_set lanes n lane2)
     blocks_it k count blocks does =
-        let r = ran p t h n a (placing_if (is_allowed p t n) n) rest left j.so_far k (omega arith) in
+        let r = ran p t h n (held_by a) (placing_if (is_allowed p t n) n) rest left j.so_far k (omega arith) in
         let here = replicate k step_made ++ h in
         let lt : k < steps_at p t n = omega arith in
         let none : steps_at p t n - (k + 1) ≡ 0 = omega arith in
@@ -189,53 +195,54 @@ judged_more law all w frame done n i a a2 lanes lane lane2 j fits other at read 
         λ q. placed_instruction p q n k here rest last ∙ r.waits q in
         let need : need_at p t n ≡ steps_at p t n + 0 = rw blocks refl in
         let long = length-work_for p t n in
-        past_is_judged all w frame done n (suc k) a a2 lanes (slice_set lanes n lane2) j within other
-        (ap (λ (x : Active). x.indices) does.0) (length-set lanes n lane2)
+        past_is_judged all w indices frame done n (suc k) a a2 lanes (slice_set lanes n lane2) j within other
+        (ap (λ (x : Judging). x.copy.from) does.0) (length-set lanes n lane2)
         (record {
           left = left_over p here (instruction n k) rest last;
-          so_far = subst (λ (x : Active). SoFar p t (step_made ∷ here) (n + 1) x) (sym does.0)
-              (carried p t (step_made ∷ here) (step_made ∷ here) (n + 1) (n + 1) a n a.running (omega arith) refl refl
-              (blocked p t here n a n k rest r.so_far other blocks last));
+          so_far = subst (λ (x : Judging). SoFar p t (step_made ∷ here) (n + 1) (held_by x)) (sym does.0)
+              (blocked p t here n (held_by a) n k rest r.so_far other blocks last);
           waits = write_lane w h (step_made ∷ here) n lanes lane2 fits j.waits
               (does.1 ∙ is_lane ∙ ap (λ (x : List FrameCopy). record { room = w.limits.lane; waiting = x }) (sym (same n)))
               (λ q ne. same q);
           need = omega (arith, need, long, count);
         })
 
-    passes_it : (m : ℕ) → m ≡ steps_at p t n → is_allowed p t n ≡ true → Judges true w.own n a lane a2 lane2
-        → Judged all w frame done (n + 1) a2 (slice_set lanes n lane2)
+    passes_it : (m : ℕ) → m ≡ steps_at p t n → is_allowed p t n ≡ true → Judges true n a lane a2 lane2
+        → Judged all w indices frame done (n + 1) a2 (slice_set lanes n lane2)
     passes_it m count allows does =
-        let r = ran p t h n a (placing_if (is_allowed p t n) n) rest left j.so_far m (omega arith) in
+        let r = ran p t h n (held_by a) (placing_if (is_allowed p t n) n) rest left j.so_far m (omega arith) in
         let here = replicate m step_made ++ h in
         let none : steps_at p t n - m ≡ 0 = omega arith in
         let last : work_left p here ≡ placing n ∷ rest = r.left ∙ rw (none, allows) in
         let taken : last_taking here ≡ Some t = last_over m h ∙ last_over j.steps (frame_taken frame ∷ done) in
         let room : ltb (length (waiting p n here)) w.limits.lane ≡ has_room lane =
         ap (λ (x : List FrameCopy). ltb (length x) w.limits.lane) (r.waits n) ∙ sym (ap has_room is_lane) in
-        let copy : copy_from w.own a ≡ copy_of p t =
-        λ i. record { from = w.own; number = j.so_far.number i; frame = j.so_far.frame i } in
+        let copy : a.copy ≡ copy_of p t =
+        λ i. record { from = j.source i; number = j.so_far.number i; frame = j.so_far.frame i } in
         let lane_is : lane2 ≡ record { room = w.limits.lane; waiting = waiting p n (step_made ∷ here) } =
-        does.1 ∙ ap (λ (l : LaneView). lane_with l (copy_from w.own a)) is_lane
+        does.1 ∙ ap (λ (l : LaneView). lane_with l a.copy) is_lane
         ∙ ap (λ (c : FrameCopy). lane_with (record { room = w.limits.lane; waiting = waiting p n h }) c) copy
         ∙ ap (λ (x : List FrameCopy). lane_with (record { room = w.limits.lane; waiting = x }) (copy_of p t)) (sym (r.waits n))
         ∙ ap (λ (x : List FrameCopy). record { room = w.limits.lane; waiting = x })
         (sym (placed_here p n here t rest _ taken last refl)) in
         let need : need_at p t n ≡ steps_at p t n + 1 = rw allows refl in
         let long = length-work_for p t n in
-        past_is_judged all w frame done n (suc m) a a2 lanes (slice_set lanes n lane2) j within other
-        (ap (λ (x : Active). x.indices) does.0) (length-set lanes n lane2)
+        past_is_judged all w indices frame done n (suc m) a a2 lanes (slice_set lanes n lane2) j within other
+        (ap (λ (x : Judging). x.copy.from) does.0) (length-set lanes n lane2)
         (record {
           left = left_over p here (placing n) rest last;
-          so_far = subst (λ (x : Active). SoFar p t (step_made ∷ here) (n + 1) x) (sym does.0)
-              (placed_or_lost p t here n (record a { port = n }) rest (has_room lane)
-              (carried p t here here n n a n a.running (omega arith) refl refl r.so_far) refl other allows last room);
+          so_far = subst (λ (x : Judging). SoFar p t (step_made ∷ here) (n + 1) (held_by x)) (sym does.0)
+              (carried p t (step_made ∷ here) (step_made ∷ here) (n + 1) (n + 1)
+              (active_placed (has_room lane) (record (held_by a) { port = n })) 0 None (omega arith) refl refl
+              (placed_or_lost p t here n (record (held_by a) { port = n }) rest (has_room lane)
+              (carried p t here here n n (held_by a) n None (omega arith) refl refl r.so_far) refl other allows last room));
           waits = write_lane w h (step_made ∷ here) n lanes lane2 fits j.waits lane_is
               (λ q ne. placed_elsewhere p q n here rest ne last ∙ r.waits q);
           need = omega (arith, need, long, count);
         })
 
-    go : (b : Bool) → is_allowed p t n ≡ b → Judges b w.own n a lane a2 lane2
-        → Judged all w frame done (n + 1) a2 (slice_set lanes n lane2)
+    go : (b : Bool) → is_allowed p t n ≡ b → Judges b n a lane a2 lane2
+        → Judged all w indices frame done (n + 1) a2 (slice_set lanes n lane2)
     go false blocks does =
         let before : steps_at p t n ≡ suc (steps_at p t n - 1) = omega (arith, pos) in
         blocks_it (steps_at p t n - 1) before blocks does
