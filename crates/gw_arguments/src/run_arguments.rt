@@ -31,7 +31,7 @@ pub struct RunRequest<'a> {
     pub interfaces: Vec<NamedInterface<'a>>,
     /// The file from which each port takes its frames, if one is named; where there is none for any port, the input is read.
     pub inputs: Vec<Option<&'a str>>,
-    /// What is told behind the lines of the ports.
+    /// What the run is told by.
     pub shown: Shown,
     pub progress: bool,
 }
@@ -43,7 +43,7 @@ pub fn run_arguments<'a>(alloc: Global) -> Result<Command<'a>, AllocError> {
         "run",
         "Forwards the frames of a trace or a log in threads, and tells what each port took and what of it the others let leave",
         "gw run --ports N [--lane N] [--program LISTING] [--table P=FILE].. [--listing P=FILE].. \
-        ([--interface NAME=P].. | [--in P=FILE]..) [--policies] [--lanes] [--progress] < INPUT",
+        ([--interface NAME=P].. | [--in P=FILE]..) ([--policies] [--lanes] | [--json]) [--progress] < INPUT",
         "A port's line counts the frames taken there; those of them that were for its own segment, as local; and as allowed the \
         copies of its frames that the policies of other ports let leave there.\n\
         Example: gw run --ports 2 --program '1,6 0 0 1,' < TRACE",
@@ -78,6 +78,7 @@ pub fn run_arguments<'a>(alloc: Global) -> Result<Command<'a>, AllocError> {
         "lanes",
         "Tells behind the ports what was placed and lost on the way from each port to each other",
     ))
+    .made_arg(json_option(alloc))
     .arg(flag(
         alloc,
         "progress",
@@ -119,6 +120,17 @@ fn interface_option<'a>(alloc: Global) -> Arg<'a> {
     .action(ArgAction::Append)
 }
 
+/// The option that asks for an object. It has what `--policies` and `--lanes` ask for.
+fn json_option<'a>(alloc: Global) -> Result<Arg<'a>, AllocError> {
+    flag(
+        alloc,
+        "json",
+        "Tells the ports, the policies and the lanes as one JSON object, in place of lines",
+    )
+    .conflicts_with("policies")?
+    .conflicts_with("lanes")
+}
+
 /// An option that names a file for a port, once for each.
 pub(crate) fn file_option<'a>(alloc: Global, name: &'a str, help: &'a str) -> Arg<'a> {
     valued(alloc, name, "P=FILE", help).action(ArgAction::Append)
@@ -150,12 +162,21 @@ fn asked<'a>(alloc: Global, run: &ArgMatches<'a>) -> Result<RunRequest<'a>, Erro
         sources,
         interfaces,
         inputs,
-        shown: Shown {
-            policies: run.get_flag("policies"),
-            lanes: run.get_flag("lanes"),
-        },
+        shown: asked_shown(run),
         progress: run.get_flag("progress"),
     })
+}
+
+/// What the run is told by.
+fn asked_shown(run: &ArgMatches) -> Shown {
+    if run.get_flag("json") {
+        Shown::Json
+    } else {
+        Shown::Lines {
+            policies: run.get_flag("policies"),
+            lanes: run.get_flag("lanes"),
+        }
+    }
 }
 
 /// The limits of the gateway.

@@ -4,7 +4,7 @@ use Rattle.std.specs.Prelude.{◌≡◌, ℕ, ◌<◌, ◌⊎◌, ◌==◌, Bool
 use Rattle.std.specs.Prelude.{codes, decimal, slice_get, slice_index_or, map, Option, Some, None, Result, Ok, Err, MatchResult}
 use Rattle.std.specs.Prelude.{All, Any}
 use Rattle.std.specs.Option.{option_map_or}
-use Rattle.std.specs.List.{flat_map, count_by, sum_by, range_with_len}
+use Rattle.std.specs.List.{flat_map, count_by, join_by, sum_by, range_with_len}
 use Rattle.std.specs.Io.KnownBytes.{IsAtEnd, Consumes}
 use Rattle.std.specs.Iterator.{YieldsFirst}
 use Rattle.std.specs.Vec.Iter.{into_iter_items, into_iter_steps}
@@ -36,6 +36,7 @@ use Rattle.gw_run.specs.declared.refusal.ForwardRefusal.{ForwardRefusal}
 use Rattle.gw_run.specs.declared.refusal.ForwardRefusal.TheVariants as refuses
 use Rattle.gw_run.specs.declared.refusal.ForwardRefusal.TheVariants.{Command, Trace, Run, Stopped}
 use Rattle.gw_run.specs.declared.lines.Shown.{Shown}
+use Rattle.gw_run.specs.declared.lines.Shown.TheVariants.{Lines, Json}
 use Rattle.gw_run.specs.declared.policy_lines.Counted.{Counted}
 use Rattle.gw_run.specs.declared.policy_lines.Counted.TheVariants.{Judged, Passed, Lost}
 use Rattle.gw_run.specs.declared.taking.NamedInterface.{NamedInterface}
@@ -194,13 +195,77 @@ policy_line outcomes to =
 unfoldable pub policy_lines : ℕ → List (List Outcome) → List ℕ
 policy_lines ports outcomes = flat_map (policy_line outcomes) (range_with_len 0 ports)
 
--- a line for each port, and behind them those of the policies and of the lanes that are to be shown
-abbrev pub report_lines : ℕ → Shown → RunReport → List ℕ
-report_lines ports shown report =
+-- a line for each port, and behind them those of the policies and of the lanes that are asked for
+abbrev pub report_lines : ℕ → Bool → Bool → RunReport → List ℕ
+report_lines ports policies lanes report =
     let outcomes = map (λ outcomes. outcomes.items) report.outcomes.items in
     port_lines report.report.ins.items
-    ++ (if shown.policies then policy_lines ports outcomes else [])
-    ++ (if shown.lanes then lane_lines ports outcomes else [])
+    ++ (if policies then policy_lines ports outcomes else [])
+    ++ (if lanes then lane_lines ports outcomes else [])
+
+-- ---- the object
+
+-- what a port counted
+abbrev pub port_object : ℕ → InLedger → List ℕ
+port_object port ledger =
+    codes "{\"port\":" ++ decimal port ++ codes ",\"taken\":" ++ decimal ledger.taken ++ codes ",\"local\":"
+    ++ decimal ledger.local ++ codes ",\"allowed\":" ++ decimal ledger.allowed ++ codes "}"
+
+-- an object for each port, in ascending order
+abbrev pub object_of : List InLedger → ℕ → List ℕ
+object_of ledgers port = option_map_or (port_object port) (slice_get ledgers port) []
+
+unfoldable pub port_objects : List InLedger → List (List ℕ)
+port_objects ledgers = map (object_of ledgers) (range_with_len 0 (length ledgers))
+
+-- what a port's policy judged, passed and lost
+abbrev pub policy_object : List (List Outcome) → ℕ → List ℕ
+policy_object outcomes to =
+    codes "{\"port\":" ++ decimal to ++ codes ",\"judged\":" ++ decimal (count_others Judged to outcomes)
+    ++ codes ",\"passed\":" ++ decimal (count_others Passed to outcomes)
+    ++ codes ",\"lost\":" ++ decimal (count_others Lost to outcomes) ++ codes "}"
+
+-- an object for each port's policy, in ascending order
+unfoldable pub policy_objects : ℕ → List (List Outcome) → List (List ℕ)
+policy_objects ports outcomes = map (policy_object outcomes) (range_with_len 0 ports)
+
+-- how many of a port's frames were copied to another, and how many were lost on that way
+abbrev pub lane_object : ℕ → ℕ → List Outcome → List ℕ
+lane_object from to outcomes =
+    codes "{\"from\":" ++ decimal from ++ codes ",\"to\":" ++ decimal to
+    ++ codes ",\"placed\":" ++ decimal (count_by (is_placed to) outcomes)
+    ++ codes ",\"lost\":" ++ decimal (count_by (is_lost to) outcomes) ++ codes "}"
+
+-- an object for each lane from a port, by destination
+abbrev pub objects_to : ℕ → List Outcome → ℕ → List (List ℕ)
+objects_to from outcomes to = if to == from then [] else lane_object from to outcomes ∷ []
+
+unfoldable pub lane_objects_from : ℕ → ℕ → List Outcome → List (List ℕ)
+lane_objects_from from ports outcomes = flat_map (objects_to from outcomes) (range_with_len 0 ports)
+
+-- an object for each lane of so many ports, by source and then destination
+abbrev pub objects_from : ℕ → List (List Outcome) → ℕ → List (List ℕ)
+objects_from ports outcomes from = option_map_or (lane_objects_from from ports) (slice_get outcomes from) []
+
+unfoldable pub lane_objects : ℕ → List (List Outcome) → List (List ℕ)
+lane_objects ports outcomes = flat_map (objects_from ports outcomes) (range_with_len 0 ports)
+
+-- texts with commas between
+abbrev pub with_commas : List (List ℕ) → List ℕ
+with_commas texts = join_by (λ text. text) (codes ",") texts
+
+-- all ports, policies and lanes as one JSON object, on a line
+abbrev pub report_json : ℕ → RunReport → List ℕ
+report_json ports report =
+    let outcomes = map (λ outcomes. outcomes.items) report.outcomes.items in
+    codes "{\"ports\":[" ++ with_commas (port_objects report.report.ins.items)
+    ++ codes "],\"policies\":[" ++ with_commas (policy_objects ports outcomes)
+    ++ codes "],\"lanes\":[" ++ with_commas (lane_objects ports outcomes) ++ codes "]}\n"
+
+-- what a run is told by: lines, or one object
+abbrev pub report_text : ℕ → Shown → RunReport → List ℕ
+report_text ports (Lines policies lanes) report = report_lines ports policies lanes report
+report_text ports Json report = report_json ports report
 
 -- ---- the command
 
@@ -210,7 +275,7 @@ pub record IsOctetsRun (taking : Taking) (limits : Bounds) (first : List Pair) (
   pub report : RunReport
   pub ran : IsRunOf taking limits first octets report
   pub unstopped : NoneStopped report.stops.items
-  pub lines : text ≡ report_lines limits.ports shown report
+  pub lines : text ≡ report_text limits.ports shown report
 
 -- what refuses such a run: what refuses the gateway's run, but for a port that is not there, which no source names; or the least
 -- port's that stopped; memory may be wanting for what the ports take and for the lines

@@ -20,7 +20,7 @@ use Rattle.gw_run.specs.declared.lines.Shown.{Shown}
 use Rattle.gw_run.specs.declared.inputs.PortInput.{PortInput}
 use Rattle.gw_run.specs.declared.inputs.PortInput.TheVariants.{Nothing, Unread, Held}
 use Rattle.gw_run.specs.Forwarding.{IsFirst, IsListRun, NoneStopped, RefusesInputs, RefusesNamed, RefusesSources}
-use Rattle.gw_run.specs.Forwarding.{WritesForward, report_lines}
+use Rattle.gw_run.specs.Forwarding.{WritesForward, report_text}
 use Rattle.gw_run.specs.Logs.{log_frames, no_log}
 
 -- ---- the frames
@@ -66,7 +66,7 @@ pub record IsInputsRun (limits : Bounds) (first : List Pair) (inputs : List Port
   pub report : RunReport
   pub ran : IsListRun limits first frames report
   pub unstopped : NoneStopped report.stops.items
-  pub lines : text ≡ report_lines limits.ports shown report
+  pub lines : text ≡ report_text limits.ports shown report
 
 -- what refuses such a run: the first input that is refused; or what refuses a run on the frames of all; memory may be wanting in
 -- any case

@@ -14,7 +14,7 @@ ghost use Rattle.gw_run.specs.Forwarding.{
   RefusesLog,
   RefusesTrace,
   RefusesOctets,
-  report_lines,
+  report_text,
 };
 ghost use Rattle.gw_commands.specs.declared.refusal.Refusal.TheVariants.{OutOfMemory};
 ghost use Rattle.gw_run.specs.declared.refusal.ForwardRefusal.TheVariants.{Command};
@@ -172,7 +172,7 @@ pub(crate) fn report_octets<F: Write>(
     shown: Shown,
     faults: &mut Tried<F>,
 ) -> Result<Vec<u8>, ForwardRefusal>
-    ensures lines { IfOk result (λ text. text.items ≡ report_lines limits.ports shown report.now) }
+    ensures lines { IfOk result (λ text. text.items ≡ report_text limits.ports shown report.now) }
     ensures refused { IfErr result (λ refusal. refusal ≡ Command OutOfMemory) }
 {
     note_lost(&report.report.ins, faults);

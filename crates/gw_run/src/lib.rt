@@ -6,6 +6,7 @@ mod first;
 mod forwarding;
 mod frames;
 mod inputs;
+mod json;
 mod lines;
 mod log;
 mod log_notes;

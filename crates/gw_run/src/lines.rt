@@ -1,4 +1,4 @@
-//! What a run is told by: a line for each port, one for each policy, and one for each lane.
+//! What a run is told by: a line for each port, one for each policy, and one for each lane; or one object.
 
 ghost use Rattle.std.specs.Prelude.{◌≡◌, ◌++◌, map, string_bytes, IfOk, OnOk};
 ghost use Rattle.std.specs.List.{count_by};
@@ -11,37 +11,60 @@ ghost use Rattle.gw_run.specs.Forwarding.{
   lane_lines,
   lane_lines_from,
   report_lines,
+  report_text,
 };
 
+use crate::json::report_json;
 use crate::policy_lines::push_policies;
 use gw_ledger::{InLedger, Outcome};
 use gw_ports::RunReport;
 use std::alloc::{AllocError, Global};
 
-/// What a run tells behind the lines of its ports.
+/// What a run is told by.
 #[derive(Clone, Copy, PartialEq, Eq, Debug)]
-pub struct Shown {
-    /// For each port, how many frames its policy judged and let leave, and how many copies of these were lost.
-    pub policies: bool,
-    /// For each lane, how many copies were placed on it, and how many were lost there.
-    pub lanes: bool,
+pub enum Shown {
+    /// A line for each port, and what is asked for behind them.
+    Lines {
+        /// For each port, how many frames its policy judged and let leave, and how many copies of these were lost.
+        policies: bool,
+        /// For each lane, how many copies were placed on it, and how many were lost there.
+        lanes: bool,
+    },
+    /// One JSON object, which has the ports, the policies and the lanes.
+    Json,
 }
 
-/// The lines of so many ports, and behind them those that are shown of the policies and of the lanes.
+/// What so many ports, their policies and their lanes did, as it is to be shown.
 pub(crate) fn report_text(
     alloc: Global,
     ports: u8,
     report: &RunReport,
     shown: Shown,
 ) -> Result<String, AllocError>
-    ensures { IfOk result (λ text. string_bytes text ≡ report_lines ports shown report.now) }
+    ensures { IfOk result (λ text. string_bytes text ≡ report_text ports shown report.now) }
+{
+    match shown {
+        Shown::Lines { policies, lanes } => report_lines(alloc, ports, report, policies, lanes),
+        Shown::Json => report_json(alloc, ports, report),
+    }
+}
+
+/// The lines of so many ports, and behind them those that are asked for of the policies and of the lanes.
+fn report_lines(
+    alloc: Global,
+    ports: u8,
+    report: &RunReport,
+    policies: bool,
+    lanes: bool,
+) -> Result<String, AllocError>
+    ensures { IfOk result (λ text. string_bytes text ≡ report_lines ports policies lanes report.now) }
 {
     let mut text = String::new(alloc);
     push_ports(&mut text, &report.report.ins)?;
-    if shown.policies {
+    if policies {
         push_policies(&mut text, ports, &report.outcomes)?;
     }
-    if shown.lanes {
+    if lanes {
         push_lanes(&mut text, ports, &report.outcomes)?;
     }
     Ok(text)
@@ -108,7 +131,7 @@ fn push_lane(text: &mut String, from: u8, to: u8, outcomes: &[Outcome]) -> Resul
 }
 
 /// How many frames were copied to a port.
-fn placed_to(to: u8, outcomes: &[Outcome]) -> usize
+pub(crate) fn placed_to(to: u8, outcomes: &[Outcome]) -> usize
     ensures { result ≡ count_by (is_placed to) outcomes.now }
 {
     outcomes

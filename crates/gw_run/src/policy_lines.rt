@@ -49,7 +49,7 @@ fn push_policy(text: &mut String, to: u8, outcomes: &[Vec<Outcome>]) -> Result<(
 }
 
 /// How many of the frames of all other ports are counted for a port.
-fn count_others(what: Counted, to: u8, outcomes: &[Vec<Outcome>]) -> u128
+pub(crate) fn count_others(what: Counted, to: u8, outcomes: &[Vec<Outcome>]) -> u128
     ensures { result ≡ count_others what to (map (λ list. list.items) outcomes.now) }
 {
     let mut count = 0u128;
