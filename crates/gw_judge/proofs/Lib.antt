@@ -1,4 +1,8 @@
 pub mod Gathering
+pub mod PutInOrder
+pub mod PortsInOrder
+pub mod EgressLines
+pub mod EgressParts
 pub mod Lines
 pub mod PartLengths
 mod OneMore
@@ -7,5 +11,6 @@ pub mod Counting
 pub mod JudgedLines
 pub mod PartByPart
 pub mod Streams
+pub mod EgressStreams
 pub mod Captured
 mod JudgeExamples

@@ -1,6 +1,6 @@
 -- The lines of a log, one after another, and what is written of them.
 use Rattle.std.proofs.Common.{◌≡◌, ℕ, ◌+◌, ◌-◌, ◌<◌, true, false, List, [], ◌∷◌, ◌++◌, length, take, get_or}
-use Rattle.std.proofs.Common.{refl, sym, ap, ◌∙◌, subst, append_assoc, arith, inl, inr, Option}
+use Rattle.std.proofs.Common.{refl, sym, ap, ◌∙◌, subst, append_assoc, arith, inl, inr, Option, Err}
 use Rattle.std.specs.List.{slice_split}
 use Rattle.std.proofs.lemmas.Bool.{eqb-true, cases_lt, lt-ltb}
 use Rattle.std.proofs.lemmas.List.{take_all, take_more, length-take}
@@ -12,7 +12,7 @@ use Rattle.gw_log.specs.declared.refusal.LogRefusal.TheVariants.{LongLine}
 use Rattle.gw_log.specs.LogLines.{line_of}
 use Rattle.gw_judge.specs.declared.fate.Fate.{Fate}
 use Rattle.gw_judge.specs.declared.fate.Fate.TheVariants.{Refused}
-use Rattle.gw_judge.specs.Fates.{fate_of}
+use Rattle.gw_judge.specs.Fates.{fate_of, said_fate}
 use Rattle.gw_judge.specs.Judged.{with_ends, last_line, log_lines, line_text, written_of}
 use Rattle.gw_judge.specs.LineParts.{IsEndless, IsLinePart, ends_line}
 
@@ -53,18 +53,26 @@ unfolding written_of
 written_none fate front = refl
 
 -- of a line that is too long as much is kept as says so
-fate_long : (by : List ℕ → Fate) (line : List ℕ) → 65536 < length line → fate_of by line ≡ Refused LongLine
-unfolding fate_of line_of
-fate_long by line long = rw (lt-ltb 65536 (length line) long) refl
+line_long : (line : List ℕ) → 65536 < length line → line_of line ≡ Err LongLine
+unfolding line_of
+line_long line long = rw (lt-ltb 65536 (length line) long) refl
 
-pub fate_kept : (by : List ℕ → Fate) (line : List ℕ) → fate_of by (take 65537 line) ≡ fate_of by line
-fate_kept by line =
+pub line_kept : (line : List ℕ) → line_of (take 65537 line) ≡ line_of line
+line_kept line =
     elim (cases_lt 65536 (length line)) [
       | inl long ↦
           let there : 65536 < length (take 65537 line) = omega (arith, length-take 65537 line) in
-          fate_long by (take 65537 line) there ∙ sym (fate_long by line long)
-      | inr short ↦ ap (fate_of by) (take_all 65537 line (omega arith))
+          line_long (take 65537 line) there ∙ sym (line_long line long)
+      | inr short ↦ ap line_of (take_all 65537 line (omega arith))
     ]
+
+fate_long : (by : List ℕ → Fate) (line : List ℕ) → 65536 < length line → fate_of by line ≡ Refused LongLine
+unfolding fate_of
+fate_long by line long = ap (said_fate by) (line_long line long)
+
+pub fate_kept : (by : List ℕ → Fate) (line : List ℕ) → fate_of by (take 65537 line) ≡ fate_of by line
+unfolding fate_of
+fate_kept by line = ap (said_fate by) (line_kept line)
 
 pub text_kept : (by : List ℕ → Fate) (front : Fate → Option (List ℕ)) (line : List ℕ)
     → line_text front (fate_of by (take 65537 line)) (take 65537 line) ≡ line_text front (fate_of by line) line

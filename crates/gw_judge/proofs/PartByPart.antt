@@ -187,11 +187,11 @@ lines_at_end fate front strict octets p text h =
     ∙ ap (λ (rest : List ℕ). h.lines ++ log_lines rest) (append-nil h.rest)
     ∙ ap (λ (last : List (List ℕ)). h.lines ++ last) (rest_alone h.rest h.endless)
 
-no_rest : (rest : List ℕ) → length (take 65537 rest) ≡ 0 → last_line rest ≡ []
+pub no_rest : (rest : List ℕ) → length (take 65537 rest) ≡ 0 → last_line rest ≡ []
 no_rest [] none = refl
 no_rest (c ∷ cs) none = absurd (omega (arith, length-take 65537 (c ∷ cs)))
 
-some_rest : (rest : List ℕ) → 0 < length (take 65537 rest) → last_line rest ≡ rest ∷ []
+pub some_rest : (rest : List ℕ) → 0 < length (take 65537 rest) → last_line rest ≡ rest ∷ []
 some_rest [] some = absurd (omega arith)
 some_rest (c ∷ cs) some = refl
 

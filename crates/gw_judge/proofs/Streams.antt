@@ -112,7 +112,7 @@ ends_unwritten {A} {B} done r fault fate front strict octets text w x y failed t
 -- ---- part after part
 
 -- what the reader gave, with a part more
-given_more : (a b c : Option (List ℕ)) (octets rest : List ℕ) (now : Ahead) → Consumes a b (octets ++ rest)
+pub given_more : (a b c : Option (List ℕ)) (octets rest : List ℕ) (now : Ahead) → Consumes a b (octets ++ rest)
     → (next : IsNextPart b c rest now) → Consumes a c ((octets ++ now.part) ++ now.rest)
 given_more a b c octets rest now h next =
     subst (Consumes a c)
@@ -201,7 +201,7 @@ stays fate front strict a b c w x rest p parts read_failed write_failed way same
     }
 
 -- the end came
-all_read : (a b c : Option (List ℕ)) (octets rest : List ℕ) → Consumes a b (octets ++ rest) → Keeps b c → rest ≡ []
+pub all_read : (a b c : Option (List ℕ)) (octets rest : List ℕ) → Consumes a b (octets ++ rest) → Keeps b c → rest ≡ []
     → Consumes a c octets
 all_read a b c octets rest consumed same none =
     subst (Consumes a c) (ap (λ (more : List ℕ). octets ++ more) none ∙ append-nil octets)

@@ -3,6 +3,9 @@ pub mod Fates
 pub mod Grouped
 pub mod Tallies
 pub mod Judged
+-- interfaces that are named for ports, and what leaves at them
+pub mod Interfaces
+pub mod Egress
 -- the first octets of an input, and what judging a trace reads and counts
 pub mod Openings
 pub mod Captures
@@ -10,4 +13,5 @@ pub mod Captures
 pub mod Counting
 pub mod LineParts
 pub mod UnderWay
+pub mod EgressUnderWay
 pub mod CapturesUnderWay

@@ -49,7 +49,7 @@ impl Gathered {
     }
 
     /// Puts a text behind what is held. Where it does not fit, what is held is written first.
-    fn put<W: Write>(&mut self, text: &[u8], writer: &mut Tried<W>) -> Result<(), JudgeFault>
+    pub fn put<W: Write>(&mut self, text: &[u8], writer: &mut Tried<W>) -> Result<(), JudgeFault>
         requires { has_failed writer.old ≡ false }
         ensures { Puts (W.contents (inner_of writer.old)) (W.contents (inner_of writer.new)) (has_failed writer.new)
             self.old.held.items text.now result self.new.held.items }

@@ -5,7 +5,6 @@ ghost use Rattle.gw_io.specs.Tries.{inner_of, has_failed};
 ghost use Rattle.gw_judge.specs.Fates.{fate_of};
 ghost use Rattle.gw_judge.specs.Judged.{line_text};
 ghost use Rattle.gw_judge.specs.Counting.{no_tally, tally_with};
-ghost use Rattle.gw_judge.specs.LineParts.{ends_line};
 ghost use Rattle.gw_judge.specs.UnderWay.{Judges, Refuses};
 
 use crate::decider::Decider;
@@ -13,14 +12,12 @@ use crate::fate::{Fate, line_fate};
 use crate::fault::{JudgeFault, RefusedLine};
 use crate::gathered::Gathered;
 use crate::groups::Groups;
+use crate::kept::{MAX_KEPT, ends_line, keep};
 use crate::report::Report;
 use crate::tally::Tally;
 use arrayvec::ArrayVec;
 use gw_io::Tried;
 use std::io::Write;
-
-/// How many octets of an unfinished line are kept: more than a line has.
-const MAX_KEPT: usize = 65_537;
 
 /// What is asked of a log.
 #[derive(Drop)]
@@ -166,8 +163,7 @@ impl Judging {
         ensures gathered { self.new.gathered ≡ self.old.gathered }
         ensures tally { self.new.tally ≡ self.old.tally }
     {
-        let room = self.kept.remaining_capacity().min(part.len());
-        let _fits = self.kept.try_extend_from_slice(&part[..room]);
+        keep(&mut self.kept, part);
     }
 
     /// Judges the line that is kept.
@@ -244,11 +240,4 @@ fn refuse<W: Write>(
     }
     gathered.flush(writer)?;
     Err(JudgeFault::Refused(refused))
-}
-
-/// Whether a line feed ends a part.
-fn ends_line(part: &[u8]) -> bool
-    ensures { result ≡ ends_line part.now }
-{
-    matches!(part, [.., b'\n'])
 }
