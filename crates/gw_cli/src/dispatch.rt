@@ -2,7 +2,7 @@
 
 ghost use Rattle.std.specs.Prelude.{◌≡◌, length, false, None};
 ghost use Rattle.clap.specs.Values.{kind_of};
-ghost use Rattle.gw_io.specs.Tries.{inner_of, has_failed, reads_of};
+ghost use Rattle.gw_io.specs.Tries.{inner_of, has_failed, reads_of, unended_reads};
 ghost use Rattle.gw_commands.specs.Commands.{Does, WritesText};
 ghost use Rattle.gw_commands.specs.Verdicts.{AnswersVerdict, RefusesVerdict};
 ghost use Rattle.gw_cli.specs.Asked.{AnswersWords, DoesWords};
@@ -38,7 +38,7 @@ pub fn command<R: Files, S: AsStr, I: Read, W: Write, F: Write>(
         (I.remaining (inner_of input.old)) (I.remaining (inner_of input.new)) (has_failed input.new)
         (W.contents (inner_of output.old)) (W.contents (inner_of output.new)) (has_failed output.new) result }
     ensures does { DoesWords (I.remaining (inner_of input.old)) (I.remaining (inner_of input.new))
-        (has_failed input.new) (reads_of input.new)
+        (has_failed input.new) (unended_reads input.old input.new)
         (W.contents (inner_of output.old)) (W.contents (inner_of output.new)) (has_failed output.new)
         (F.contents (inner_of faults.old)) (F.contents (inner_of faults.new)) (has_failed faults.new) result }
 {

@@ -2,7 +2,7 @@
 
 ghost use Rattle.std.specs.Prelude.{◌≡◌, false, is_some, vec_len};
 ghost use Rattle.std.specs.List.{list_any};
-ghost use Rattle.gw_io.specs.Tries.{inner_of, has_failed, reads_of};
+ghost use Rattle.gw_io.specs.Tries.{inner_of, has_failed, reads_of, unended_reads};
 ghost use Rattle.gw_cli.specs.Asked.{DoesRun, RunsWords};
 
 use crate::dispatch::answer_words;
@@ -53,7 +53,7 @@ where
     requires output { has_failed output.old ≡ false }
     requires faults { has_failed faults.old ≡ false }
     ensures { RunsWords (I.remaining (inner_of input.old)) (I.remaining (inner_of input.new))
-        (has_failed input.new) (reads_of input.new)
+        (has_failed input.new) (unended_reads input.old input.new)
         (W.contents (inner_of output.old)) (W.contents (inner_of output.new)) (has_failed output.new)
         (F.contents (inner_of faults.old)) (F.contents (inner_of faults.new)) (has_failed faults.new) result }
 {
@@ -83,7 +83,8 @@ where
     requires input { has_failed input.old ≡ false }
     requires output { has_failed output.old ≡ false }
     ensures { DoesRun run.now
-        (I.remaining (inner_of input.old)) (I.remaining (inner_of input.new)) (has_failed input.new) (reads_of input.new)
+        (I.remaining (inner_of input.old)) (I.remaining (inner_of input.new))
+        (has_failed input.new) (unended_reads input.old input.new)
         (W.contents (inner_of output.old)) (W.contents (inner_of output.new)) (has_failed output.new) result }
 {
     if run.progress || rt.is_watched() {
@@ -116,7 +117,8 @@ where
     requires input { has_failed input.old ≡ false }
     requires output { has_failed output.old ≡ false }
     ensures { DoesRun run.now
-        (I.remaining (inner_of input.old)) (I.remaining (inner_of input.new)) (has_failed input.new) (reads_of input.new)
+        (I.remaining (inner_of input.old)) (I.remaining (inner_of input.new))
+        (has_failed input.new) (unended_reads input.old input.new)
         (W.contents (inner_of output.old)) (W.contents (inner_of output.new)) (has_failed output.new) result }
 {
     let (limits, sources, shown) = (run.limits, run.sources.as_slice(), run.shown);

@@ -3,7 +3,7 @@
 use Rattle.std.specs.Prelude.{◌≡◌, ◌⊎◌, ℕ, Bool, false, List, [], Option}
 use Rattle.std.specs.Io.KnownBytes.{Appends}
 use Rattle.gw_replay.specs.declared.whole.ReplayFault.{ReplayFault}
-use Rattle.gw_replay.specs.Written.{IsReplayed, IsPartlyReplayed, IsReplayFault, fault_number}
+use Rattle.gw_replay.specs.Written.{IsReplayed, IsPartlyReplayed, IsHalted, IsReplayFault, fault_number}
 use Rattle.gw_io.specs.Written.{WritesPart}
 use Rattle.gw_input.specs.Refused.{refused_line}
 
@@ -11,14 +11,15 @@ use Rattle.gw_input.specs.Refused.{refused_line}
 abbrev pub fault_line : ReplayFault → List ℕ
 fault_line fault = refused_line (fault_number fault) []
 
--- the script ended early: behind a beginning of the answers to what was read stands the line that says why, or a beginning of it
--- where a write failed
+-- the script ended early: behind the answers that the fault lets stand is the line that says why, or a beginning of it where a
+-- write failed
 pub record EndsEarly (before after : Option (List ℕ)) (read_failed : Bool) (reads : ℕ) (old new : Option (List ℕ))
     (write_failed : Bool) : Type 0 where
   pub fault : ReplayFault
   pub why : IsReplayFault read_failed reads write_failed fault
   pub middle : Option (List ℕ)
   pub answers : IsPartlyReplayed before after old middle
+  pub halted : IsHalted read_failed before after old middle fault
   pub line : WritesPart middle new (fault_line fault)
   pub whole : write_failed ≡ false → Appends middle new (fault_line fault)
 

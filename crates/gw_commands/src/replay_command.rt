@@ -1,7 +1,7 @@
 //! The command `replay`: the lines of a script, each with its answer.
 
 ghost use Rattle.std.specs.Prelude.{◌≡◌, false};
-ghost use Rattle.gw_io.specs.Tries.{inner_of, has_failed, reads_of};
+ghost use Rattle.gw_io.specs.Tries.{inner_of, has_failed, reads_of, unended_reads};
 ghost use Rattle.gw_commands.specs.Replays.{Replays};
 
 use crate::refusal::Refusal;
@@ -23,7 +23,7 @@ pub fn replay<R: Read, W: Write, F: Write>(
     requires output { has_failed output.old ≡ false }
     requires unread { reads_of input.old ≡ 0 }
     ensures { Replays (R.remaining (inner_of input.old)) (R.remaining (inner_of input.new)) (has_failed input.new)
-        (reads_of input.new)
+        (unended_reads input.old input.new)
         (W.contents (inner_of output.old)) (W.contents (inner_of output.new)) (has_failed output.new) result }
 {
     let Err(fault) = replay_told(alloc, input, output, faults) else {

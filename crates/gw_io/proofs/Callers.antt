@@ -1,13 +1,17 @@
 -- For whoever reads in pieces or writes: what was read or written so far, with more behind it.
+use Rattle.std.specs.Prelude.{not, ◌&&◌, ◌||◌, if◌then◌else◌}
 use Rattle.std.proofs.Common.{◌≡◌, ◌<◌, ◌≤◌, ◌+◌, ◌-◌, ℕ, Bool, true, false, List, [], ◌++◌, length, length-append, length-drop}
 use Rattle.std.proofs.Common.{take, drop, Option, Some}
 use Rattle.std.proofs.Common.{None, Ok}
-use Rattle.std.proofs.Common.{sym, ap, ◌∙◌, subst, refl}
+use Rattle.std.proofs.Common.{sym, ap, ◌∙◌, subst, refl, true≢false}
+use Rattle.std.proofs.lemmas.Bool.{false≢true}
 use Rattle.std.proofs.Common.{append_assoc, append-nil, arith}
 use Rattle.std.specs.Io.KnownBytes.{Appends, Consumes, IsAtEnd, Keeps}
 use Rattle.std.proofs.Math.Seq.{take-length}
 use Rattle.std.proofs.lemmas.List.{take_all}
 use Rattle.gw_io.specs.Pieces.{IsNextPiece, GivesAtLeast}
+use Rattle.gw_io.specs.Tries.{has_ended, reads_of, unended_reads}
+use Rattle.gw_io.specs.declared.tried.Tried.{Tried}
 use Rattle.gw_io.specs.Written.{WritesPart}
 
 -- no read gave nothing
@@ -59,6 +63,30 @@ gives_kept a b c n m h kept same = record {
   consumed = consumed_kept a b c h.octets h.consumed kept;
   enough = let before = h.enough in omega arith;
 }
+
+-- a read that gave a piece did not meet the end
+pub unended_more : (ended before more : Bool) → more ≡ true → ended ≡ (before || not more) → ended ≡ before
+unended_more ended true true some h = h
+unended_more ended false true some h = h
+unended_more ended before false some h = absurd (false≢true some)
+
+-- where no read met the end, all reads count
+unended_when : (old new : Bool) (n : ℕ) → new ≡ old → (if new && not old then 0 else n) ≡ n
+unended_when true true n same = refl
+unended_when false false n same = refl
+unended_when true false n same = refl
+unended_when false true n same = absurd (true≢false same)
+
+pub unended_all : {T : Type 0} (old new : Tried T) → has_ended new ≡ has_ended old → unended_reads old new ≡ reads_of new
+unended_all old new same = unended_when (has_ended old) (has_ended new) (reads_of new) same
+
+-- and no more than all count
+unended_least : (b : Bool) (n most : ℕ) → n ≤ most → (if b then 0 else n) ≤ most
+unended_least true n most few = omega arith
+unended_least false n most few = few
+
+pub unended_few : {T : Type 0} (old new : Tried T) (most : ℕ) → reads_of new ≤ most → unended_reads old new ≤ most
+unended_few old new most few = unended_least (has_ended new && not (has_ended old)) (reads_of new) most few
 
 -- one text written behind another
 pub appended_on : (a b c : Option (List ℕ)) (xs ys : List ℕ) → Appends a b xs → Appends b c ys → Appends a c (xs ++ ys)

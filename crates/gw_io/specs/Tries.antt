@@ -1,5 +1,5 @@
 -- What is known of a reader or a writer that remembers its calls.
-use Rattle.std.specs.Prelude.{ℕ, Bool}
+use Rattle.std.specs.Prelude.{ℕ, Bool, not, ◌&&◌, if◌then◌else◌}
 use Rattle.gw_io.specs.declared.tried.Tried.{Tried}
 
 -- the reader or writer itself
@@ -10,6 +10,14 @@ inner_of t = t.inner
 abbrev pub has_failed : {T : Type 0} → Tried T → Bool
 has_failed t = t.failed
 
+-- a read of at least one octet gave none
+abbrev pub has_ended : {T : Type 0} → Tried T → Bool
+has_ended t = t.ended
+
 -- how often it was read, up to 4294967295
 abbrev pub reads_of : {T : Type 0} → Tried T → ℕ
 reads_of t = t.reads
+
+-- how often a reader was read from one state to another, if none of these reads met the end; else 0
+abbrev pub unended_reads : {T : Type 0} → Tried T → Tried T → ℕ
+unended_reads old new = if has_ended new && not (has_ended old) then 0 else reads_of new

@@ -1,8 +1,8 @@
 //! What a reader gives, piece by piece.
 
-ghost use Rattle.std.specs.Prelude.{◌≡◌, ◌≤◌, ◌+◌, ◌⊎◌, true, length, OnOk, OnErr};
+ghost use Rattle.std.specs.Prelude.{◌≡◌, ◌≤◌, ◌+◌, ◌⊎◌, ◌||◌, not, true, length, OnOk, OnErr, IfOk};
 ghost use Rattle.gw_io.specs.Pieces.{IsNextPiece, most_reads};
-ghost use Rattle.gw_io.specs.Tries.{inner_of, has_failed, reads_of};
+ghost use Rattle.gw_io.specs.Tries.{inner_of, has_failed, has_ended, reads_of};
 
 use crate::tried::Tried;
 use std::io::Read;
@@ -56,6 +56,8 @@ impl Pieces {
             self.new.piece result }
         ensures short { length self.new.piece ≤ 65536 }
         ensures whole { OnOk result (has_failed reader.new ≡ has_failed reader.old) }
+        ensures ended { IfOk result (λ more. has_ended reader.new ≡ (has_ended reader.old || not more)) }
+        ensures unended { OnErr result (has_ended reader.new ≡ has_ended reader.old) }
         ensures fault { OnErr result ((has_failed reader.new ≡ true) ⊎ (self.old.left ≡ 0)) }
         ensures left { OnOk result (self.new.left + 1 ≡ self.old.left) }
         ensures fewer { self.new.left ≤ self.old.left }

@@ -1,27 +1,31 @@
-//! Readers and writers that remember whether a call failed.
+//! Readers and writers that remember whether a call failed, and whether a read met the end.
 
 ghost use Rattle.std.specs.Prelude.{◌≡◌, false};
 
-/// Wraps a reader or a writer, and hands each call on to it. It remembers whether a call failed, and counts the reads.
+/// Wraps a reader or a writer, and hands each call on to it. It remembers whether a call failed and whether a read met the end,
+/// and counts the reads.
 #[derive(Drop)]
 pub struct Tried<T> {
     pub(crate) inner: T,
     pub(crate) failed: bool,
+    pub(crate) ended: bool,
     pub(crate) reads: u32,
 }
 
 impl<T> Tried<T> {
-    ghost use Rattle.gw_io.specs.Tries.{inner_of, has_failed, reads_of};
+    ghost use Rattle.gw_io.specs.Tries.{inner_of, has_failed, has_ended, reads_of};
 
     /// Wraps a reader or a writer that was not called before.
     pub fn new(inner: T) -> Self
         ensures inner { inner_of result ≡ inner }
         ensures failed { has_failed result ≡ false }
+        ensures ended { has_ended result ≡ false }
         ensures reads { reads_of result ≡ 0 }
     {
         Tried {
             inner,
             failed: false,
+            ended: false,
             reads: 0,
         }
     }
@@ -31,6 +35,13 @@ impl<T> Tried<T> {
         ensures { result ≡ has_failed self.now }
     {
         self.failed
+    }
+
+    /// Whether a read of at least one octet gave none: the end of the input. It stays true.
+    pub fn ended(&self) -> bool
+        ensures { result ≡ has_ended self.now }
+    {
+        self.ended
     }
 
     /// How many read calls there were, up to 4294967295.

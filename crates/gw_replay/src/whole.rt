@@ -1,7 +1,8 @@
 //! Whole scripts, from a reader to a writer.
 
-ghost use Rattle.std.specs.Prelude.{◌≡◌, false};
-ghost use Rattle.gw_io.specs.Tries.{inner_of, has_failed, reads_of};
+ghost use Rattle.std.specs.Prelude.{◌≡◌, ◌≤◌, false};
+ghost use Rattle.gw_io.specs.Pieces.{most_reads};
+ghost use Rattle.gw_io.specs.Tries.{inner_of, has_failed, reads_of, unended_reads};
 ghost use Rattle.gw_replay.specs.Written.{HasReplayed};
 ghost use Rattle.gw_replay.specs.declared.whole.ReplayFault.TheVariants as replay;
 
@@ -75,9 +76,10 @@ pub fn replay<R: Read, W: Write>(
     requires reader { has_failed reader.old ≡ false }
     requires unread { reads_of reader.old ≡ 0 }
     requires writer { has_failed writer.old ≡ false }
-    ensures { HasReplayed (R.remaining (inner_of reader.old)) (R.remaining (inner_of reader.new))
+    ensures replayed { HasReplayed (R.remaining (inner_of reader.old)) (R.remaining (inner_of reader.new))
         (W.contents (inner_of writer.old)) (W.contents (inner_of writer.new))
-        (has_failed reader.new) (reads_of reader.new) (has_failed writer.new) result }
+        (has_failed reader.new) (unended_reads reader.old reader.new) (has_failed writer.new) result }
+    ensures reads { reads_of reader.new ≤ most_reads }
 {
     replay_told(alloc, reader, writer, &mut Tried::new(io::sink()))
 }
@@ -92,9 +94,10 @@ pub fn replay_told<R: Read, W: Write, F: Write>(
     requires reader { has_failed reader.old ≡ false }
     requires unread { reads_of reader.old ≡ 0 }
     requires writer { has_failed writer.old ≡ false }
-    ensures { HasReplayed (R.remaining (inner_of reader.old)) (R.remaining (inner_of reader.new))
+    ensures replayed { HasReplayed (R.remaining (inner_of reader.old)) (R.remaining (inner_of reader.new))
         (W.contents (inner_of writer.old)) (W.contents (inner_of writer.new))
-        (has_failed reader.new) (reads_of reader.new) (has_failed writer.new) result }
+        (has_failed reader.new) (unended_reads reader.old reader.new) (has_failed writer.new) result }
+    ensures reads { reads_of reader.new ≤ most_reads }
 {
     let mut script_reader = ScriptReader::new(alloc);
     let mut pieces = Pieces::new();

@@ -1,7 +1,7 @@
 //! The files of policies that a command line names.
 
 ghost use Rattle.std.specs.Prelude.{◌≡◌, length, vec_len, false, IfOk, IfErr};
-ghost use Rattle.gw_io.specs.Tries.{inner_of, has_failed, reads_of};
+ghost use Rattle.gw_io.specs.Tries.{inner_of, has_failed, reads_of, unended_reads};
 ghost use Rattle.gw_commands.specs.Policies.{RefusesFile};
 ghost use Rattle.gw_run.specs.Forwarding.{ForwardsNamed, RefusesNamed};
 
@@ -39,7 +39,7 @@ pub fn forward_named<R: Threads + Wait + Sync + Files, G: Observer, I: Read, W: 
     requires output { has_failed output.old ≡ false }
     ensures { ForwardsNamed taking.now limits sources.now shown
         (I.remaining (inner_of input.old)) (I.remaining (inner_of input.new))
-        (has_failed input.new) (reads_of input.new)
+        (has_failed input.new) (unended_reads input.old input.new)
         (W.contents (inner_of output.old)) (W.contents (inner_of output.new)) (has_failed output.new) result }
 {
     let texts = match texts(rt, alloc, sources, faults) {

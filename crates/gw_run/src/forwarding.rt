@@ -1,7 +1,7 @@
 //! From the octets of an input to the lines of a run.
 
 ghost use Rattle.std.specs.Prelude.{◌≡◌, ◌<◌, length, map, false, IfOk, IfErr, All};
-ghost use Rattle.gw_io.specs.Tries.{inner_of, has_failed, reads_of};
+ghost use Rattle.gw_io.specs.Tries.{inner_of, has_failed, reads_of, unended_reads};
 ghost use Rattle.gw_run.specs.Forwarding.{
   Forwards,
   IsForwarded,
@@ -64,7 +64,8 @@ pub fn forward<R: Threads + Wait + Sync, G: Observer, I: Read, W: Write, F: Writ
     requires input { has_failed input.old ≡ false }
     requires output { has_failed output.old ≡ false }
     ensures { Forwards taking.now limits sources.now (map (λ text. text.items) texts.now) shown
-        (I.remaining (inner_of input.old)) (I.remaining (inner_of input.new)) (has_failed input.new) (reads_of input.new)
+        (I.remaining (inner_of input.old)) (I.remaining (inner_of input.new))
+        (has_failed input.new) (unended_reads input.old input.new)
         (W.contents (inner_of output.old)) (W.contents (inner_of output.new)) (has_failed output.new) result }
 {
     let found = forwarded(
@@ -96,7 +97,8 @@ fn forwarded<R: Threads + Wait + Sync, G: Observer, I: Read, F: Write>(
     ensures forwarded { IfOk result (λ text. IsForwarded taking.now limits sources.now (map (λ text. text.items) texts.now) shown
         (I.remaining (inner_of input.old)) (I.remaining (inner_of input.new)) (has_failed input.new) text.items) }
     ensures refused { IfErr result (IsForwardRefusal taking.now limits sources.now (map (λ text. text.items) texts.now)
-        (I.remaining (inner_of input.old)) (I.remaining (inner_of input.new)) (has_failed input.new) (reads_of input.new)) }
+        (I.remaining (inner_of input.old)) (I.remaining (inner_of input.new))
+        (has_failed input.new) (unended_reads input.old input.new)) }
 {
     match first_batch(alloc, sources, texts, faults) {
         Ok(first) => run_input(
@@ -124,7 +126,8 @@ fn run_input<R: Threads + Wait + Sync, G: Observer, I: Read, F: Write>(
     ensures ran { IfOk result (λ text. IsTraceRun taking.now limits first shown
         (I.remaining (inner_of input.old)) (I.remaining (inner_of input.new)) (has_failed input.new) text.items) }
     ensures refused { IfErr result (RefusesTrace taking.now limits first
-        (I.remaining (inner_of input.old)) (I.remaining (inner_of input.new)) (has_failed input.new) (reads_of input.new)) }
+        (I.remaining (inner_of input.old)) (I.remaining (inner_of input.new))
+        (has_failed input.new) (unended_reads input.old input.new)) }
 {
     match read_trace(alloc, input) {
         Ok(octets) => run_octets(

@@ -1,7 +1,7 @@
 //! The octets of a whole trace.
 
 ghost use Rattle.std.specs.Prelude.{◌≡◌, false, IfOk, IfErr};
-ghost use Rattle.gw_io.specs.Tries.{inner_of, has_failed, reads_of};
+ghost use Rattle.gw_io.specs.Tries.{inner_of, has_failed, reads_of, unended_reads};
 ghost use Rattle.gw_run.specs.Forwarding.{IsTraceInput, IsTraceFault};
 
 use crate::refusal::ForwardRefusal;
@@ -19,7 +19,7 @@ pub(crate) fn read_trace<R: Read>(
     requires unread { reads_of reader.old ≡ 0 }
     ensures input { IfOk result (λ octets. IsTraceInput (R.remaining (inner_of reader.old)) (R.remaining (inner_of reader.new))
         (has_failed reader.new) octets.items) }
-    ensures refused { IfErr result (IsTraceFault (has_failed reader.new) (reads_of reader.new)) }
+    ensures refused { IfErr result (IsTraceFault (has_failed reader.new) (unended_reads reader.old reader.new)) }
 {
     let mut octets = Vec::new(alloc);
     let mut pieces = Pieces::new();

@@ -84,8 +84,8 @@ pub record IsNoTrace (before after : Option (List ℕ)) (fault : TraceRefusal) :
   pub end : IsAtEnd after
   pub refused : whole_trace octets ≡ Err fault
 
--- why a trace was not read whole: memory was wanting; a read failed, or 16777216 reads each gave an octet at least; else what is
--- wrong with it
+-- why a trace was not read whole: memory was wanting; a read failed, or 16777216 reads did not meet the end and gave so many
+-- octets at least; else what is wrong with it. `reads` counts the reads where none met the end, and is 0 where one did.
 abbrev pub IsUnread : Option (List ℕ) → Option (List ℕ) → Bool → ℕ → TraceRefusal → Type 0
 IsUnread before after failed reads OutOfMemory = Unit {0}
 IsUnread before after failed reads ReadFault = (failed ≡ true) ⊎ ((reads ≡ most_reads) × GivesAtLeast before after most_reads)

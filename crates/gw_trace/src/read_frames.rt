@@ -3,7 +3,7 @@
 ghost use Rattle.std.specs.Prelude.{◌≡◌, ◌≤◌, ℕ, true, false, Err, IfOk, IfErr};
 ghost use Rattle.gw_trace.specs.declared.refusal.TraceRefusal.TheVariants.{ReadFault};
 ghost use Rattle.gw_io.specs.Pieces.{most_reads};
-ghost use Rattle.gw_io.specs.Tries.{inner_of, has_failed, reads_of};
+ghost use Rattle.gw_io.specs.Tries.{inner_of, has_failed, reads_of, unended_reads};
 ghost use Rattle.gw_trace.specs.Progress.{IsTraceOf, IsUnread};
 
 use crate::refusal::TraceRefusal;
@@ -22,7 +22,7 @@ pub fn frames<R: Read>(alloc: Global, reader: &mut Tried<R>) -> Result<Vec<Frame
         IsTraceOf (R.remaining (inner_of reader.old)) (R.remaining (inner_of reader.new)) frames.items) }
     ensures refused { IfErr result (λ e.
         IsUnread (R.remaining (inner_of reader.old)) (R.remaining (inner_of reader.new))
-        (has_failed reader.new) (reads_of reader.new) e) }
+        (has_failed reader.new) (unended_reads reader.old reader.new) e) }
     ensures failed { has_failed reader.new ≡ true → result ≡ Err ReadFault }
     ensures reads { reads_of reader.new ≤ most_reads }
 {

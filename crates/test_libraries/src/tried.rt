@@ -51,6 +51,7 @@ fn hands_reads_on(rt: HostRuntime) -> Result<(), Fail> {
     let mut reader = Tried::new(&mut stream);
     let mut octet = [0];
     for reads in 1..=2 {
+        assert!(rt; reader.ended() == (reads > 1));
         assert!(rt; reader.read(&mut octet)? == 0);
         assert!(rt; reader.reads() == reads);
         assert!(rt; !reader.failed());

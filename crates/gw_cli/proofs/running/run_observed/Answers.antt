@@ -1,7 +1,7 @@
 use Rattle.std.proofs.Common.{◌∙◌, ℕ, List, Option, ap, inl, inr, is_some, refl, subst, sym}
 use Rattle.std.specs.Borrow.{Bor}
 use Rattle.std.specs.List.{list_any}
-use Rattle.gw_io.specs.Tries.{inner_of, has_failed, reads_of}
+use Rattle.gw_io.specs.Tries.{inner_of, has_failed, unended_reads}
 use Rattle.gw_commands.specs.declared.policies.PolicySource.{PolicySource}
 use Rattle.gw_run.specs.Forwarding.{ForwardsNamed}
 use Rattle.gw_run.specs.PortInputs.{ForwardsFiles}
@@ -35,7 +35,7 @@ returns g c =
       subst
           (λ (sources : List PolicySource). ForwardsNamed taking run.limits sources run.shown
           (g.I.Read.remaining (inner_of c.args.input.now)) (g.I.Read.remaining (inner_of c.forward_named.new.input))
-          (has_failed c.forward_named.new.input) (reads_of c.forward_named.new.input)
+          (has_failed c.forward_named.new.input) (unended_reads c.args.input.now c.forward_named.new.input)
           (g.W.Write.contents (inner_of c.args.output.now)) (g.W.Write.contents (inner_of c.forward_named.new.output))
           (has_failed c.forward_named.new.output) c.forward_named.result)
           c.as_slice-sources.ensures.value c.forward_named.ensures,

@@ -1,6 +1,6 @@
 use Rattle.std.proofs.Common.{inl, refl, map}
 use Rattle.std.proofs.lemmas.Result.{IfErr-weaker, IfOk-weaker}
-use Rattle.gw_io.specs.Tries.{inner_of, has_failed, reads_of}
+use Rattle.gw_io.specs.Tries.{inner_of, has_failed, unended_reads}
 use Rattle.gw_run.proofs.Forwards.{refused_under_policies, under_policies}
 use Rattle.gw_run.proofs.forwarding.forwarded.Goals as goal
 
@@ -19,7 +19,8 @@ returns-in-Ok-clause-refused g c =
     (λ refusal why. refused_under_policies c.args.taking.now c.args.limits c.args.sources.now
     (map (λ text. text.items) c.args.texts.now)
     (g.I.Read.remaining (inner_of c.args.input.now)) (g.I.Read.remaining (inner_of c.run_input.new.input))
-    (has_failed c.run_input.new.input) (reads_of c.run_input.new.input) c.in-Ok.first refusal c.in-Ok.ensures.first why)
+    (has_failed c.run_input.new.input) (unended_reads c.args.input.now c.run_input.new.input)
+    c.in-Ok.first refusal c.in-Ok.ensures.first why)
     c.run_input.ensures.refused
 
 pub returns-in-Err-clause-refused : goal.returns-in-Err-clause-refused

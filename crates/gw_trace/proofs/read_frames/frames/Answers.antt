@@ -1,11 +1,11 @@
-use Rattle.std.proofs.Common.{◌≡◌, false, [], ◌++◌, Result, Ok, Err, inl, inr, sym, ap, ◌∙◌, subst, arith, true≢false}
+use Rattle.std.proofs.Common.{◌≡◌, false, [], ◌++◌, Result, Ok, Err, inl, inr, refl, sym, ap, ◌∙◌, subst, arith, true≢false}
 use Rattle.std.specs.Prelude.{is_err, OnOk}
 use Rattle.std.specs.Io.KnownBytes.{Consumes}
 use Rattle.std.proofs.lemmas.Result.{err_from_is_err_and}
 use Rattle.gw_io.specs.Pieces.{most_reads}
-use Rattle.gw_io.specs.Tries.{inner_of, has_failed, reads_of}
+use Rattle.gw_io.specs.Tries.{inner_of, has_failed, has_ended, reads_of, unended_reads}
 use Rattle.gw_io.proofs.Callers.{consumed_nothing, consumed_more, consumed_kept, met_piece, met_end, gives_nothing, gives_more}
-use Rattle.gw_io.proofs.Callers.{gives_kept}
+use Rattle.gw_io.proofs.Callers.{gives_kept, unended_more, unended_all}
 use Rattle.gw_trace.proofs.Faults.{trace_is_unread}
 use Rattle.gw_trace.proofs.Resuming.{nothing_read}
 use Rattle.gw_trace.proofs.read_frames.frames.Goals as goal
@@ -13,6 +13,7 @@ use Rattle.gw_trace.proofs.read_frames.frames.Goals as goal
 pub pieces-init : goal.pieces-init
 pieces-init g c = record {
   whole = c.requires.whole;
+  unended = refl;
   counted = omega (c.requires.unread, c.new-pieces.ensures, arith);
   gave = gives_nothing (g.R.Read.remaining (inner_of c.args.reader.now)) (reads_of c.args.reader.now) c.requires.unread;
   given = record {
@@ -34,7 +35,7 @@ returns-in_err-read-clause-refused g c =
           let all : reads_of c.pieces.reader ≡ most_reads = omega (none, c.pieces.invariant.counted, arith) in
           let same : reads_of c.read.new.reader ≡ most_reads = omega (none, c.pieces.invariant.counted, arith) in
           inr (
-            same,
+            unended_all c.args.reader.now c.read.new.reader (c.in_err-read.ensures.unended ∙ c.pieces.invariant.unended) ∙ same,
             gives_kept (g.R.Read.remaining (inner_of c.args.reader.now)) (g.R.Read.remaining (inner_of c.pieces.reader))
                 (g.R.Read.remaining (inner_of c.read.new.reader)) (reads_of c.pieces.reader) most_reads
                 c.pieces.invariant.gave c.in_err-read.ensures.piece (sym all),
@@ -54,7 +55,8 @@ returns-in_err-end-clause-refused g c =
     let so_far = c.pieces.invariant.given in
     let fault = err_from_is_err_and c.from_residual-in_err-end.result c.from_residual-in_err-end.ensures.1 in
     let end = met_end before after c.read.new.self.piece c.in_ok-read.field-0 c.if-branch.false c.in_ok-read.ensures.piece in
-    rw (fault.1, fault.2) (trace_is_unread given after (has_failed c.read.new.reader) (reads_of c.read.new.reader)
+    rw (fault.1, fault.2)
+    (trace_is_unread given after (has_failed c.read.new.reader) (unended_reads c.args.reader.now c.read.new.reader)
     c.in_err-end.field-0.0 so_far.octets (consumed_kept given before after so_far.octets so_far.consumed end.0) end.1
     (c.in_err-end.ensures so_far.octets so_far.read))
 
@@ -74,6 +76,9 @@ pieces-preserved g c =
     let piece = met_piece before after c.read.new.self.piece c.in_ok-read.field-0 c.if-branch.true c.in_ok-read.ensures.piece in
     record {
       whole = search (c.in_ok-read.ensures.whole, c.pieces.invariant.whole);
+      unended =
+          unended_more (has_ended c.read.new.reader) (has_ended c.pieces.reader) c.in_ok-read.field-0 c.if-branch.true
+          c.in_ok-read.ensures.ended ∙ c.pieces.invariant.unended;
       counted = omega (c.pieces.invariant.counted, arith);
       gave =
           gives_more given before after (reads_of c.pieces.reader) (reads_of c.read.new.reader) c.read.new.self.piece
