@@ -179,7 +179,8 @@ judged_start all w heard indices frame done front own number allowed placed lane
     (subst (λ x. J w.own x allowed placed lanes) (sym is_taken)
     (subst (λ x. J w.own w.taken x placed lanes) (sym none)
     (subst (λ x. J w.own w.taken [] x lanes) (sym nowhere)
-    (subst (λ x. J w.own w.taken [] [] x) (sym same_lanes) (judged_none all w heard indices frame done front s heard_it found fronts)))))
+    (subst (λ x. J w.own w.taken [] [] x) (sym same_lanes)
+    (judged_none all w heard indices frame done front s heard_it found fronts)))))
 
 -- the ledger has room for the frame
 pub room_heard : (all : List (List Pair)) (w heard : Worker) (frame : List ℕ) (done : List PortEvent) → WorkerStands all w done

@@ -109,10 +109,10 @@ held_by j = record {
   running = None;
 }
 
--- A worker heard a foreign frame, which was judged for the ports below one in one call: so many steps were made for it, those of the
--- work for these ports, and lanes hold what these steps placed.
-pub record Judged (all : List (List Pair)) (w : Worker) (indices : List (Option PairIndex)) (frame : List ℕ) (done : List PortEvent)
-    (port : ℕ) (j : Judging) (lanes : List LaneView) : Type 0 where
+-- A worker heard a foreign frame, which was judged for the ports below one in one call: so many steps were made for it, those of
+-- the work for these ports, and lanes hold what these steps placed.
+pub record Judged (all : List (List Pair)) (w : Worker) (indices : List (Option PairIndex)) (frame : List ℕ)
+    (done : List PortEvent) (port : ℕ) (j : Judging) (lanes : List LaneView) : Type 0 where
   pub stands : WorkerStands all w done
   pub foreign : is_local (ever_heard done) frame ≡ false
   pub found : AreFound all indices (batches done)

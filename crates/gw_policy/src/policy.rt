@@ -65,6 +65,8 @@ impl Policy {
 
     /// Whether a frame that was taken at the port `from` passes. A table is judged by its index, which is faster than to run
     /// its program.
+    // Inlined, so that the loop of `run` is a function of its own wherever two calls judge: what stands round it cannot move it.
+    #[inline(always)]
     pub fn verdict(&self, frame: &Frame, from: u8) -> bool
         ensures { result ≡ filter_passes self.now frame.now from }
     {
