@@ -133,7 +133,7 @@ fn ready<R: Wait + Abort>(rt: &R, alloc: Global, limits: Limits, port: u8, rows:
 }
 
 /// Lanes of one copy: room again, and the circle of sources at port 2.
-pub const CIRCLE: [Use; 12] = [
+pub const CIRCLE: [Use; 14] = [
     Use::Offer(0, Ok((0, 1, 0b100, 0b100))),
     Use::Offer(0, Ok((1, 1, 0b100, 0))),
     Use::Offer(1, Ok((0, 1, 0b100, 0b100))),
@@ -145,6 +145,8 @@ pub const CIRCLE: [Use; 12] = [
     Use::Next(2, Some(3), None),
     Use::Next(2, Some(0), Some((0, 2))),
     Use::Next(2, None, None),
+    Use::Offer(1, Ok((1, 1, 0b100, 0b100))),
+    Use::Next(2, Some(1), Some((1, 1))),
     Use::Offer(0, Err(OfferRefusal::FramesSpent)),
 ];
 
