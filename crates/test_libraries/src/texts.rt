@@ -7,6 +7,7 @@ use gw_log::LogRefusal;
 use gw_policy::Batch;
 use gw_ports::{CloseRefusal, MakeRefusal, OfferRefusal, RunRefusal, gateway};
 use gw_replay::ReplayFault;
+use gw_run::ForwardRefusal;
 use gw_text::AsmRefusal;
 use gw_trace::TraceRefusal;
 use std::alloc::{AllocError, Global};
@@ -170,15 +171,27 @@ const NOT_RUN: [(RunRefusal, &str); 6] = [
     ),
 ];
 
-const NO_TRACE: [(TraceRefusal, &str); 1] = [(
-    TraceRefusal::ReadFault,
-    "the trace could not be read to its end",
+const NO_TRACE: [(TraceRefusal, &str); 2] = [
+    (TraceRefusal::OutOfMemory, "memory was refused"),
+    (
+        TraceRefusal::ReadFault,
+        "the trace could not be read to its end",
+    ),
+];
+
+const NOT_FORWARDED: [(ForwardRefusal, &str); 1] = [(
+    ForwardRefusal::Stopped {
+        port: 3,
+        why: OfferRefusal::NoReading,
+    },
+    "port 3 stopped: the policies in force could not be read: offer the frame again",
 )];
 
 #[test]
 fn of_runs(rt: HostRuntime) -> Result<(), AllocError> {
     assert_told(&rt, rt.alloc(), &NOT_RUN)?;
-    assert_told(&rt, rt.alloc(), &NO_TRACE)
+    assert_told(&rt, rt.alloc(), &NO_TRACE)?;
+    assert_told(&rt, rt.alloc(), &NOT_FORWARDED)
 }
 
 const NOT_REPLAYED: [(ReplayFault, &str); 3] = [
