@@ -196,18 +196,19 @@ lane_there from to outcomes other = ap (λ own. if own then [] else lane_line fr
 pub no_lane : (from to : ℕ) (outcomes : List Outcome) → (to == from) ≡ true → line_to from outcomes to ≡ []
 no_lane from to outcomes own = ap (λ b. if b then [] else lane_line from to outcomes) own
 
--- the lines of the lanes from a port whose outcomes are there, or are not
-pub lanes_there : (ports from : ℕ) (lists : List (Vec Outcome Global)) (list : Vec Outcome Global) → slice_get lists from ≡
-    Some list
-    → lane_lines_from from ports list.items ≡ lines_from ports (map (λ (l : Vec Outcome Global). l.items) lists) from
-lanes_there ports from lists list there =
-    ap (λ o. option_map_or (lane_lines_from from ports) o [])
+-- what is made of a port's outcomes, which are there, or are not
+pub made_there : {A : Type 0} (make : List Outcome → List A) (lists : List (Vec Outcome Global)) (from : ℕ)
+    (list : Vec Outcome Global) → slice_get lists from ≡ Some list
+    → make list.items ≡ option_map_or make (slice_get (map (λ (l : Vec Outcome Global). l.items) lists) from) []
+made_there make lists from list there =
+    ap (λ o. option_map_or make o [])
     (sym (slice_get-map (λ (l : Vec Outcome Global). l.items) lists from
     ∙ ap (option_map (λ (l : Vec Outcome Global). l.items)) there))
 
-pub no_lanes : (ports from : ℕ) (lists : List (Vec Outcome Global)) → slice_get lists from ≡ None
-    → lines_from ports (map (λ (l : Vec Outcome Global). l.items) lists) from ≡ []
-no_lanes ports from lists none =
-    ap (λ o. option_map_or (lane_lines_from from ports) o [])
+pub made_none : {A : Type 0} (make : List Outcome → List A) (lists : List (Vec Outcome Global)) (from : ℕ)
+    → slice_get lists from ≡ None
+    → option_map_or make (slice_get (map (λ (l : Vec Outcome Global). l.items) lists) from) [] ≡ []
+made_none make lists from none =
+    ap (λ o. option_map_or make o [])
     (slice_get-map (λ (l : Vec Outcome Global). l.items) lists from
     ∙ ap (option_map (λ (l : Vec Outcome Global). l.items)) none)

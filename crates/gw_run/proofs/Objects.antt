@@ -1,14 +1,14 @@
 -- Texts for a JSON array, one after another.
-use Rattle.std.proofs.Common.{◌≡◌, ◌∙◌, ℕ, ◌+◌, ◌<◌, List, [], ◌∷◌, ◌++◌, Vec, Global, map, length, flat_map, ap, sym}
-use Rattle.std.proofs.Common.{◌==◌, if◌then◌else◌, refl, true, false, Some, None, string_bytes, get_or, append_assoc}
+use Rattle.std.proofs.Common.{◌≡◌, ◌∙◌, ℕ, ◌+◌, ◌<◌, List, [], ◌∷◌, ◌++◌, Global, map, length, flat_map, ap, sym}
+use Rattle.std.proofs.Common.{◌==◌, if◌then◌else◌, refl, true, false, string_bytes, get_or, append_assoc}
 use Rattle.std.proofs.Common.{add-one, zero-add, arith}
-use Rattle.std.specs.Prelude.{codes, slice_get, option_map, String}
+use Rattle.std.specs.Prelude.{codes, String}
 use Rattle.std.specs.List.{join_by, range_with_len}
 use Rattle.std.specs.Option.{option_map_or}
 use Rattle.std.proofs.lemmas.List.{append-nil, map-append}
 use Rattle.std.proofs.lemmas.Grind.{flat_map-append}
 use Rattle.std.proofs.lemmas.List.Folds.{flat_map-map}
-use Rattle.std.proofs.lemmas.Option.{slice_get-get_or, slice_get-map}
+use Rattle.std.proofs.lemmas.Option.{slice_get-get_or}
 use Rattle.gw_ledger.specs.declared.ledger.InLedger.{InLedger}
 use Rattle.gw_ledger.specs.declared.outcome.Outcome.{Outcome}
 use Rattle.gw_run.specs.Forwarding.{object_of, port_object, port_objects, policy_object, policy_objects}
@@ -86,22 +86,6 @@ lane_there from to outcomes other = ap (λ own. if own then [] else lane_object 
 
 pub no_lane : (from to : ℕ) (outcomes : List Outcome) → (to == from) ≡ true → objects_to from outcomes to ≡ []
 no_lane from to outcomes own = ap (λ b. if b then [] else lane_object from to outcomes ∷ []) own
-
--- the objects of the lanes from a port whose outcomes are there, or are not
-pub lanes_there : (ports from : ℕ) (lists : List (Vec Outcome Global)) (list : Vec Outcome Global)
-    → slice_get lists from ≡ Some list
-    → lane_objects_from from ports list.items ≡ objects_from ports (map (λ (l : Vec Outcome Global). l.items) lists) from
-lanes_there ports from lists list there =
-    ap (λ o. option_map_or (lane_objects_from from ports) o [])
-    (sym (slice_get-map (λ (l : Vec Outcome Global). l.items) lists from
-    ∙ ap (option_map (λ (l : Vec Outcome Global). l.items)) there))
-
-pub no_lanes : (ports from : ℕ) (lists : List (Vec Outcome Global)) → slice_get lists from ≡ None
-    → objects_from ports (map (λ (l : Vec Outcome Global). l.items) lists) from ≡ []
-no_lanes ports from lists none =
-    ap (λ o. option_map_or (lane_objects_from from ports) o [])
-    (slice_get-map (λ (l : Vec Outcome Global). l.items) lists from
-    ∙ ap (option_map (λ (l : Vec Outcome Global). l.items)) none)
 
 -- joined texts, by their octets
 pub joined : (texts : List (String Global)) (objects : List (List ℕ)) (text : List ℕ)

@@ -4,7 +4,8 @@ use Rattle.std.proofs.lemmas.Grind.{common_steps}
 use Rattle.std.proofs.lemmas.Option.{slice_get_past, slice_get_read}
 use Rattle.std.proofs.lemmas.Bool.Decides.{nat_tests}
 use Rattle.gw_run.specs.Forwarding.{lane_objects_from, objects_from}
-use Rattle.gw_run.proofs.Objects.{lanes_there, lanes_whole, no_lanes, texts_more, texts_none}
+use Rattle.gw_run.proofs.Forwarded.{made_none, made_there}
+use Rattle.gw_run.proofs.Objects.{lanes_whole, texts_more, texts_none}
 use Rattle.gw_run.proofs.json.lane_objects.Goals as goal
 use Rattle.gw_run.proofs.json.lane_objects.Goals.{in-Some+in_ok-push_lanes_from, in_default}
 
@@ -22,7 +23,7 @@ loop-from-preserved c =
           texts_more (objects_from ports (map (λ list. list.items) lists)) from [] now
           (map string_bytes c.match-get.objects.items) (lane_objects_from from ports w.deref.result.now) c.loop-from.invariant
           (ap (λ list. lane_objects_from from ports list) w.deref.ensures.value
-          ∙ lanes_there ports from lists w.in-Some.outcomes.now there)
+          ∙ made_there (lane_objects_from from ports) lists from w.in-Some.outcomes.now there)
           (ap (λ objects. map string_bytes objects.items) w.objects-is ∙ w.in_ok-push_lanes_from.ensures))
       | in_default w ↦ (
           let found = w.in_default.ensures.lookup in
@@ -30,7 +31,7 @@ loop-from-preserved c =
           first_of (search (rules, slice_get_past), grind (arith, common_steps, nat_tests, slice_get_past)) in
           ap (λ objects. map string_bytes objects.items) w.objects-is
           ∙ texts_none (objects_from ports (map (λ list. list.items) lists)) from [] now c.loop-from.invariant
-          (no_lanes ports from lists none))
+          (made_none (lane_objects_from from ports) lists from none))
     ]
 
 pub returns : goal.returns

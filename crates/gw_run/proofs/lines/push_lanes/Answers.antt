@@ -5,7 +5,7 @@ use Rattle.std.proofs.lemmas.Option.{slice_get_past, slice_get_read}
 use Rattle.std.proofs.lemmas.Bool.Decides.{nat_tests}
 use Rattle.gw_run.specs.Forwarding.{lane_lines_from, lines_from}
 use Rattle.gw_input.proofs.Callers.{line_more}
-use Rattle.gw_run.proofs.Forwarded.{lanes_done, lanes_there, line_none, no_lanes}
+use Rattle.gw_run.proofs.Forwarded.{lanes_done, line_none, made_none, made_there}
 use Rattle.gw_run.proofs.lines.push_lanes.Goals as goal
 use Rattle.gw_run.proofs.lines.push_lanes.Goals.{in-Some+in_ok-push_lanes_from, in_default}
 
@@ -24,7 +24,7 @@ loop-from-preserved c =
           (string_bytes c.loop-from.text) (lane_lines_from from ports w.deref.result.now) (string_bytes c.match-get.text)
           c.loop-from.invariant
           (ap (λ list. lane_lines_from from ports list) w.deref.ensures.value
-          ∙ lanes_there ports from lists w.in-Some.outcomes.now there)
+          ∙ made_there (lane_lines_from from ports) lists from w.in-Some.outcomes.now there)
           (ap string_bytes w.text-is ∙ w.in_ok-push_lanes_from.ensures))
       | in_default w ↦ (
           let found = w.in_default.ensures.lookup in
@@ -32,7 +32,7 @@ loop-from-preserved c =
           first_of (search (rules, slice_get_past), grind (arith, common_steps, nat_tests, slice_get_past)) in
           ap string_bytes w.text-is
           ∙ line_none (lines_from ports (map (λ list. list.items) lists)) from (string_bytes c.args.text.now)
-          (string_bytes c.loop-from.text) c.loop-from.invariant (no_lanes ports from lists none))
+          (string_bytes c.loop-from.text) c.loop-from.invariant (made_none (lane_lines_from from ports) lists from none))
     ]
 
 pub returns : goal.returns
