@@ -11,9 +11,9 @@ use Rattle.gw_log.specs.LogFrames.{refusal_number}
 use Rattle.gw_frame.specs.Record as frame
 use Rattle.gw_trace.specs.Refusals as trace
 use Rattle.gw_trace.specs.declared.refusal.TraceRefusal.{TraceRefusal}
-use Rattle.gw_trace.specs.declared.refusal.TraceRefusal.TheVariants as trace_refusal
 use Rattle.gw_trace.specs.declared.refusal.TraceRefusal.TheVariants.{BadRecord}
 use Rattle.gw_judge.specs.declared.capture_fault.CaptureFault.{CaptureFault}
+use Rattle.gw_judge.specs.declared.capture_tally.CaptureTally.{CaptureTally}
 use Rattle.gw_judge.specs.declared.fate.Fate.{Fate}
 use Rattle.gw_judge.specs.declared.fault.JudgeFault.{JudgeFault}
 use Rattle.gw_judge.specs.declared.fault.JudgeFault.TheVariants as ends
@@ -22,10 +22,10 @@ use Rattle.gw_judge.specs.declared.groups.Grouping.TheVariants as grouping
 use Rattle.gw_judge.specs.declared.report.Wanted.{Wanted}
 use Rattle.gw_judge.specs.declared.report.Wanted.TheVariants as wanted
 use Rattle.gw_judge.specs.declared.tally.Tally.{Tally}
-use Rattle.gw_judge.specs.Captures.{IsCaptureJudged, IsCapturePartlyJudged}
+use Rattle.gw_judge.specs.Captures.{IsCaptureJudged, IsCapturePartlyJudged, with_refused}
 use Rattle.gw_judge.specs.Fates.{fate_of, policy_fate, table_fate}
 use Rattle.gw_judge.specs.Judged.{IsJudged, IsPartlyJudged, fault_number, wanted_front}
-use Rattle.gw_judge.specs.Openings.{Opens, is_capture}
+use Rattle.gw_judge.specs.FirstOctets.{Opens, is_capture}
 use Rattle.gw_commands.specs.declared.judge_command.LogQuery.{LogQuery}
 use Rattle.gw_commands.specs.declared.judge_command.PolicyKind.{PolicyKind}
 use Rattle.gw_commands.specs.declared.judge_command.PolicyKind.TheVariants as kind
@@ -103,44 +103,43 @@ EndsLog fate lines counts by shown strict before after read_failed old new faile
 -- the line of what ends a capture early: of a record that is no frame its index, and the number of what is wrong with it
 abbrev pub capture_line : TraceRefusal → List ℕ
 capture_line (BadRecord index why) = refused_line 93 (index ∷ frame.refusal_number why ∷ [])
-capture_line trace_refusal.OutOfMemory = refused_line 100 []
 capture_line why = refused_line (trace.refusal_number why) []
 
--- the frames of a capture were judged to its end and counted in these groups, and the counts told
-pub record IsCaptureEnded (fate : List ℕ → Fate) (counts : Tally → List ℕ) (by : Grouping) (first : List ℕ)
+-- the records of a capture were judged to its end and its frames counted in these groups, and the counts told
+pub record IsCaptureEnded (fate : List ℕ → Fate) (counts : Tally → List ℕ) (by : Grouping) (strict : Bool) (first : List ℕ)
     (before after old new : Option (List ℕ)) (failed : Bool) (status : ℕ) : Type 0 where
-  pub tally : Tally
-  pub judged : IsCaptureJudged fate first before after tally
-  pub grouped : tally.groups.grouping ≡ by
-  pub told : TellsCounts (told_counts counts by) Counts tally old new failed status
+  pub records : CaptureTally
+  pub judged : IsCaptureJudged fate strict first before after records
+  pub grouped : records.frames.groups.grouping ≡ by
+  pub told : TellsCounts (told_counts counts by) Counts (with_refused records.refused records.frames) old new failed status
 
 -- the capture ended early, and it is told why
-pub record CaptureEndsEarly (first : List ℕ) (before after : Option (List ℕ)) (read_failed : Bool)
+pub record CaptureEndsEarly (strict : Bool) (first : List ℕ) (before after : Option (List ℕ)) (read_failed : Bool)
     (old new : Option (List ℕ)) (failed : Bool) (status : ℕ) : Type 0 where
   pub fault : CaptureFault
-  pub judged : IsCapturePartlyJudged first before after read_failed fault
+  pub judged : IsCapturePartlyJudged strict first before after read_failed fault.judged fault.why
   pub told : WritesText (capture_line fault.why) 1 status old new failed
 
-abbrev pub CountsCapture : (List ℕ → Fate) → (Tally → List ℕ) → Grouping → List ℕ → Option (List ℕ) → Option (List ℕ) → Bool
-    → Option (List ℕ) → Option (List ℕ) → Bool → ℕ → Type 0
-CountsCapture fate counts by first before after read_failed old new failed status =
-    (IsCaptureEnded fate counts by first before after old new failed status × (read_failed ≡ false))
-    ⊎ CaptureEndsEarly first before after read_failed old new failed status
+abbrev pub CountsCapture : (List ℕ → Fate) → (Tally → List ℕ) → Grouping → Bool → List ℕ → Option (List ℕ) → Option (List ℕ)
+    → Bool → Option (List ℕ) → Option (List ℕ) → Bool → ℕ → Type 0
+CountsCapture fate counts by strict first before after read_failed old new failed status =
+    (IsCaptureEnded fate counts by strict first before after old new failed status × (read_failed ≡ false))
+    ⊎ CaptureEndsEarly strict first before after read_failed old new failed status
 
 -- a capture has no lines: where they are asked for, nothing more is read and nothing is written
 abbrev pub HasNoLines : Option (List ℕ) → Option (List ℕ) → Bool → Option (List ℕ) → Option (List ℕ) → Bool → ℕ → Type 0
 HasNoLines before after read_failed old new failed status =
     (after ≡ before) × (read_failed ≡ false) × WritesText [] 1 status old new failed
 
-abbrev pub EndsCapture : (List ℕ → Fate) → (Tally → List ℕ) → Grouping → Shown → List ℕ → Option (List ℕ) → Option (List ℕ)
-    → Bool → Option (List ℕ) → Option (List ℕ) → Bool → ℕ → Type 0
-EndsCapture fate counts by Counts first before after read_failed old new failed status =
-    CountsCapture fate counts by first before after read_failed old new failed status
-EndsCapture fate counts by Passed first before after read_failed old new failed status =
+abbrev pub EndsCapture : (List ℕ → Fate) → (Tally → List ℕ) → Grouping → Shown → Bool → List ℕ → Option (List ℕ)
+    → Option (List ℕ) → Bool → Option (List ℕ) → Option (List ℕ) → Bool → ℕ → Type 0
+EndsCapture fate counts by Counts strict first before after read_failed old new failed status =
+    CountsCapture fate counts by strict first before after read_failed old new failed status
+EndsCapture fate counts by Passed strict first before after read_failed old new failed status =
     HasNoLines before after read_failed old new failed status
-EndsCapture fate counts by Blocked first before after read_failed old new failed status =
+EndsCapture fate counts by Blocked strict first before after read_failed old new failed status =
     HasNoLines before after read_failed old new failed status
-EndsCapture fate counts by Each first before after read_failed old new failed status =
+EndsCapture fate counts by Each strict first before after read_failed old new failed status =
     HasNoLines before after read_failed old new failed status
 
 -- ---- any input
@@ -158,7 +157,7 @@ pub record FailsToOpen (shown : Shown) (before after : Option (List ℕ)) (read_
 abbrev pub EndsOpened : Bool → (List ℕ → Fate) → List ℕ → (Tally → List ℕ) → Grouping → Shown → Bool → List ℕ
     → Option (List ℕ) → Option (List ℕ) → Option (List ℕ) → Bool → Option (List ℕ) → Option (List ℕ) → Bool → ℕ → Type 0
 EndsOpened true fate lines counts by shown strict first before middle after read_failed old new failed status =
-    EndsCapture fate counts by shown first middle after read_failed old new failed status
+    EndsCapture fate counts by shown strict first middle after read_failed old new failed status
 EndsOpened false fate lines counts by shown strict first before middle after read_failed old new failed status =
     EndsLog (fate_of fate) lines counts by shown strict before after read_failed old new failed status
 

@@ -8,7 +8,7 @@ ghost use Rattle.gw_commands.specs.Judgings.{CountsCapture, EndsCapture, capture
 
 use crate::judge_command::{LogPolicy, LogQuery, Shown, tell_counts};
 use crate::log_counts::TellsParts;
-use crate::notes::{note_no_frames, note_no_lines};
+use crate::notes::{note_no_lines, note_refused_records};
 use crate::responding::write_refusal;
 use gw_input::{Line, refused};
 use gw_io::Tried;
@@ -33,7 +33,7 @@ pub(crate) fn judge_frames<D: TellsParts, I: Read, W: Write, F: Write>(
     requires output { has_failed output.old ≡ false }
     requires groups { groups ≡ no_groups query.by }
     ensures { EndsCapture (D.fate_by policy.entry.decider.now query.port)
-        (D.counts_by policy.entry.decider.now policy.entry.rule_lines.now) query.by query.shown first.now
+        (D.counts_by policy.entry.decider.now policy.entry.rule_lines.now) query.by query.shown query.strict first.now
         (I.remaining (inner_of input.old)) (I.remaining (inner_of input.new)) (has_failed input.new)
         (W.contents (inner_of output.old)) (W.contents (inner_of output.new)) (has_failed output.new) result }
 {
@@ -46,7 +46,7 @@ pub(crate) fn judge_frames<D: TellsParts, I: Read, W: Write, F: Write>(
     }
 }
 
-/// Counts each frame of a capture, of which these first octets were read before.
+/// Counts each record of a capture, of which these first octets were read before.
 fn count_frames<D: TellsParts, I: Read, W: Write, F: Write>(
     alloc: Global,
     query: LogQuery,
@@ -62,22 +62,23 @@ fn count_frames<D: TellsParts, I: Read, W: Write, F: Write>(
     requires groups { groups ≡ no_groups query.by }
     requires counts { query.shown ≡ Counts }
     ensures { CountsCapture (D.fate_by policy.entry.decider.now query.port)
-        (D.counts_by policy.entry.decider.now policy.entry.rule_lines.now) query.by first.now
+        (D.counts_by policy.entry.decider.now policy.entry.rule_lines.now) query.by query.strict first.now
         (I.remaining (inner_of input.old)) (I.remaining (inner_of input.new)) (has_failed input.new)
         (W.contents (inner_of output.old)) (W.contents (inner_of output.new)) (has_failed output.new) result }
 {
     let (decider, port) = (policy.decider, query.port);
-    match judge_capture(alloc, decider, port, groups, first, input) {
-        Ok(tally) => {
-            note_no_frames(&tally, faults);
+    match judge_capture(decider, port, query.strict, groups, first, input) {
+        Ok(told) => {
+            let first = told.first;
+            let tally = told.lines();
+            note_refused_records(&tally, first, faults);
             tell_counts(alloc, query, policy, &tally, output, faults)
         }
         Err(fault) => write_refusal(capture_line(fault.why).as_bytes(), &fault, output, faults),
     }
 }
 
-/// The line of what ends a capture early: its number, and of a record that is no frame its index and what is wrong with it. Want
-/// of memory is 100, as of every command.
+/// The line of what ends a capture early: its number, and of a record that is no frame its index and what is wrong with it.
 fn capture_line(why: TraceRefusal) -> Line
     ensures { result ≡ capture_line why }
 {
@@ -85,7 +86,6 @@ fn capture_line(why: TraceRefusal) -> Line
         TraceRefusal::BadRecord { index, why } => {
             refused(93, &[index as u64, u64::from(why.number())])
         }
-        TraceRefusal::OutOfMemory => refused(100, &[]),
         _ => refused(why.number(), &[]),
     }
 }

@@ -30,7 +30,7 @@ use crate::texts::program;
 use gw_input::{Line, refused};
 use gw_io::{ReadFault, Tried};
 use gw_judge::{
-    Asked, Grouping, Groups, Head, JudgeFault, Named, Opening, Tally, Wanted, judge_opened,
+    Asked, FirstOctets, Grouping, Groups, Head, JudgeFault, Named, Tally, Wanted, judge_opened,
 };
 use gw_policy::Policy;
 use gw_table::IndexedTable;
@@ -75,7 +75,7 @@ pub struct LogQuery {
     pub shown: Shown,
     /// In which groups frames are counted, where counts are shown. By nothing they are counted by the parts of a table.
     pub by: Grouping,
-    /// Whether the first line that says no classic frame ends the command.
+    /// Whether the first line that says no classic frame, or the first record that is none, ends the command.
     pub strict: bool,
 }
 
@@ -110,8 +110,9 @@ pub fn judge_named<R: Files, I: Read, W: Write, F: Write>(
 /// Judges each line of a log by the policy of a file's text, and writes the lines that are asked for, or the counts of all. An
 /// input that begins with a magic number of classic pcap is a capture: each of its frames is judged, and it has counts alone.
 /// Refused are the policy's text as by the commands `table` and `check`, and a person is told which file it is; 96, a read that
-/// failed; strictly 101 to 113, the first line that says no classic frame; and 91 to 93 and 95, what is wrong with a capture.
-/// Where lines are asked for, nothing else is written, and a person is told of the rest.
+/// failed; strictly 101 to 113, the first line that says no classic frame, and 93, the first record of a capture that is none;
+/// and 91, 92, 93 and 95, a capture whose header is wrong or whose last record is cut. Where lines are asked for, nothing else is
+/// written, and a person is told of the rest.
 pub fn judge_log<I: Read, W: Write, F: Write>(
     alloc: Global,
     query: LogQuery,
@@ -218,10 +219,10 @@ fn judge_grouped<D: TellsParts, I: Read, W: Write, F: Write>(
         (I.remaining (inner_of input.old)) (I.remaining (inner_of input.new)) (has_failed input.new)
         (W.contents (inner_of output.old)) (W.contents (inner_of output.new)) (has_failed output.new) result }
 {
-    match Opening::read(input) {
-        Ok(opening) => {
-            let first = opening.octets();
-            if opening.is_capture() {
+    match FirstOctets::read(input) {
+        Ok(octets) => {
+            let first = octets.octets();
+            if octets.is_capture() {
                 judge_frames(alloc, query, policy, groups, first, input, output, faults)
             } else {
                 judge_lines(alloc, query, policy, groups, first, input, output, faults)

@@ -7,7 +7,7 @@ use gw_ident::{EXTENDED_FLAG, GREATEST_EXTENDED, GREATEST_STANDARD};
 use gw_input::line_of_rule;
 use gw_insn::read_listing;
 use gw_io::Tried;
-use gw_judge::{Head, NoLog, Tally};
+use gw_judge::{Head, NoFrame, NoLog, Tally};
 use gw_log::LogRefusal;
 use gw_table::Part;
 use std::alloc::Global;
@@ -146,9 +146,20 @@ pub fn note_no_lines<F: Write>(faults: &mut Tried<F>) {
     );
 }
 
-/// Tells of a capture without frames.
-pub fn note_no_frames<F: Write>(tally: &Tally, faults: &mut Tried<F>) {
-    if tally.lines == 0 {
+/// Tells how many records of a capture are no frames, and which is the first; and of a capture without records.
+pub fn note_refused_records<F: Write>(
+    tally: &Tally,
+    first: Option<NoFrame>,
+    faults: &mut Tried<F>,
+) {
+    let (count, records) = (tally.counts.refused, tally.lines);
+    if records == 0 {
         let _ = writeln!(faults, "gw: the capture is empty");
+    }
+    if let Some(NoFrame { index, why }) = first {
+        let _ = writeln!(
+            faults,
+            "gw: 93: {count} of {records} records, the first is record {index}, counted from 0: {why}"
+        );
     }
 }

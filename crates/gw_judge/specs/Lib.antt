@@ -7,7 +7,7 @@ pub mod Judged
 pub mod Interfaces
 pub mod Egress
 -- the first octets of an input, and what judging a trace reads and counts
-pub mod Openings
+pub mod FirstOctets
 pub mod Captures
 -- the inside: a tally with a line more, parts of lines, and how far a log was judged
 pub mod Counting

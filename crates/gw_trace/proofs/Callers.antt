@@ -1,14 +1,16 @@
--- For whoever feeds a trace: what no octets give, and which faults octets have.
-use Rattle.std.proofs.Common.{◌≡◌, ℕ, List, []}
-use Rattle.gw_trace.specs.declared.stage.Stage.TheVariants.{Failed}
+-- For whoever feeds a trace: which whole records octets have, and what is wrong with a header.
+use Rattle.std.proofs.Common.{◌≡◌, ℕ, List, Result, take, refl}
+use Rattle.gw_frame.specs.declared.refusal.FrameRefusal.{FrameRefusal}
 use Rattle.gw_trace.specs.declared.refusal.TraceRefusal.{TraceRefusal}
-use Rattle.gw_trace.specs.FaultKinds.{IsFault}
-use Rattle.gw_trace.specs.Traces.{reading}
-use Rattle.gw_trace.proofs.Faults.{reading_faults}
-use Rattle.gw_trace.proofs.Resuming.{nothing_read}
+use Rattle.gw_trace.specs.FaultKinds.{IsHeaderFault}
+use Rattle.gw_trace.specs.Recorded.{Begun, HasBadHeader, HasSoFar, IsReadTo}
+use Rattle.gw_trace.specs.Traces.{header_of}
+use Rattle.gw_trace.proofs.Parting.{so_far_read}
+use Rattle.gw_trace.proofs.Faults.{header_faults}
 
-pub no_frames : (reading []).frames ≡ []
-no_frames = nothing_read
+pub so_far : (kept : Begun) (octets : List ℕ) (records : List (Result (List ℕ) FrameRefusal)) → IsReadTo kept octets records
+    → HasSoFar octets records
+so_far kept octets records h = so_far_read kept octets records h
 
-pub faults_of : (octets : List ℕ) (fault : TraceRefusal) → (reading octets).stage ≡ Failed fault → IsFault fault
-faults_of octets fault shows = reading_faults octets fault shows
+pub bad_header_kind : (octets : List ℕ) (fault : TraceRefusal) → HasBadHeader octets fault → IsHeaderFault fault
+bad_header_kind octets fault bad = header_faults (take 24 octets) (header_of (take 24 octets)) fault refl bad.header

@@ -11,30 +11,42 @@ use Rattle.gw_trace.specs.declared.refusal.TraceRefusal.TheVariants.{BadMagic, B
 use Rattle.gw_trace.specs.declared.refusal.TraceRefusal.TheVariants.{ReadFault}
 use Rattle.gw_trace.specs.Traces.{Contents, contents, index_of, reading_from, reading_behind, reading, header_in, header_of}
 use Rattle.gw_trace.specs.Traces.{is_version_2_4, is_link_227, order_of, ending}
-use Rattle.gw_trace.specs.FaultKinds.{IsFault}
+use Rattle.gw_trace.specs.FaultKinds.{IsFault, IsHeaderFault}
 use Rattle.gw_trace.specs.Progress.{IsNoTrace, IsUnread}
 use Rattle.gw_trace.proofs.Resuming.{reading_header, reading_records, by_test}
 
-header_faults : (header : List ℕ) (r : Result Endian TraceRefusal) (fault : TraceRefusal) → header_of header ≡ r → r ≡ Err fault
-    → IsFault fault
+-- a header has a fault of its own
+pub header_faults : (header : List ℕ) (r : Result Endian TraceRefusal) (fault : TraceRefusal) → header_of header ≡ r
+    → r ≡ Err fault → IsHeaderFault fault
 unfolding header_of
 header_faults header r fault e h = behind_magic (order_of header) (e ∙ h)
   where
-    failed_with : (met : TraceRefusal) → IsFault met → ◌≡◌ {A = Result Endian TraceRefusal} (Err met) (Err fault) → IsFault fault
-    failed_with met is same = let one : met ≡ fault = cc in subst IsFault one is
+    failed_with : (met : TraceRefusal) → IsHeaderFault met → ◌≡◌ {A = Result Endian TraceRefusal} (Err met) (Err fault)
+        → IsHeaderFault fault
+    failed_with met is same = let one : met ≡ fault = cc in subst IsHeaderFault one is
 
     is_fine : (order : Endian) → ◌≡◌ {A = Result Endian TraceRefusal} (Ok order) (Err fault) → ⊥
     is_fine order h = cc
 
     behind_version : (order : Endian) (version link : Bool)
-        → cond (not version) (Err BadVersion) (cond (not link) (Err BadLink) (Ok order)) ≡ Err fault → IsFault fault
+        → cond (not version) (Err BadVersion) (cond (not link) (Err BadLink) (Ok order)) ≡ Err fault → IsHeaderFault fault
     behind_version order false link h = failed_with BadVersion tt h
     behind_version order true false h = failed_with BadLink tt h
     behind_version order true true h = absurd (is_fine order h)
 
-    behind_magic : (order : Option Endian) → header_in header order ≡ Err fault → IsFault fault
+    behind_magic : (order : Option Endian) → header_in header order ≡ Err fault → IsHeaderFault fault
     behind_magic None h = failed_with BadMagic tt h
     behind_magic (Some order) h = behind_version order (is_version_2_4 order header) (is_link_227 order header) h
+
+-- which is one of octets
+of_header : (fault : TraceRefusal) → IsHeaderFault fault → IsFault fault
+of_header BadMagic kind = tt
+of_header BadVersion kind = tt
+of_header BadLink kind = tt
+of_header (BadRecord index why) kind = absurd kind
+of_header OutOfMemory kind = absurd kind
+of_header Cut kind = absurd kind
+of_header ReadFault kind = absurd kind
 
 -- a fault that shows in a reading is of the octets
 pub reading_faults : (octets : List ℕ) (fault : TraceRefusal) → (reading octets).stage ≡ Failed fault → IsFault fault
@@ -61,7 +73,7 @@ reading_faults octets fault h =
 
     behind : (r : Result Endian TraceRefusal) → header_of (take 24 octets) ≡ r
         → (reading_behind r (drop 24 octets)).stage ≡ Failed fault → IsFault fault
-    behind (Err met) e h = failed_with met (header_faults (take 24 octets) (Err met) met e refl) h
+    behind (Err met) e h = failed_with met (of_header met (header_faults (take 24 octets) (Err met) met e refl)) h
     behind (Ok order) e h = in_records order (contents order (drop 24 octets)) h
 
 -- want of memory is no fault of octets

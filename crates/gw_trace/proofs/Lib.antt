@@ -4,6 +4,7 @@ pub mod Contents
 pub mod Faults
 pub mod Feeding
 pub mod Joining
+pub mod Parting
 pub mod Resuming
 pub mod Shared
 pub mod Verdicts

@@ -1,6 +1,7 @@
--- public meaning: what a trace is, what a piece of it gives, and shares
+-- public meaning: what a trace is, what a piece of it gives, all its records, and shares
 pub mod Traces
 pub mod Progress
+pub mod Recorded
 pub mod Shares
 pub mod Refusals
 -- inside: what a checked trace keeps, what a scan and a piece find, and which faults are of octets

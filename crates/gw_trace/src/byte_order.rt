@@ -40,10 +40,11 @@ impl Endian {
     }
 }
 
-fn is_magic(number: u32) -> bool
-    ensures { result ≡ is_magic number }
+/// Whether a word is a magic number of classic pcap, with times in microseconds or in nanoseconds.
+pub fn is_magic(word: u32) -> bool
+    ensures { result ≡ is_magic word }
 {
-    number == 0xA1B2_C3D4 || number == 0xA1B2_3C4D
+    word == 0xA1B2_C3D4 || word == 0xA1B2_3C4D
 }
 
 // Finds the byte order in which the octets begin with a magic number.

@@ -8,15 +8,18 @@ mod decoded_piece;
 mod partial;
 mod read_frames;
 mod record;
+mod records;
 mod refusal;
 mod scan;
 mod share;
 mod stage;
 mod trace;
 
+pub use byte_order::is_magic;
 pub use checked::Checked;
 pub use gw_io::{Tried, WriteFault, write_all};
 pub use read_frames::frames;
+pub use records::{Records, Taken};
 pub use refusal::TraceRefusal;
 pub use share::Share;
 pub use trace::Trace;

@@ -1,6 +1,6 @@
 //! The records of a trace.
 
-ghost use Rattle.std.specs.Prelude.{◌≡◌, ◌≢◌, ◌≤◌, ◌+◌, length};
+ghost use Rattle.std.specs.Prelude.{◌≡◌, ◌≢◌, ◌≤◌, ◌<◌, ◌+◌, ◌^◌, length};
 ghost use Rattle.std.specs.Bool.{OnFalse, OnTrue};
 ghost use Rattle.gw_trace.specs.declared.record.Beginning.TheVariants.{Whole};
 ghost use Rattle.gw_trace.specs.Traces.{captured, captured_length, beginning};
@@ -26,7 +26,8 @@ pub enum Beginning {
 /// Reads the captured length in a record's header.
 pub fn captured_len(order: Endian, octets: &[u8]) -> usize
     requires { RECORD_HEADER ≤ length octets.now }
-    ensures { result ≡ captured_length order octets.now }
+    ensures len { result ≡ captured_length order octets.now }
+    ensures few { result < 2 ^ 32 }
 {
     order.read_u32(&octets[8..12]) as usize
 }

@@ -33,5 +33,5 @@ pub use gw_table::{
     Span, Table, TableRefusal, WhyDead, WhyNoFrame, compile, crossings,
 };
 pub use gw_text::{AsmRefusal, Explained, assemble, disassemble};
-pub use gw_trace::{Checked, Share, Trace, TraceRefusal, frames};
+pub use gw_trace::{Checked, Records, Share, Taken, Trace, TraceRefusal, frames};
 pub use gw_verify::{Cause, Path, Program, Refused, explain, holds};

@@ -1,7 +1,7 @@
 use Rattle.std.proofs.Common.{◌≡◌, ℕ, List, Bool, true, false, inl, inr, sym, ◌∙◌, subst}
 use Rattle.std.specs.Io.KnownBytes.{Consumes}
 use Rattle.gw_io.specs.Tries.{inner_of, has_failed}
-use Rattle.gw_judge.specs.Openings.{is_capture}
+use Rattle.gw_judge.specs.FirstOctets.{is_capture}
 use Rattle.gw_commands.specs.Judgings.{EndsCapture, EndsOpened}
 use Rattle.gw_commands.proofs.judge_command.judge_grouped.Goals as goal
 
@@ -19,10 +19,10 @@ returns-then-is_capture g c =
     let new = g.W.Write.contents (inner_of c.judge_frames.new.output) in
     let failed = has_failed c.judge_frames.new.output in
     let status = c.judge_frames.result in
-    let first : List ℕ = c.in-Ok.opening in
+    let first : List ℕ = c.in-Ok.octets in
     let Ends : Bool → Type 0 = λ capture. EndsOpened capture fate lines counts query.by query.shown query.strict first before
     middle after read_failed old new failed status in
-    let EndsAt : List ℕ → Type 0 = λ octets. EndsCapture fate counts query.by query.shown octets middle after read_failed old
+    let EndsAt : List ℕ → Type 0 = λ octets. EndsCapture fate counts query.by query.shown query.strict octets middle after read_failed old
     new failed status in
     let yes : is_capture first ≡ true = sym c.is_capture.ensures ∙ c.if-is_capture.true in
     inl (
@@ -46,7 +46,7 @@ returns-else-is_capture g c =
     let new = g.W.Write.contents (inner_of c.judge_lines.new.output) in
     let failed = has_failed c.judge_lines.new.output in
     let status = c.judge_lines.result in
-    let first : List ℕ = c.in-Ok.opening in
+    let first : List ℕ = c.in-Ok.octets in
     let Ends : Bool → Type 0 = λ capture. EndsOpened capture fate lines counts query.by query.shown query.strict first before
     middle after read_failed old new failed status in
     let no : is_capture first ≡ false = sym c.is_capture.ensures ∙ c.if-is_capture.false in

@@ -7,8 +7,8 @@ abbrev pub invariant-pieces : goal.invariant-pieces
 invariant-pieces g l = record {
   read : has_failed l.reader ≡ false;
   most : l.left ≤ 18446744073709551615;
-  grouping : l.judging.tally.groups.grouping ≡ l.fn.groups.grouping;
-  way : IsCaptureUnderWay (g.D.Decider.fate_by l.decider l.from) l.first
+  grouping : l.judging.told.frames.groups.grouping ≡ l.fn.groups.grouping;
+  way : IsCaptureUnderWay (g.D.Decider.fate_by l.decider l.from) l.strict l.first
       (g.R.Read.remaining (inner_of l.fn.reader)) (g.R.Read.remaining (inner_of l.reader)) l.judging
       (18446744073709551615 - l.left);
 }

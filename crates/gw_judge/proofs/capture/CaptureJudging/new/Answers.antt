@@ -1,7 +1,10 @@
-use Rattle.gw_judge.proofs.Captured.{counted_nothing}
+use Rattle.std.proofs.Common.{[], refl}
 use Rattle.gw_judge.proofs.capture.CaptureJudging.new.Goals as goal
 
 pub returns-clause-counted : goal.returns-clause-counted
-returns-clause-counted c fate =
-    counted_nothing fate (record { trace = c.new.result; tally = c.new-2.result }) c.args.groups c.requires c.new.ensures
-    c.new-2.ensures
+returns-clause-counted c = λ fate strict. record {
+  records = [];
+  read = c.new.ensures;
+  counted = c.new-2.ensures.told fate;
+  fine = λ e. refl;
+}

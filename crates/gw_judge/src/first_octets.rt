@@ -3,11 +3,11 @@
 ghost use Rattle.std.specs.Prelude.{◌≡◌, ◌<◌, ◌≤◌, ℕ, List, length, true, IfOk, OnOk, OnErr};
 ghost use Rattle.std.specs.Io.KnownBytes.{Consumes};
 ghost use Rattle.gw_io.specs.Tries.{inner_of, has_failed};
-ghost use Rattle.gw_trace.specs.Traces.{is_magic};
-ghost use Rattle.gw_judge.specs.Openings.{Opens, is_capture};
+ghost use Rattle.gw_judge.specs.FirstOctets.{Opens, is_capture};
 
 use byteorder::{BigEndian, ByteOrder, LittleEndian};
 use gw_io::{ReadFault, Tried};
+use gw_trace::is_magic;
 use std::io::Read;
 use std::marker::Model;
 
@@ -16,12 +16,12 @@ const MAGIC: usize = 4;
 
 /// The first octets of an input: four, or all where there are fewer.
 #[derive(Drop)]
-pub struct Opening {
+pub struct FirstOctets {
     octets: [u8; MAGIC],
     len: usize,
 }
 
-impl Model for Opening {
+impl Model for FirstOctets {
     ghost use Rattle.std.specs.Prelude.{◌≤◌, ℕ, List, take};
 
     ghost Value = { List ℕ };
@@ -31,11 +31,11 @@ impl Model for Opening {
     ghost invariant = { λ o. o.len ≤ 4 };
 }
 
-impl Opening {
+impl FirstOctets {
     /// Reads the first octets of an input, by as many reads as they need.
-    pub fn read<R: Read>(reader: &mut Tried<R>) -> Result<Opening, ReadFault>
-        ensures opened { IfOk result (λ opening.
-            Opens (R.remaining (inner_of reader.old)) (R.remaining (inner_of reader.new)) opening) }
+    pub fn read<R: Read>(reader: &mut Tried<R>) -> Result<FirstOctets, ReadFault>
+        ensures opened { IfOk result (λ first.
+            Opens (R.remaining (inner_of reader.old)) (R.remaining (inner_of reader.new)) first) }
         ensures part { OnErr result ((got : List ℕ)
             × Consumes (R.remaining (inner_of reader.old)) (R.remaining (inner_of reader.new)) got × (length got < 4)) }
         ensures whole { OnOk result (has_failed reader.new ≡ has_failed reader.old) }
@@ -45,12 +45,12 @@ impl Opening {
         let mut len = 0;
         'octets: while len < MAGIC {
             match reader.read(&mut octets[len..]) {
-                Ok(0) => return Ok(Opening { octets, len }),
+                Ok(0) => return Ok(FirstOctets { octets, len }),
                 Ok(n) => len += n,
                 Err(_) => return Err(ReadFault),
             }
         }
-        Ok(Opening { octets, len })
+        Ok(FirstOctets { octets, len })
     }
 
     /// The octets.
@@ -77,10 +77,4 @@ fn is_capture(octets: &[u8]) -> bool
     }
     let magic = &octets[0..4];
     is_magic(BigEndian::read_u32(magic)) || is_magic(LittleEndian::read_u32(magic))
-}
-
-fn is_magic(number: u32) -> bool
-    ensures { result ≡ is_magic number }
-{
-    number == 0xA1B2_C3D4 || number == 0xA1B2_3C4D
 }

@@ -1,7 +1,7 @@
 use Rattle.std.proofs.Common.{◌-◌, ◌≡◌, ◌≤◌, length, take}
 use Rattle.std.specs.Io.KnownBytes.{Consumes}
 use Rattle.gw_io.specs.Tries.{inner_of, has_failed}
-use Rattle.gw_judge.proofs.opening.Opening.read.Given as goal
+use Rattle.gw_judge.proofs.first_octets.FirstOctets.read.Given as goal
 
 abbrev pub invariant-octets : goal.invariant-octets
 invariant-octets g l = record {
