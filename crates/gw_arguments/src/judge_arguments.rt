@@ -4,7 +4,7 @@ use crate::arguments::{described, flag, ingress_port, matched, valued};
 use crate::building::Building;
 use crate::run_arguments::wrong;
 use clap::{Arg, ArgGroup, ArgMatches, Command, Error};
-use gw_commands::{Grouping, LogQuery, PolicyKind, Shown};
+use gw_commands::{CountForm, Grouping, LogQuery, PolicyKind, Shown};
 use std::alloc::{AllocError, Global};
 use std::convert::AsStr;
 
@@ -22,10 +22,13 @@ pub fn judge_arguments<'a>(alloc: Global) -> Result<Command<'a>, AllocError> {
         alloc,
         "judge",
         "Judges each frame of a log of candump or of a pcap trace: counts what each rule decided, or writes the lines that pass",
-        "gw judge (--table FILE | --listing FILE) [--port P] [--by WHAT | --passed | --blocked | --each] [--strict] < LOG",
+        "gw judge (--table FILE | --listing FILE) [--port P] [[--by WHAT] [--json] | --passed | --blocked | --each] [--strict] \
+        < LOG",
         "Example: gw judge --table examples/display.toml < examples/traces/diagnostics.log",
     );
-    let command = with_policy(alloc, Building::of(command)).made_arg(counted_by(alloc));
+    let command = with_policy(alloc, Building::of(command))
+        .made_arg(counted_by(alloc))
+        .made_arg(as_json(alloc));
     with_taking(alloc, with_shown(alloc, command)).done()
 }
 
@@ -62,6 +65,16 @@ fn counted_by<'a>(alloc: Global) -> Result<Arg<'a>, AllocError> {
     );
     by.value_parser(["rule", "pgn", "source"].as_slice())
         .conflicts_with("shown")
+}
+
+/// The option that asks for the counts as a JSON object.
+fn as_json<'a>(alloc: Global) -> Result<Arg<'a>, AllocError> {
+    let json = flag(
+        alloc,
+        "json",
+        "Writes the counts as one JSON object; --passed, --blocked and --each write lines in place of counts",
+    );
+    json.conflicts_with("shown")
 }
 
 /// The command with the options that say which lines are written, of which one at most is given.
@@ -137,7 +150,16 @@ fn shown(found: &ArgMatches) -> Shown {
     } else if found.get_flag("each") {
         Shown::Each
     } else {
-        Shown::Counts
+        Shown::Counts(form(found))
+    }
+}
+
+/// How counts are written.
+fn form(found: &ArgMatches) -> CountForm {
+    if found.get_flag("json") {
+        CountForm::Json
+    } else {
+        CountForm::Lines
     }
 }
 

@@ -2,6 +2,7 @@ mod LinesExamples
 pub mod ClaimLines
 pub mod DifferenceStatus
 pub mod EndedEarly
+pub mod JsonTexts
 pub mod LogEnds
 pub mod LogTexts
 pub mod PathsTold

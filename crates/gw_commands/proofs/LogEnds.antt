@@ -8,12 +8,13 @@ use Rattle.gw_judge.specs.declared.report.Wanted.{Wanted}
 use Rattle.gw_judge.specs.declared.tally.Tally.{Tally}
 use Rattle.gw_judge.specs.Judged.{IsJudged, IsJudgeFault, IsPartlyJudged, wanted_front}
 use Rattle.gw_commands.specs.declared.judge_command.Shown.{Shown}
-use Rattle.gw_commands.specs.LogCounts.{told_counts}
 use Rattle.gw_commands.specs.Judgings.{EndsEarly, IsEnded, TellsCounts, TellsEnd, wanted_of}
+use Rattle.gw_commands.specs.ToldCounts.{told_counts}
+use Rattle.gw_commands.specs.declared.log_counts.CountForm.{CountForm}
 
-pub ended : (fate : List ℕ → Fate) (lines : List ℕ) (counts : Tally → List ℕ) (by : Grouping) (shown : Shown) (strict : Bool)
-    (before after old middle new : Option (List ℕ)) (failed : Bool) (status : ℕ) (tally : Tally) (w : Wanted)
-    → w ≡ wanted_of shown → IsJudged fate (wanted_front lines w) strict before after old middle tally
+pub ended : (fate : List ℕ → Fate) (lines : List ℕ) (counts : CountForm → Tally → List ℕ) (by : Grouping)
+    (shown : Shown) (strict : Bool) (before after old middle new : Option (List ℕ)) (failed : Bool) (status : ℕ) (tally : Tally)
+    (w : Wanted) → w ≡ wanted_of shown → IsJudged fate (wanted_front lines w) strict before after old middle tally
     → tally.groups.grouping ≡ by → TellsCounts (told_counts counts by) shown tally middle new failed status
     → IsEnded fate lines counts by shown strict before after old new failed status
 ended fate lines counts by shown strict before after old middle new failed status tally w same judged grouped told = record {

@@ -31,18 +31,19 @@ use Rattle.gw_commands.specs.declared.judge_command.PolicyKind.{PolicyKind}
 use Rattle.gw_commands.specs.declared.judge_command.PolicyKind.TheVariants as kind
 use Rattle.gw_commands.specs.declared.judge_command.Shown.{Shown}
 use Rattle.gw_commands.specs.declared.judge_command.Shown.TheVariants.{Counts, Passed, Blocked, Each}
+use Rattle.gw_commands.specs.declared.log_counts.CountForm.{CountForm}
 use Rattle.gw_commands.specs.declared.refusal.Refusal.{Refusal}
 use Rattle.gw_commands.specs.declared.refusal.Refusal.TheVariants.{OutOfMemory}
 use Rattle.gw_commands.specs.Commands.{Writes, WritesText}
-use Rattle.gw_commands.specs.LogCounts.{policy_counts, table_counts, told_counts}
 use Rattle.gw_commands.specs.Policies.{RefusesFile}
 use Rattle.gw_commands.specs.Stated.{known_lines}
 use Rattle.gw_commands.specs.Tables.{RefusesText}
+use Rattle.gw_commands.specs.ToldCounts.{policy_told, table_told, told_counts}
 use Rattle.gw_commands.specs.Verdicts.{IsProgramRefusal}
 
 -- which lines are written
 abbrev pub wanted_of : Shown → Wanted
-wanted_of Counts = wanted.Nothing
+wanted_of (Counts form) = wanted.Nothing
 wanted_of Passed = wanted.Passed
 wanted_of Blocked = wanted.Blocked
 wanted_of Each = wanted.Each
@@ -53,30 +54,30 @@ fault_line (ends.Refused refused) = refused_line (refusal_number refused.why) (r
 fault_line fault = refused_line (fault_number fault) []
 
 -- what stands behind the lines of a log: the counts where they are asked for, and there the line of what ended it early
-abbrev pub counts_behind : (Tally → List ℕ) → Shown → Tally → List ℕ
-counts_behind counts Counts tally = counts tally
+abbrev pub counts_behind : (CountForm → Tally → List ℕ) → Shown → Tally → List ℕ
+counts_behind counts (Counts form) tally = counts form tally
 counts_behind counts Passed tally = []
 counts_behind counts Blocked tally = []
 counts_behind counts Each tally = []
 
 abbrev pub fault_behind : Shown → JudgeFault → List ℕ
-fault_behind Counts fault = fault_line fault
+fault_behind (Counts form) fault = fault_line fault
 fault_behind Passed fault = []
 fault_behind Blocked fault = []
 fault_behind Each fault = []
 
 -- the counts were written, with status 0; or memory was wanting for them
-abbrev pub TellsCounts : (Tally → List ℕ) → Shown → Tally → Option (List ℕ) → Option (List ℕ) → Bool → ℕ → Type 0
+abbrev pub TellsCounts : (CountForm → Tally → List ℕ) → Shown → Tally → Option (List ℕ) → Option (List ℕ) → Bool → ℕ → Type 0
 TellsCounts counts shown tally old new failed status =
     WritesText (counts_behind counts shown tally) 0 status old new failed
-    ⊎ ((shown ≡ Counts) × Writes (Err OutOfMemory) status old new failed)
+    ⊎ ((form : CountForm) × (shown ≡ Counts form) × Writes (Err OutOfMemory) status old new failed)
 
 -- what ended a log early was written, with status 1
 abbrev pub TellsEnd : Shown → JudgeFault → Option (List ℕ) → Option (List ℕ) → Bool → ℕ → Type 0
 TellsEnd shown fault old new failed status = WritesText (fault_behind shown fault) 1 status old new failed
 
 -- the log was judged to its end, its frames were counted in these groups, and the counts told; a rule stands at its line
-pub record IsEnded (fate : List ℕ → Fate) (lines : List ℕ) (counts : Tally → List ℕ) (by : Grouping) (shown : Shown)
+pub record IsEnded (fate : List ℕ → Fate) (lines : List ℕ) (counts : CountForm → Tally → List ℕ) (by : Grouping) (shown : Shown)
     (strict : Bool) (before after old new : Option (List ℕ)) (failed : Bool) (status : ℕ) : Type 0 where
   pub tally : Tally
   pub middle : Option (List ℕ)
@@ -92,7 +93,7 @@ pub record EndsEarly (fate : List ℕ → Fate) (lines : List ℕ) (shown : Show
   pub judged : IsPartlyJudged fate (wanted_front lines (wanted_of shown)) strict before after old middle read_failed failed fault
   pub told : TellsEnd shown fault middle new failed status
 
-abbrev pub EndsLog : (List ℕ → Fate) → List ℕ → (Tally → List ℕ) → Grouping → Shown → Bool → Option (List ℕ)
+abbrev pub EndsLog : (List ℕ → Fate) → List ℕ → (CountForm → Tally → List ℕ) → Grouping → Shown → Bool → Option (List ℕ)
     → Option (List ℕ) → Bool → Option (List ℕ) → Option (List ℕ) → Bool → ℕ → Type 0
 EndsLog fate lines counts by shown strict before after read_failed old new failed status =
     (IsEnded fate lines counts by shown strict before after old new failed status × (read_failed ≡ false))
@@ -106,12 +107,12 @@ capture_line (BadRecord index why) = refused_line 93 (index ∷ frame.refusal_nu
 capture_line why = refused_line (trace.refusal_number why) []
 
 -- the records of a capture were judged to its end and its frames counted in these groups, and the counts told
-pub record IsCaptureEnded (fate : List ℕ → Fate) (counts : Tally → List ℕ) (by : Grouping) (strict : Bool) (first : List ℕ)
-    (before after old new : Option (List ℕ)) (failed : Bool) (status : ℕ) : Type 0 where
+pub record IsCaptureEnded (fate : List ℕ → Fate) (counts : CountForm → Tally → List ℕ) (by : Grouping) (form : CountForm)
+    (strict : Bool) (first : List ℕ) (before after old new : Option (List ℕ)) (failed : Bool) (status : ℕ) : Type 0 where
   pub records : CaptureTally
   pub judged : IsCaptureJudged fate strict first before after records
   pub grouped : records.frames.groups.grouping ≡ by
-  pub told : TellsCounts (told_counts counts by) Counts (with_refused records.refused records.frames) old new failed status
+  pub told : TellsCounts (told_counts counts by) (Counts form) (with_refused records.refused records.frames) old new failed status
 
 -- the capture ended early, and it is told why
 pub record CaptureEndsEarly (strict : Bool) (first : List ℕ) (before after : Option (List ℕ)) (read_failed : Bool)
@@ -120,10 +121,10 @@ pub record CaptureEndsEarly (strict : Bool) (first : List ℕ) (before after : O
   pub judged : IsCapturePartlyJudged strict first before after read_failed fault.judged fault.why
   pub told : WritesText (capture_line fault.why) 1 status old new failed
 
-abbrev pub CountsCapture : (List ℕ → Fate) → (Tally → List ℕ) → Grouping → Bool → List ℕ → Option (List ℕ) → Option (List ℕ)
-    → Bool → Option (List ℕ) → Option (List ℕ) → Bool → ℕ → Type 0
-CountsCapture fate counts by strict first before after read_failed old new failed status =
-    (IsCaptureEnded fate counts by strict first before after old new failed status × (read_failed ≡ false))
+abbrev pub CountsCapture : (List ℕ → Fate) → (CountForm → Tally → List ℕ) → Grouping → CountForm → Bool → List ℕ → Option (List ℕ)
+    → Option (List ℕ) → Bool → Option (List ℕ) → Option (List ℕ) → Bool → ℕ → Type 0
+CountsCapture fate counts by form strict first before after read_failed old new failed status =
+    (IsCaptureEnded fate counts by form strict first before after old new failed status × (read_failed ≡ false))
     ⊎ CaptureEndsEarly strict first before after read_failed old new failed status
 
 -- a capture has no lines: where they are asked for, nothing more is read and nothing is written
@@ -131,10 +132,10 @@ abbrev pub HasNoLines : Option (List ℕ) → Option (List ℕ) → Bool → Opt
 HasNoLines before after read_failed old new failed status =
     (after ≡ before) × (read_failed ≡ false) × WritesText [] 1 status old new failed
 
-abbrev pub EndsCapture : (List ℕ → Fate) → (Tally → List ℕ) → Grouping → Shown → Bool → List ℕ → Option (List ℕ)
+abbrev pub EndsCapture : (List ℕ → Fate) → (CountForm → Tally → List ℕ) → Grouping → Shown → Bool → List ℕ → Option (List ℕ)
     → Option (List ℕ) → Bool → Option (List ℕ) → Option (List ℕ) → Bool → ℕ → Type 0
-EndsCapture fate counts by Counts strict first before after read_failed old new failed status =
-    CountsCapture fate counts by strict first before after read_failed old new failed status
+EndsCapture fate counts by (Counts form) strict first before after read_failed old new failed status =
+    CountsCapture fate counts by form strict first before after read_failed old new failed status
 EndsCapture fate counts by Passed strict first before after read_failed old new failed status =
     HasNoLines before after read_failed old new failed status
 EndsCapture fate counts by Blocked strict first before after read_failed old new failed status =
@@ -154,7 +155,7 @@ pub record FailsToOpen (shown : Shown) (before after : Option (List ℕ)) (read_
   pub told : TellsEnd shown ends.ReadFault old new failed status
 
 -- a log, or a capture where these first octets are a magic number
-abbrev pub EndsOpened : Bool → (List ℕ → Fate) → List ℕ → (Tally → List ℕ) → Grouping → Shown → Bool → List ℕ
+abbrev pub EndsOpened : Bool → (List ℕ → Fate) → List ℕ → (CountForm → Tally → List ℕ) → Grouping → Shown → Bool → List ℕ
     → Option (List ℕ) → Option (List ℕ) → Option (List ℕ) → Bool → Option (List ℕ) → Option (List ℕ) → Bool → ℕ → Type 0
 EndsOpened true fate lines counts by shown strict first before middle after read_failed old new failed status =
     EndsCapture fate counts by shown strict first middle after read_failed old new failed status
@@ -162,7 +163,7 @@ EndsOpened false fate lines counts by shown strict first before middle after rea
     EndsLog (fate_of fate) lines counts by shown strict before after read_failed old new failed status
 
 -- the first octets tell a capture from a log: this becomes of each frame of a capture, and of a line that says such a frame
-abbrev pub EndsInput : (List ℕ → Fate) → List ℕ → (Tally → List ℕ) → Grouping → Shown → Bool → Option (List ℕ)
+abbrev pub EndsInput : (List ℕ → Fate) → List ℕ → (CountForm → Tally → List ℕ) → Grouping → Shown → Bool → Option (List ℕ)
     → Option (List ℕ) → Bool → Option (List ℕ) → Option (List ℕ) → Bool → ℕ → Type 0
 EndsInput fate lines counts by shown strict before after read_failed old new failed status =
     ((first : List ℕ) × (middle : Option (List ℕ)) × Opens before middle first
@@ -174,21 +175,21 @@ abbrev pub OnlyRefuses : Refusal → Option (List ℕ) → Option (List ℕ) →
 OnlyRefuses refusal before after old new failed status = (after ≡ before) × Writes (Err refusal) status old new failed
 
 -- the same; or memory was wanting for groups that are asked for, and nothing was read
-abbrev pub JudgesGroups : (List ℕ → Fate) → List ℕ → (Tally → List ℕ) → Grouping → Shown → Bool → Option (List ℕ)
+abbrev pub JudgesGroups : (List ℕ → Fate) → List ℕ → (CountForm → Tally → List ℕ) → Grouping → Shown → Bool → Option (List ℕ)
     → Option (List ℕ) → Bool → Option (List ℕ) → Option (List ℕ) → Bool → ℕ → Type 0
 JudgesGroups fate lines counts by shown strict before after read_failed old new failed status =
     EndsInput fate lines counts by shown strict before after read_failed old new failed status
     ⊎ ((by ≢ grouping.Nothing) × OnlyRefuses OutOfMemory before after old new failed status)
 
 -- what becomes of each frame, where the rules stand, and how it is told: by the table of a text, or by the program of a listing
-abbrev pub Decides : PolicyKind → ℕ → List ℕ → (List ℕ → Fate) → List ℕ → (Tally → List ℕ) → Type 0
+abbrev pub Decides : PolicyKind → ℕ → List ℕ → (List ℕ → Fate) → List ℕ → (CountForm → Tally → List ℕ) → Type 0
 Decides kind.Table port text fate lines counts =
     (table : Meaning) × IsTable text table × (fate ≡ table_fate table port)
-    × (lines ≡ known_lines text table) × (counts ≡ table_counts table lines)
+    × (lines ≡ known_lines text table) × (counts ≡ table_told table lines)
 Decides kind.Listing port text fate lines counts =
     (program : List Insn) × NamesProgram text program
     × (fate ≡ policy_fate (record { code = program; table = None }) port)
-    × (lines ≡ []) × (counts ≡ policy_counts (record { code = program; table = None }) lines)
+    × (lines ≡ []) × (counts ≡ policy_told (record { code = program; table = None }) lines)
 
 abbrev pub RefusesPolicy : PolicyKind → List ℕ → Refusal → Type 0
 RefusesPolicy kind.Table text refusal = RefusesText text refusal
@@ -198,7 +199,7 @@ RefusesPolicy kind.Listing text refusal = IsProgramRefusal text refusal
 abbrev pub JudgesLog : LogQuery → List ℕ → Option (List ℕ) → Option (List ℕ) → Bool → Option (List ℕ) → Option (List ℕ) → Bool
     → ℕ → Type 0
 JudgesLog query text before after read_failed old new failed status =
-    ((fate : List ℕ → Fate) × (lines : List ℕ) × (counts : Tally → List ℕ)
+    ((fate : List ℕ → Fate) × (lines : List ℕ) × (counts : CountForm → Tally → List ℕ)
     × Decides query.kind query.port text fate lines counts
     × JudgesGroups fate lines counts query.by query.shown query.strict before after read_failed old new failed status)
     ⊎ ((refusal : Refusal) × RefusesPolicy query.kind text refusal × OnlyRefuses refusal before after old new failed status)

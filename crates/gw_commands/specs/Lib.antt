@@ -7,6 +7,7 @@ pub mod Commands
 pub mod Differences
 pub mod PortDifferences
 pub mod Frames
+pub mod JsonCounts
 pub mod Judgings
 pub mod LogCounts
 pub mod LogDifferences
@@ -18,4 +19,5 @@ pub mod Replays
 pub mod Shown
 pub mod Stated
 pub mod Tables
+pub mod ToldCounts
 pub mod Verdicts

@@ -14,8 +14,6 @@ use Rattle.gw_table.specs.Table.{Meaning}
 use Rattle.gw_table.specs.TableText.{greatest, key_of}
 use Rattle.gw_policy.specs.Filter.{Filter}
 use Rattle.gw_input.specs.RuleLines.{rule_name}
-use Rattle.gw_judge.specs.declared.groups.Grouping.{Grouping}
-use Rattle.gw_judge.specs.declared.groups.Grouping.TheVariants as by
 use Rattle.gw_judge.specs.declared.groups.Verdicts.{Verdicts}
 use Rattle.gw_judge.specs.declared.tally.Tally.{Tally}
 use Rattle.gw_judge.specs.Grouped.{Grouped, other_group, no_verdicts}
@@ -92,9 +90,3 @@ abbrev pub group_counts : List ℕ → Tally → List ℕ
 group_counts key tally =
     group_lines key tally.groups (other_group tally.groups.grouping) ++ codes "other"
     ++ verdicts_text (slice_index_or tally.groups.verdicts (other_group tally.groups.grouping) no_verdicts) ++ totals_line tally
-
--- what is told of a tally: in groups, or by the parts of what decides
-abbrev pub told_counts : (Tally → List ℕ) → Grouping → Tally → List ℕ
-told_counts counts by.Nothing tally = counts tally
-told_counts counts by.Pgn tally = group_counts (codes "pgn") tally
-told_counts counts by.Source tally = group_counts (codes "source") tally

@@ -7,7 +7,7 @@ ghost use Rattle.gw_commands.specs.declared.judge_command.Shown.TheVariants.{Cou
 ghost use Rattle.gw_commands.specs.Judgings.{CountsCapture, EndsCapture, capture_line};
 
 use crate::judge_command::{LogPolicy, LogQuery, Shown, tell_counts};
-use crate::log_counts::TellsParts;
+use crate::log_counts::{CountForm, TellsParts};
 use crate::notes::{note_no_lines, note_refused_records};
 use crate::responding::write_refusal;
 use gw_input::{Line, refused};
@@ -38,7 +38,9 @@ pub(crate) fn judge_frames<D: TellsParts, I: Read, W: Write, F: Write>(
         (W.contents (inner_of output.old)) (W.contents (inner_of output.new)) (has_failed output.new) result }
 {
     match query.shown {
-        Shown::Counts => count_frames(alloc, query, policy, groups, first, input, output, faults),
+        Shown::Counts(form) => count_frames(
+            alloc, query, form, policy, groups, first, input, output, faults,
+        ),
         Shown::Passed | Shown::Blocked | Shown::Each => {
             note_no_lines(faults);
             1
@@ -50,6 +52,7 @@ pub(crate) fn judge_frames<D: TellsParts, I: Read, W: Write, F: Write>(
 fn count_frames<D: TellsParts, I: Read, W: Write, F: Write>(
     alloc: Global,
     query: LogQuery,
+    form: CountForm,
     policy: LogPolicy<D>,
     groups: Groups,
     first: &[u8],
@@ -60,9 +63,9 @@ fn count_frames<D: TellsParts, I: Read, W: Write, F: Write>(
     requires input { has_failed input.old ≡ false }
     requires output { has_failed output.old ≡ false }
     requires groups { groups ≡ no_groups query.by }
-    requires counts { query.shown ≡ Counts }
+    requires counts { query.shown ≡ Counts form }
     ensures { CountsCapture (D.fate_by policy.entry.decider.now query.port)
-        (D.counts_by policy.entry.decider.now policy.entry.rule_lines.now) query.by query.strict first.now
+        (D.counts_by policy.entry.decider.now policy.entry.rule_lines.now) query.by form query.strict first.now
         (I.remaining (inner_of input.old)) (I.remaining (inner_of input.new)) (has_failed input.new)
         (W.contents (inner_of output.old)) (W.contents (inner_of output.new)) (has_failed output.new) result }
 {

@@ -5,7 +5,7 @@ ghost use Rattle.std.specs.Io.KnownBytes.{Consumes};
 ghost use Rattle.gw_io.specs.Tries.{inner_of, has_failed};
 ghost use Rattle.gw_judge.specs.Fates.{fate_of, table_fate};
 ghost use Rattle.gw_judge.specs.Grouped.{no_groups};
-ghost use Rattle.gw_commands.specs.LogCounts.{table_counts, told_counts};
+ghost use Rattle.gw_commands.specs.ToldCounts.{table_told, told_counts};
 ghost use Rattle.gw_commands.specs.Judgings.{
   EndsInput,
   EndsLog,
@@ -21,7 +21,7 @@ ghost use Rattle.gw_commands.specs.Judgings.{
 use crate::answer::Answer;
 use crate::capture_command::judge_frames;
 use crate::files::read_file;
-use crate::log_counts::{TellsParts, told_text};
+use crate::log_counts::{CountForm, TellsParts, told_text};
 use crate::notes::{note_file, note_no_log, note_refused_lines};
 use crate::refusal::Refusal;
 use crate::responding::{respond, write_refusal};
@@ -48,8 +48,8 @@ pub enum PolicyKind {
 /// What is written of a log.
 #[derive(Clone, Copy, PartialEq, Eq, Debug)]
 pub enum Shown {
-    /// How many frames passed and were blocked, by which part of a table, or in which group.
-    Counts,
+    /// How many frames passed and were blocked, by which part of a table, or in which group, in this form.
+    Counts(CountForm),
     /// The lines whose frame passes.
     Passed,
     /// The lines whose frame is blocked.
@@ -161,7 +161,7 @@ fn judge_table<I: Read, W: Write, F: Write>(
     requires input { has_failed input.old ≡ false }
     requires output { has_failed output.old ≡ false }
     ensures { JudgesGroups (table_fate stated.table query.port) stated.lines.items
-        (table_counts stated.table stated.lines.items) query.by query.shown query.strict
+        (table_told stated.table stated.lines.items) query.by query.shown query.strict
         (I.remaining (inner_of input.old)) (I.remaining (inner_of input.new)) (has_failed input.new)
         (W.contents (inner_of output.old)) (W.contents (inner_of output.new)) (has_failed output.new) result }
 {
@@ -282,7 +282,7 @@ fn wanted(shown: Shown) -> Wanted
     ensures { result ≡ wanted_of shown }
 {
     match shown {
-        Shown::Counts => Wanted::Nothing,
+        Shown::Counts(_) => Wanted::Nothing,
         Shown::Passed => Wanted::Passed,
         Shown::Blocked => Wanted::Blocked,
         Shown::Each => Wanted::Each,
@@ -305,10 +305,17 @@ pub(crate) fn tell_counts<D: TellsParts, W: Write, F: Write>(
     if output.failed() {
         return 1;
     }
-    if !matches!(query.shown, Shown::Counts) {
+    let Shown::Counts(form) = query.shown else {
         return 0;
-    }
-    match told_text(alloc, query.by, policy.decider, policy.rule_lines, tally) {
+    };
+    match told_text(
+        alloc,
+        query.by,
+        form,
+        policy.decider,
+        policy.rule_lines,
+        tally,
+    ) {
         Ok(text) => respond(&Ok(Answer::Text(text.into_bytes())), output, faults),
         Err(AllocError) => respond(&Err(Refusal::OutOfMemory), output, faults),
     }
@@ -325,7 +332,7 @@ pub(crate) fn tell_end<W: Write, F: Write>(
         (W.contents (inner_of output.old)) (W.contents (inner_of output.new)) (has_failed output.new) result }
     ensures failed { has_failed output.old ≡ true → has_failed output.new ≡ true }
 {
-    if matches!(shown, Shown::Counts) && !output.failed() {
+    if matches!(shown, Shown::Counts(_)) && !output.failed() {
         return write_refusal(fault_line(fault).as_bytes(), &fault, output, faults);
     }
     let _ = writeln!(faults, "gw: {fault}");

@@ -1,4 +1,4 @@
-//! How many frames of a log each part of a table decided, as text.
+//! How many frames of a log each part of a table decided, as text, or as a JSON object.
 
 ghost use Rattle.std.specs.Prelude.{◌≡◌, ◌≤◌, ℕ, List, ◌++◌, string_bytes, length, IfOk, OnOk};
 ghost use Rattle.gw_judge.specs.declared.tally.Tally.{Tally};
@@ -10,99 +10,154 @@ ghost use Rattle.gw_commands.specs.LogCounts.{
   group_lines,
   group_text,
   part_line,
-  policy_counts,
   range_text,
   rule_count,
   rule_counts,
   rule_text,
   table_counts,
-  told_counts,
   totals_line,
   verdicts_text,
 };
+ghost use Rattle.gw_commands.specs.ToldCounts.{groups_told, policy_told, table_told, told_counts};
+ghost use Rattle.gw_commands.specs.declared.log_counts.CountForm.{CountForm};
 
+use crate::json_counts::{grouped_json, policy_json, table_json};
 use gw_input::line_of_rule;
 use gw_judge::{Decider, Grouping, Groups, Tally, Verdicts};
 use gw_policy::Policy;
 use gw_table::{Action, Field, IndexedTable, Rule, Span, Table};
 use std::alloc::{AllocError, Global};
 
+/// How counts are written.
+#[derive(Clone, Copy, PartialEq, Eq, Debug)]
+pub enum CountForm {
+    /// As lines of words and numbers.
+    Lines,
+    /// As one JSON object of numbers.
+    Json,
+}
+
 /// What decides the frames of a log, and tells how many each of its parts decided.
 pub trait TellsParts: Decider {
-    /// The text of a tally, where the rules stand at these lines.
-    ghost counts_by: { Self → List ℕ → Tally → List ℕ };
+    /// The text of a tally in a form, where the rules stand at these lines.
+    ghost counts_by: { Self → List ℕ → CountForm → Tally → List ℕ };
 
-    /// The lines that tell what was counted. `lines` are those at which the rules of a table stand.
+    /// The text that tells what was counted. `lines` are those at which the rules of a table stand.
     fn counts_text(
         &self,
         alloc: Global,
+        form: CountForm,
         lines: &[usize],
         tally: &Tally,
     ) -> Result<String, AllocError>
-        ensures { IfOk result (λ text. string_bytes text ≡ counts_by self.now lines.now tally.now) };
+        ensures { IfOk result (λ text. string_bytes text ≡ counts_by self.now lines.now form tally.now) };
 }
 
 impl TellsParts for Policy {
-    ghost counts_by = { policy_counts };
+    ghost counts_by = { policy_told };
 
     fn counts_text(
         &self,
         alloc: Global,
+        form: CountForm,
         _lines: &[usize],
         tally: &Tally,
     ) -> Result<String, AllocError> {
-        let mut text = String::new(alloc);
-        push_totals(&mut text, tally)?;
-        Ok(text)
+        match form {
+            CountForm::Lines => totals_text(alloc, tally),
+            CountForm::Json => policy_json(alloc, tally),
+        }
     }
 }
 
 impl TellsParts for Table {
-    ghost counts_by = { table_counts };
+    ghost counts_by = { table_told };
 
     fn counts_text(
         &self,
         alloc: Global,
+        form: CountForm,
         lines: &[usize],
         tally: &Tally,
     ) -> Result<String, AllocError> {
-        let mut text = String::new(alloc);
-        push_rules(&mut text, lines, self.rules(), tally)?;
-        push_part(&mut text, "default", self.default(), tally.by_default)?;
-        push_part(&mut text, "other", self.other(), tally.by_other)?;
-        push_totals(&mut text, tally)?;
-        Ok(text)
+        match form {
+            CountForm::Lines => parts_text(alloc, self, lines, tally),
+            CountForm::Json => table_json(alloc, lines, self.rules().len(), tally),
+        }
     }
 }
 
 impl TellsParts for IndexedTable {
-    ghost counts_by = { table_counts };
+    ghost counts_by = { table_told };
 
     fn counts_text(
         &self,
         alloc: Global,
+        form: CountForm,
         lines: &[usize],
         tally: &Tally,
     ) -> Result<String, AllocError> {
-        self.table().counts_text(alloc, lines, tally)
+        self.table().counts_text(alloc, form, lines, tally)
     }
 }
 
-/// The lines that tell what was counted, in groups or by the parts of what decides.
+/// The text that tells what was counted, in groups or by the parts of what decides.
 pub fn told_text<D: TellsParts>(
     alloc: Global,
     by: Grouping,
+    form: CountForm,
     decider: &D,
     lines: &[usize],
     tally: &Tally,
 ) -> Result<String, AllocError>
-    ensures { IfOk result (λ text. string_bytes text ≡ told_counts (D.counts_by decider.now lines.now) by tally.now) }
+    ensures { IfOk result (λ text. string_bytes text ≡ told_counts (D.counts_by decider.now lines.now) by form tally.now) }
 {
     match by {
-        Grouping::Nothing => decider.counts_text(alloc, lines, tally),
-        Grouping::Pgn => groups_text(alloc, "pgn", tally),
-        Grouping::Source => groups_text(alloc, "source", tally),
+        Grouping::Nothing => decider.counts_text(alloc, form, lines, tally),
+        Grouping::Pgn => groups_told(alloc, form, "pgn", tally),
+        Grouping::Source => groups_told(alloc, form, "source", tally),
     }
+}
+
+/// The text that tells what was counted in groups.
+fn groups_told(
+    alloc: Global,
+    form: CountForm,
+    key: &str,
+    tally: &Tally,
+) -> Result<String, AllocError>
+    ensures { IfOk result (λ text. string_bytes text ≡ groups_told key.now form tally.now) }
+{
+    match form {
+        CountForm::Lines => groups_text(alloc, key, tally),
+        CountForm::Json => grouped_json(alloc, key, tally),
+    }
+}
+
+/// The lines of the parts of a table, and that of all lines.
+fn parts_text(
+    alloc: Global,
+    table: &Table,
+    lines: &[usize],
+    tally: &Tally,
+) -> Result<String, AllocError>
+    ensures { IfOk result (λ text. string_bytes text ≡ table_counts table.now lines.now tally.now) }
+{
+    let mut text = String::new(alloc);
+    push_rules(&mut text, lines, table.rules(), tally)?;
+    push_part(&mut text, "default", table.default(), tally.by_default)?;
+    push_part(&mut text, "other", table.other(), tally.by_other)?;
+    push_totals(&mut text, tally)?;
+    Ok(text)
+}
+
+/// The line of all lines.
+fn totals_text(alloc: Global, tally: &Tally) -> Result<String, AllocError>
+    ensures { IfOk result (λ text. string_bytes text ≡ totals_line tally.now) }
+{
+    let mut text = String::new(alloc);
+    push_totals(&mut text, tally)?;
+    Ok(text)
 }
 
 /// The lines that tell what was counted in groups: those with a frame, and that of all frames that are no extended data frames.

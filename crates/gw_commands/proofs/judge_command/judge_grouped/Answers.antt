@@ -22,8 +22,8 @@ returns-then-is_capture g c =
     let first : List ℕ = c.in-Ok.octets in
     let Ends : Bool → Type 0 = λ capture. EndsOpened capture fate lines counts query.by query.shown query.strict first before
     middle after read_failed old new failed status in
-    let EndsAt : List ℕ → Type 0 = λ octets. EndsCapture fate counts query.by query.shown query.strict octets middle after read_failed old
-    new failed status in
+    let EndsAt : List ℕ → Type 0 = λ octets. EndsCapture fate counts query.by query.shown query.strict octets
+    middle after read_failed old new failed status in
     let yes : is_capture first ≡ true = sym c.is_capture.ensures ∙ c.if-is_capture.true in
     inl (
       first,
