@@ -31,6 +31,8 @@ pub struct RunRequest<'a> {
     pub interfaces: Vec<NamedInterface<'a>>,
     /// The file from which each port takes its frames, if one is named; where there is none for any port, the input is read.
     pub inputs: Vec<Option<&'a str>>,
+    /// Whether a copy that finds its lane full waits for room.
+    pub waits: bool,
     /// What the run is told by.
     pub shown: Shown,
     pub progress: bool,
@@ -43,7 +45,7 @@ pub fn run_arguments<'a>(alloc: Global) -> Result<Command<'a>, AllocError> {
         "run",
         "Forwards the frames of a trace or a log in threads, and tells what each port took and what of it the others let leave",
         "gw run --ports N [--lane N] [--program LISTING] [--table P=FILE].. [--listing P=FILE].. \
-        ([--interface NAME=P].. | [--in P=FILE]..) ([--policies] [--lanes] | [--json]) [--progress] < INPUT",
+        ([--interface NAME=P].. | [--in P=FILE]..) [--wait] ([--policies] [--lanes] | [--json]) [--progress] < INPUT",
         "A port's line counts the frames taken there; those of them that were for its own segment, as local; and as allowed the \
         copies of its frames that the policies of other ports let leave there.\n\
         Example: gw run --ports 2 --program '1,6 0 0 1,' < TRACE",
@@ -68,6 +70,11 @@ pub fn run_arguments<'a>(alloc: Global) -> Result<Command<'a>, AllocError> {
     ))
     .arg(interface_option(alloc))
     .made_arg(input_option(alloc))
+    .arg(flag(
+        alloc,
+        "wait",
+        "Lets a copy that finds its lane full wait for room: each one that is allowed is placed, and each run tells the same",
+    ))
     .arg(flag(
         alloc,
         "policies",
@@ -162,6 +169,7 @@ fn asked<'a>(alloc: Global, run: &ArgMatches<'a>) -> Result<RunRequest<'a>, Erro
         sources,
         interfaces,
         inputs,
+        waits: run.get_flag("wait"),
         shown: asked_shown(run),
         progress: run.get_flag("progress"),
     })

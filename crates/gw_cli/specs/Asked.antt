@@ -54,14 +54,14 @@ DoesWords before after failed reads old new write_failed told_old told_new tell_
     ⊎ OnlyAnswersWords before after old new write_failed told_old told_new tell_failed status
 
 -- what is asked of `run` is done by a gateway of these limits, under the policies of each port's source: where no file is named
--- for a port, the input was forwarded; else those files were, and nothing was read
+-- for a port, the input was forwarded; else those files were, and nothing was read. Where copies are asked to wait none was lost
 abbrev pub DoesRun : RunRequest → Option (List ℕ) → Option (List ℕ) → Bool → ℕ → Option (List ℕ) → Option (List ℕ) → Bool → ℕ
     → Type 0
 DoesRun run before after failed reads old new write_failed status =
     ((taking : Taking) × (list_any is_some run.inputs.items ≡ false)
-    × ForwardsNamed taking run.limits run.sources.items run.shown before after failed reads old new write_failed status)
+    × ForwardsNamed taking run.limits run.sources.items run.waits run.shown before after failed reads old new write_failed status)
     ⊎ ((list_any is_some run.inputs.items ≡ true) × (after ≡ before)
-    × ForwardsFiles run.limits run.sources.items run.inputs.items run.shown old new write_failed status)
+    × ForwardsFiles run.limits run.sources.items run.inputs.items run.waits run.shown old new write_failed status)
 
 -- what was asked of `run` was done, for a request that has a source and maybe a file for each port; or the arguments were
 -- answered and nothing was read

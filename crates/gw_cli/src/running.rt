@@ -9,7 +9,8 @@ use crate::dispatch::answer_words;
 use gw_arguments::{RunRequest, read_run};
 use gw_io::Tried;
 use gw_run::{
-    NamedInterface, NoObserver, Observer, ProgressOnStderr, Taking, forward_files, forward_named,
+    NamedInterface, NoObserver, Observer, ProgressOnStderr, Taking, Waiting, forward_files,
+    forward_named,
 };
 use std::alloc::Global;
 use std::convert::AsStr;
@@ -89,9 +90,43 @@ where
 {
     if run.progress || rt.is_watched() {
         let meter = ProgressOnStderr::new(rt);
-        run_observed(rt, alloc, run, &meter, input, output, faults)
+        run_held(rt, alloc, run, &meter, input, output, faults)
     } else {
-        run_observed(rt, alloc, run, &NoObserver, input, output, faults)
+        run_held(rt, alloc, run, &NoObserver, input, output, faults)
+    }
+}
+
+/// Forwards as the arguments ask for it, and lets copies wait where they ask for that.
+fn run_held<R, G, I, W, F>(
+    rt: &R,
+    alloc: Global,
+    run: &RunRequest,
+    observer: &G,
+    input: &mut Tried<I>,
+    output: &mut Tried<W>,
+    faults: &mut Tried<F>,
+) -> u8
+where
+    R: Threads + Wait + Sync + Files,
+    G: Observer,
+    I: Read,
+    W: Write,
+    F: Write,
+    requires sources { vec_len run.now.sources ≡ run.now.limits.ports }
+    requires inputs { vec_len run.now.inputs ≡ run.now.limits.ports }
+    requires unread { reads_of input.old ≡ 0 }
+    requires input { has_failed input.old ≡ false }
+    requires output { has_failed output.old ≡ false }
+    requires loses { G.waits ≡ false }
+    ensures { DoesRun run.now
+        (I.remaining (inner_of input.old)) (I.remaining (inner_of input.new))
+        (has_failed input.new) (unended_reads input.old input.new)
+        (W.contents (inner_of output.old)) (W.contents (inner_of output.new)) (has_failed output.new) result }
+{
+    if run.waits {
+        run_observed(rt, alloc, run, &Waiting(observer), input, output, faults)
+    } else {
+        run_observed(rt, alloc, run, observer, input, output, faults)
     }
 }
 
@@ -116,6 +151,7 @@ where
     requires unread { reads_of input.old ≡ 0 }
     requires input { has_failed input.old ≡ false }
     requires output { has_failed output.old ≡ false }
+    requires waits { G.waits ≡ run.now.waits }
     ensures { DoesRun run.now
         (I.remaining (inner_of input.old)) (I.remaining (inner_of input.new))
         (has_failed input.new) (unended_reads input.old input.new)

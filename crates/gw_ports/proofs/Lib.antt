@@ -1,4 +1,5 @@
 pub mod Callers
+pub mod Placed
 pub mod Placing
 pub mod Counting
 pub mod Judging

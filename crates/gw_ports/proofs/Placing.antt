@@ -93,6 +93,21 @@ one_more_lane count allowed copy placed placed' lanes now now' lane lane' was_pl
         (subst (λ (l : Option Inlet). At (count + 1) allowed copy port (lane_at lanes port) l (has_port port placed)) (sym kept)
         (wider (has_port port placed) count allowed copy port (lane_at lanes port) (lane_at now port) apart (so_far.ports port)))
 
+-- each copy was placed of those to ports below a number
+abbrev pub AllBelow : ℕ → List ℕ → List ℕ → Type 0
+AllBelow count allowed placed = (port : ℕ) → port < count → IsTrue (has_port port allowed) → IsTrue (has_port port placed)
+
+pub one_more_all : (count : ℕ) (allowed placed placed' : List ℕ) (was_placed : Bool) → AllBelow count allowed placed
+    → (IsTrue (has_port count allowed) → IsTrue was_placed)
+    → has_port count placed' ≡ was_placed
+    → ((other : ℕ) → (count ≡ other → ⊥) → has_port other placed' ≡ has_port other placed)
+    → AllBelow (count + 1) allowed placed'
+one_more_all count allowed placed placed' was_placed so_far now is others port below there =
+    ⊎_elim
+    (λ (same : count ≡ port).
+    subst (λ p. IsTrue (has_port p placed')) same (is ∙ now (subst (λ p. IsTrue (has_port p allowed)) (sym same) there)))
+    (λ (apart : count ≡ port → ⊥). others port apart ∙ so_far port (omega arith) there) (cases_eq count port)
+
 -- once each lane was looked at
 whole : (placed : Bool) (count : ℕ) (allowed : List ℕ) (copy : FrameCopy) (port : ℕ) (lane lane' : Option Inlet)
     → (IsTrue (has_port port allowed) → port < count) → At count allowed copy port lane lane' placed

@@ -8,7 +8,7 @@ use Rattle.gw_ledger.specs.Ledgers.{ledger_with}
 use Rattle.gw_ledger.specs.declared.outcome.FrameCopy.{FrameCopy}
 use Rattle.gw_ledger.specs.declared.outcome.Outcome.{Outcome}
 use Rattle.gw_ports.specs.Ends.{Ingress}
-use Rattle.gw_ports.specs.Placing.{PlacesCopies}
+use Rattle.gw_ports.specs.Placing.{PlacesAll, PlacesCopies}
 
 -- the copy of the next frame of a port
 abbrev pub next_copy : Ingress → List ℕ → FrameCopy
@@ -26,3 +26,7 @@ pub record Offered (heard : List (List ℕ)) (old : Ingress) (octets : List ℕ)
   pub claims : HoldsAfter new.claims (octets ∷ heard)
   pub placed : PlacesCopies outcome.allowed (next_copy old octets) outcome.placed old.lanes new.lanes
   pub ledger : new.ledger ≡ ledger_with old.ledger outcome
+
+-- no copy of the frame was lost
+abbrev pub IsPlaced : Outcome → Type 0
+IsPlaced outcome = PlacesAll outcome.allowed outcome.placed

@@ -29,3 +29,7 @@ PlacesAt allowed copy placed old new port =
 pub record PlacesCopies (allowed : List ℕ) (copy : FrameCopy) (placed : List ℕ) (old new : List (Option Inlet)) : Type 0 where
   pub size : length new ≡ length old
   pub ports : (port : ℕ) → PlacesAt allowed copy placed old new port
+
+-- the copy was placed on the lane to each port to which the frame is allowed
+abbrev pub PlacesAll : List ℕ → List ℕ → Type 0
+PlacesAll allowed placed = (port : ℕ) → IsTrue (has_port port allowed) → IsTrue (has_port port placed)

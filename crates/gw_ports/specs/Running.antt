@@ -1,6 +1,6 @@
 -- What the threads of a run do.
 use Rattle.std.specs.Prelude.{◌≡◌, ℕ, ◌+◌, ◌<◌, List, [], ◌∷◌, ◌++◌, length, take, slice_index, slice_index_or, Option, Some}
-use Rattle.std.specs.Prelude.{None, MatchOption, All, ◌≤◌, min, vec_capacity, vec_len}
+use Rattle.std.specs.Prelude.{None, IsTrue, MatchOption, All, ◌≤◌, min, vec_capacity, vec_len}
 use Rattle.std.specs.Iterator.{Count, Drains, IsFinite, Yields, size}
 use Rattle.gw_board.specs.Ends.{Publishing}
 use Rattle.gw_board.specs.Refusals.{Refuses}
@@ -11,7 +11,7 @@ use Rattle.gw_claims.specs.Holders.{HoldsAfter}
 use Rattle.gw_policy.specs.Batches.{Pair}
 use Rattle.gw_ports.specs.Ends.{Ingress, Egress, end_in, end_out}
 use Rattle.gw_ports.specs.Making.{nothing_counted}
-use Rattle.gw_ports.specs.Offers.{Offered}
+use Rattle.gw_ports.specs.Offers.{IsPlaced, Offered}
 use Rattle.gw_ports.specs.Sending.{Sends}
 use Rattle.gw_ports.specs.declared.refusals.OfferRefusal.{OfferRefusal}
 use Rattle.gw_ports.specs.declared.refusals.OfferRefusal.TheVariants.{FramesSpent}
@@ -59,7 +59,8 @@ abbrev pub Gives : {S : Type 0} → (S → Option (List ℕ) → S → Type 0) �
 Gives steps input frames None = Drains steps input frames
 Gives {S} steps input frames (Some why) = (refused : List ℕ) × (rest : S) × Yields steps input (frames ++ refused ∷ []) rest
 
--- the port offered the frames of its input, up to the one that was refused, and there was room for their outcomes
+-- the port offered the frames of its input, up to the one that was refused, and there was room for their outcomes; where it waits
+-- no copy was lost
 pub record IsDone {S : Type 0} (steps : S → Option (List ℕ) → S → Type 0) (feed : Feed S) (done : Done) : Type 0 where
   pub frames : List (List ℕ)
   pub gave : Gives steps feed.input frames done.stop
@@ -67,6 +68,7 @@ pub record IsDone {S : Type 0} (steps : S → Option (List ℕ) → S → Type 0
   pub same : end_in done.port ≡ end_in feed.port
   pub spent : done.stop ≡ Some FramesSpent → done.port.ledger.taken ≡ done.port.frames
   pub room : length done.outcomes.items ≤ vec_capacity feed.outcomes
+  pub all : IsTrue feed.waits → All IsPlaced done.outcomes.items
 
 -- the copies left the port one after another
 abbrev pub Takes : Egress → List FrameCopy → Egress → Type 0

@@ -7,6 +7,7 @@ use Rattle.gw_policy.specs.Batches.{Pair}
 use Rattle.gw_ports.specs.Ends.{Ingress, Egress}
 use Rattle.gw_ports.specs.Making.{AreNewEnds, AreOfOneGateway}
 use Rattle.gw_ports.specs.Closing.{Closes}
+use Rattle.gw_ports.specs.Offers.{IsPlaced}
 use Rattle.gw_ports.specs.Running.{HasTaken, IsDone, Pairwise, Publishes, with_batches}
 use Rattle.gw_ports.specs.Refusals.{make_refusal_number}
 use Rattle.gw_ports.specs.Reports.{HasRoom}
@@ -50,6 +51,10 @@ pub record IsRun {S : Type 0} (steps : S → Option (List ℕ) → S → Type 0)
   pub out_is : report.out.items ≡ map (λ one. one.out) drained
   pub room : HasRoom limits.ports report
   pub closed : Closes closing (map (λ one. one.port) done) (map (λ one. one.port) drained) report.report
+
+-- no copy of the run was lost
+abbrev pub NoneLost : RunReport → Type 0
+NoneLost report = All (λ list. All IsPlaced list.items) report.outcomes.items
 
 -- why there was no run, or no report of one. Whether the first batch names a port that is not there is seen once the gateway is
 -- made, and before all else. 82 is want of memory alone: nothing else stands against the batch at a new operator

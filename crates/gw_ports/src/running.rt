@@ -1,7 +1,7 @@
 //! Running a gateway in threads of its own.
 
 ghost use Rattle.std.specs.Prelude.{◌≡◌, ◌<◌, ◌⊎◌, ℕ, List, [], All, IfErr, IfOk, OnOk, length, map, slice_index, slice_index_or};
-ghost use Rattle.std.specs.Prelude.{vec_len};
+ghost use Rattle.std.specs.Prelude.{IsTrue, vec_len};
 ghost use Rattle.std.specs.Vec.Iter.{into_iter_items, into_iter_len, into_iter_steps};
 ghost use Rattle.std.specs.Iterator.{UpTo};
 ghost use Rattle.std.specs.declared.vec.IntoIter.{IntoIter};
@@ -9,7 +9,7 @@ ghost use Rattle.std.specs.declared.alloc.Global.{Global};
 ghost use Rattle.gw_board.specs.Refusals.{PortsBelow};
 ghost use Rattle.gw_ports.specs.Ends.{Ingress};
 ghost use Rattle.gw_ports.specs.Reports.{IsReport, IsReportOf};
-ghost use Rattle.gw_ports.specs.Runs.{IsOpened, IsRun, RefusesRun};
+ghost use Rattle.gw_ports.specs.Runs.{IsOpened, IsRun, NoneLost, RefusesRun};
 ghost use Rattle.gw_ports.specs.declared.running.RunRefusal.TheVariants.{OutOfMemory};
 
 use crate::closing::{CloseRefusal, close_ends};
@@ -130,6 +130,7 @@ pub fn run<R: Threads + Wait + Sync, G: Gate>(
         × IsRun into_iter_steps limits first made batches.items report) }
     ensures reported { IfOk result (IsReport limits first (map (λ list. list.items) inputs.items) batches.items) }
     ensures ports { OnOk result (PortsBelow limits.ports first) }
+    ensures none_lost { IsTrue G.waits → IfOk result NoneLost }
     // Memory for the lists' iterators is wanted before the first batch is looked at.
     ensures refused { IfErr result (λ why. (why ≡ OutOfMemory) ⊎ RefusesRun limits first why) }
 {
@@ -177,6 +178,7 @@ pub fn run_from<R: Threads + Wait + Sync, G: Gate, I: Iterator<Item = Frame> + S
     ensures ran { IfOk result (IsRun I.next_gives limits first inputs.items batches.items) }
     ensures reported { IfOk result (IsReportOf I.next_gives limits first inputs.items batches.items) }
     ensures ports { OnOk result (PortsBelow limits.ports first) }
+    ensures none_lost { IsTrue G.waits → IfOk result NoneLost }
     ensures refused { IfErr result (RefusesRun limits first) }
 {
     let parts = match open(rt, alloc, limits, first) {
@@ -188,7 +190,17 @@ pub fn run_from<R: Threads + Wait + Sync, G: Gate, I: Iterator<Item = Frame> + S
         ins,
         outs,
     } = parts;
-    let Ok(prepared) = prepare(alloc, limits, ins, outs, inputs, &sizes, batches.len()) else {
+    let waits = gate.waits_for_room();
+    let Ok(prepared) = prepare(
+        alloc,
+        limits,
+        ins,
+        outs,
+        inputs,
+        &sizes,
+        batches.len(),
+        waits,
+    ) else {
         operator.end(rt);
         return Err(RunRefusal::OutOfMemory);
     };

@@ -1,5 +1,5 @@
 -- What a forwarding finds, from what its parts found.
-use Rattle.std.proofs.Common.{◌≡◌, ℕ, Bool, List, [], Option, subst, sym, inr, map}
+use Rattle.std.proofs.Common.{◌≡◌, ℕ, Bool, List, [], Option, IsTrue, subst, sym, inr, map}
 use Rattle.std.specs.Iterator.{YieldsFirst}
 use Rattle.std.specs.Vec.Iter.{into_iter_items, into_iter_steps}
 use Rattle.std.specs.declared.alloc.Global.{Global}
@@ -12,17 +12,17 @@ use Rattle.gw_run.specs.declared.taking.Taking.{Taking}
 use Rattle.gw_run.specs.declared.refusal.ForwardRefusal.{ForwardRefusal}
 use Rattle.gw_run.specs.Forwarding.{IsFirst, IsForwarded, IsForwardRefusal, IsOctetsRun, IsTraceInput, IsTraceRun}
 use Rattle.gw_run.specs.declared.refusal.ForwardRefusal.TheVariants.{Stopped}
-use Rattle.gw_ports.specs.Runs.{IsRun}
+use Rattle.gw_ports.specs.Runs.{IsRun, NoneLost}
 use Rattle.gw_ports.specs.declared.running.RunReport.{RunReport}
-use Rattle.gw_run.specs.Forwarding.{AreShares, IsListRun, IsRunOn, IsStopOf, NoneStopped}
+use Rattle.gw_run.specs.Forwarding.{AreShares, IsListRun, IsRunOn, IsStopOf, IsWhole, NoneStopped}
 use Rattle.gw_run.specs.Forwarding.{RefusesInputs, RefusesOctets, RefusesTrace}
 
 -- under the policies of the sources
-pub under_policies : (taking : Taking) (limits : Bounds) (sources : List PolicySource) (texts : List (List ℕ)) (shown : Shown)
-    (before after : Option (List ℕ)) (failed : Bool) (first : List Pair) (text : List ℕ) → IsFirst sources texts first
-    → IsTraceRun taking limits first shown before after failed text
-    → IsForwarded taking limits sources texts shown before after failed text
-under_policies taking limits sources texts shown before after failed first text policies run =
+pub under_policies : (taking : Taking) (limits : Bounds) (sources : List PolicySource) (texts : List (List ℕ)) (waits : Bool)
+    (shown : Shown) (before after : Option (List ℕ)) (failed : Bool) (first : List Pair) (text : List ℕ) → IsFirst sources texts first
+    → IsTraceRun taking limits first waits shown before after failed text
+    → IsForwarded taking limits sources texts waits shown before after failed text
+under_policies taking limits sources texts waits shown before after failed first text policies run =
     record { first = first; policies = policies; run = run }
 
 pub refused_under_policies : (taking : Taking) (limits : Bounds) (sources : List PolicySource) (texts : List (List ℕ))
@@ -33,13 +33,13 @@ refused_under_policies taking limits sources texts before after failed reads fir
     inr (record { first = first; policies = policies; why = why })
 
 -- of the octets that the reader gave
-pub of_trace : (taking : Taking) (limits : Bounds) (first : List Pair) (shown : Shown) (before after : Option (List ℕ))
-    (failed : Bool) (octets given text : List ℕ) → IsTraceInput before after failed octets → given ≡ octets
-    → IsOctetsRun taking limits first shown given text → IsTraceRun taking limits first shown before after failed text
-of_trace taking limits first shown before after failed octets given text read same run = record {
+pub of_trace : (taking : Taking) (limits : Bounds) (first : List Pair) (waits : Bool) (shown : Shown)
+    (before after : Option (List ℕ)) (failed : Bool) (octets given text : List ℕ) → IsTraceInput before after failed octets → given ≡ octets
+    → IsOctetsRun taking limits first waits shown given text → IsTraceRun taking limits first waits shown before after failed text
+of_trace taking limits first waits shown before after failed octets given text read same run = record {
   octets = octets;
   read = read;
-  run = subst (λ (o : List ℕ). IsOctetsRun taking limits first shown o text) same run;
+  run = subst (λ (o : List ℕ). IsOctetsRun taking limits first waits shown o text) same run;
 }
 
 pub refused_of_trace : (taking : Taking) (limits : Bounds) (first : List Pair) (before after : Option (List ℕ)) (failed : Bool)
@@ -73,6 +73,7 @@ pub stop_refuses : (Ran : RunReport → Type 0) (limits : Bounds) (first : List 
 stop_refuses Ran limits first report (Stopped port why) ran stop = (report, ran, stop)
 stop_refuses Ran limits first report _ ran stop = absurd stop
 
-pub whole_run : (Ran : RunReport → Type 0) (report whole : RunReport) → Ran report
-    → (whole ≡ report) × NoneStopped whole.stops.items → Ran whole × NoneStopped whole.stops.items
-whole_run Ran report whole ran is = (subst Ran (sym is.0) ran, is.1)
+pub whole_run : (Ran : RunReport → Type 0) (waits : Bool) (report whole : RunReport) → Ran report
+    → (IsTrue waits → NoneLost report) → (whole ≡ report) × NoneStopped whole.stops.items → Ran whole × IsWhole waits whole
+whole_run Ran waits report whole ran kept is =
+    (subst Ran (sym is.0) ran, (is.1, λ wait. subst NoneLost (sym is.0) (kept wait)))

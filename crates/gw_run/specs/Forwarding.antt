@@ -2,7 +2,7 @@
 -- writer took.
 use Rattle.std.specs.Prelude.{◌≡◌, ℕ, ◌<◌, ◌⊎◌, ◌==◌, Bool, true, false, not, ◌&&◌, if◌then◌else◌, List, [], ◌∷◌, ◌++◌, length}
 use Rattle.std.specs.Prelude.{codes, decimal, slice_get, slice_index_or, map, Option, Some, None, Result, Ok, Err, MatchResult}
-use Rattle.std.specs.Prelude.{All, Any}
+use Rattle.std.specs.Prelude.{All, Any, IsTrue}
 use Rattle.std.specs.Option.{option_map_or}
 use Rattle.std.specs.List.{flat_map, count_by, join_by, sum_by, range_with_len}
 use Rattle.std.specs.Io.KnownBytes.{IsAtEnd, Consumes}
@@ -17,7 +17,7 @@ use Rattle.gw_ledger.specs.Bounds.{Bounds}
 use Rattle.gw_ledger.specs.Ports.{has_port}
 use Rattle.gw_ledger.specs.declared.ledger.InLedger.{InLedger}
 use Rattle.gw_ledger.specs.declared.outcome.Outcome.{Outcome}
-use Rattle.gw_ports.specs.Runs.{IsRun, RefusesRun}
+use Rattle.gw_ports.specs.Runs.{IsRun, NoneLost, RefusesRun}
 use Rattle.gw_ports.specs.declared.refusals.OfferRefusal.{OfferRefusal}
 use Rattle.gw_ports.specs.declared.running.RunRefusal.TheVariants.{NoSuchPort}
 use Rattle.gw_ports.specs.declared.running.RunReport.{RunReport}
@@ -114,10 +114,15 @@ IsRunOf InTurn limits first octets report =
     (frames : List (List ℕ)) × (whole_trace octets ≡ Ok frames) × IsRunOn limits first frames report
 IsRunOf (ByInterface names) limits first octets report = LogRuns names.now limits first octets report
 
--- no port stopped before its frames were at an end; or this one is the least that did
+-- no port stopped before its frames were at an end
 abbrev pub NoneStopped : List (Option OfferRefusal) → Type 0
 NoneStopped stops = All (λ stop. stop ≡ None) stops
 
+-- no port of the run stopped, and where a copy that finds its lane full waits for room, none was lost
+abbrev pub IsWhole : Bool → RunReport → Type 0
+IsWhole waits report = NoneStopped report.stops.items × (IsTrue waits → NoneLost report)
+
+-- this port is the least that stopped
 pub record IsFirstStop (stops : List (Option OfferRefusal)) (port : ℕ) (why : OfferRefusal) : Type 0 where
   pub stopped : slice_get stops port ≡ Some (Some why)
   pub before : (k : ℕ) (d : Option OfferRefusal) → k < port → slice_index_or stops k d ≡ None
@@ -270,11 +275,11 @@ report_text ports Json report = report_json ports report
 -- ---- the command
 
 -- the text of a run on what the ports take of an input's octets, which begins with this batch
-pub record IsOctetsRun (taking : Taking) (limits : Bounds) (first : List Pair) (shown : Shown) (octets text : List ℕ)
-    : Type 0 where
+pub record IsOctetsRun (taking : Taking) (limits : Bounds) (first : List Pair) (waits : Bool) (shown : Shown)
+    (octets text : List ℕ) : Type 0 where
   pub report : RunReport
   pub ran : IsRunOf taking limits first octets report
-  pub unstopped : NoneStopped report.stops.items
+  pub whole : IsWhole waits report
   pub lines : text ≡ report_text limits.ports shown report
 
 -- what refuses such a run: what refuses the gateway's run, but for a port that is not there, which no source names; or the least
@@ -302,11 +307,11 @@ RefusesOctets InTurn limits first octets refusal =
 RefusesOctets (ByInterface names) limits first octets refusal = RefusesLog names.now limits first octets refusal
 
 -- the text of a run on the input that the reader gave
-pub record IsTraceRun (taking : Taking) (limits : Bounds) (first : List Pair) (shown : Shown) (before after : Option (List ℕ))
-    (failed : Bool) (text : List ℕ) : Type 0 where
+pub record IsTraceRun (taking : Taking) (limits : Bounds) (first : List Pair) (waits : Bool) (shown : Shown)
+    (before after : Option (List ℕ)) (failed : Bool) (text : List ℕ) : Type 0 where
   pub octets : List ℕ
   pub read : IsTraceInput before after failed octets
-  pub run : IsOctetsRun taking limits first shown octets text
+  pub run : IsOctetsRun taking limits first waits shown octets text
 
 -- what refuses an input: its reading before its octets
 abbrev pub RefusesTrace : Taking → Bounds → List Pair → Option (List ℕ) → Option (List ℕ) → Bool → ℕ → ForwardRefusal → Type 0
@@ -315,11 +320,11 @@ RefusesTrace taking limits first before after failed reads refusal =
     ⊎ ((octets : List ℕ) × IsTraceInput before after failed octets × RefusesOctets taking limits first octets refusal)
 
 -- the text for what the reader gave: the lines of a run on what the ports take of it, under the policies of the ports' sources
-pub record IsForwarded (taking : Taking) (limits : Bounds) (sources : List PolicySource) (texts : List (List ℕ)) (shown : Shown)
-    (before after : Option (List ℕ)) (failed : Bool) (text : List ℕ) : Type 0 where
+pub record IsForwarded (taking : Taking) (limits : Bounds) (sources : List PolicySource) (texts : List (List ℕ)) (waits : Bool)
+    (shown : Shown) (before after : Option (List ℕ)) (failed : Bool) (text : List ℕ) : Type 0 where
   pub first : List Pair
   pub policies : IsFirst sources texts first
-  pub run : IsTraceRun taking limits first shown before after failed text
+  pub run : IsTraceRun taking limits first waits shown before after failed text
 
 -- the sources mean policies, and the input is refused
 pub record RefusesForwarding (taking : Taking) (limits : Bounds) (sources : List PolicySource) (texts : List (List ℕ))
@@ -341,11 +346,11 @@ WritesForward (Ok text) status old new failed = WritesText text 0 status old new
 WritesForward (Err refusal) status old new failed = WritesText (forward_refusal_line refusal) 1 status old new failed
 
 -- what was found is written, and tells the status
-pub record Forwards (taking : Taking) (limits : Bounds) (sources : List PolicySource) (texts : List (List ℕ)) (shown : Shown)
-    (before after : Option (List ℕ)) (failed : Bool) (reads : ℕ) (old new : Option (List ℕ)) (write_failed : Bool) (status : ℕ)
-    : Type 0 where
+pub record Forwards (taking : Taking) (limits : Bounds) (sources : List PolicySource) (texts : List (List ℕ)) (waits : Bool)
+    (shown : Shown) (before after : Option (List ℕ)) (failed : Bool) (reads : ℕ) (old new : Option (List ℕ))
+    (write_failed : Bool) (status : ℕ) : Type 0 where
   pub found : Result (List ℕ) ForwardRefusal
-  pub is_found : MatchResult found (IsForwarded taking limits sources texts shown before after failed)
+  pub is_found : MatchResult found (IsForwarded taking limits sources texts waits shown before after failed)
       (IsForwardRefusal taking limits sources texts before after failed reads)
   pub written : WritesForward found status old new write_failed
 
@@ -358,9 +363,10 @@ RefusesNamed sources refusal = Any NamesFile sources × RefusesFile refusal
 
 -- the input was forwarded under the policies of the sources, whatever their files hold; or a file was refused, and nothing was
 -- read
-abbrev pub ForwardsNamed : Taking → Bounds → List PolicySource → Shown → Option (List ℕ) → Option (List ℕ) → Bool → ℕ
+abbrev pub ForwardsNamed : Taking → Bounds → List PolicySource → Bool → Shown → Option (List ℕ) → Option (List ℕ) → Bool → ℕ
     → Option (List ℕ) → Option (List ℕ) → Bool → ℕ → Type 0
-ForwardsNamed taking limits sources shown before after failed reads old new write_failed status =
-    ((texts : List (List ℕ)) × Forwards taking limits sources texts shown before after failed reads old new write_failed status)
+ForwardsNamed taking limits sources waits shown before after failed reads old new write_failed status =
+    ((texts : List (List ℕ))
+    × Forwards taking limits sources texts waits shown before after failed reads old new write_failed status)
     ⊎ ((refusal : Refusal) × RefusesNamed sources refusal × (after ≡ before)
     × Writes (Err refusal) status old new write_failed)

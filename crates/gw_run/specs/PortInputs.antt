@@ -19,7 +19,7 @@ use Rattle.gw_run.specs.declared.refusal.ForwardRefusal.TheVariants.{Command, Tr
 use Rattle.gw_run.specs.declared.lines.Shown.{Shown}
 use Rattle.gw_run.specs.declared.inputs.PortInput.{PortInput}
 use Rattle.gw_run.specs.declared.inputs.PortInput.TheVariants.{Nothing, Unread, Held}
-use Rattle.gw_run.specs.Forwarding.{IsFirst, IsListRun, NoneStopped, RefusesInputs, RefusesNamed, RefusesSources}
+use Rattle.gw_run.specs.Forwarding.{IsFirst, IsListRun, IsWhole, RefusesInputs, RefusesNamed, RefusesSources}
 use Rattle.gw_run.specs.Forwarding.{WritesForward, report_text}
 use Rattle.gw_run.specs.Logs.{log_frames, no_log}
 
@@ -59,13 +59,13 @@ pub record RefusesFirstInput (inputs : List PortInput) (refusal : ForwardRefusal
 -- ---- the run
 
 -- the text of a run on the frames of the ports' inputs, which begins with this batch
-pub record IsInputsRun (limits : Bounds) (first : List Pair) (inputs : List PortInput) (shown : Shown) (text : List ℕ)
-    : Type 0 where
+pub record IsInputsRun (limits : Bounds) (first : List Pair) (inputs : List PortInput) (waits : Bool) (shown : Shown)
+    (text : List ℕ) : Type 0 where
   pub frames : List (List (List ℕ))
   pub offered : AreFramesOf inputs frames
   pub report : RunReport
   pub ran : IsListRun limits first frames report
-  pub unstopped : NoneStopped report.stops.items
+  pub whole : IsWhole waits report
   pub lines : text ≡ report_text limits.ports shown report
 
 -- what refuses such a run: the first input that is refused; or what refuses a run on the frames of all; memory may be wanting in
@@ -78,10 +78,10 @@ RefusesInputsRun limits first inputs refusal =
     ⊎ (refusal ≡ Command OutOfMemory)
 
 -- what was found of the run is written, and tells the status
-pub record ForwardsInputs (limits : Bounds) (first : List Pair) (inputs : List PortInput) (shown : Shown)
+pub record ForwardsInputs (limits : Bounds) (first : List Pair) (inputs : List PortInput) (waits : Bool) (shown : Shown)
     (old new : Option (List ℕ)) (write_failed : Bool) (status : ℕ) : Type 0 where
   pub found : Result (List ℕ) ForwardRefusal
-  pub is_found : MatchResult found (IsInputsRun limits first inputs shown) (RefusesInputsRun limits first inputs)
+  pub is_found : MatchResult found (IsInputsRun limits first inputs waits shown) (RefusesInputsRun limits first inputs)
   pub written : WritesForward found status old new write_failed
 
 -- ---- the files
@@ -104,9 +104,9 @@ RefusesPolicies sources refusal =
 
 -- the inputs of the ports' files were forwarded under the policies of the sources, whatever the files hold; or the policies were
 -- refused
-abbrev pub ForwardsFiles : Bounds → List PolicySource → List (Option (Bor (List ℕ))) → Shown → Option (List ℕ)
+abbrev pub ForwardsFiles : Bounds → List PolicySource → List (Option (Bor (List ℕ))) → Bool → Shown → Option (List ℕ)
     → Option (List ℕ) → Bool → ℕ → Type 0
-ForwardsFiles limits sources files shown old new write_failed status =
+ForwardsFiles limits sources files waits shown old new write_failed status =
     ((texts : List (List ℕ)) × (first : List Pair) × (inputs : List PortInput) × IsFirst sources texts first
-    × AreInputsOf files inputs × ForwardsInputs limits first inputs shown old new write_failed status)
+    × AreInputsOf files inputs × ForwardsInputs limits first inputs waits shown old new write_failed status)
     ⊎ ((refusal : Refusal) × RefusesPolicies sources refusal × Writes (Err refusal) status old new write_failed)

@@ -37,7 +37,7 @@ pub fn forward_named<R: Threads + Wait + Sync + Files, G: Observer, I: Read, W: 
     requires unread { reads_of input.old ≡ 0 }
     requires input { has_failed input.old ≡ false }
     requires output { has_failed output.old ≡ false }
-    ensures { ForwardsNamed taking.now limits sources.now shown
+    ensures { ForwardsNamed taking.now limits sources.now G.waits shown
         (I.remaining (inner_of input.old)) (I.remaining (inner_of input.new))
         (has_failed input.new) (unended_reads input.old input.new)
         (W.contents (inner_of output.old)) (W.contents (inner_of output.new)) (has_failed output.new) result }

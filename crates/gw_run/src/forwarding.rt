@@ -10,7 +10,7 @@ ghost use Rattle.gw_run.specs.Forwarding.{
   IsOctetsRun,
   IsRunOf,
   LogRuns,
-  NoneStopped,
+  IsWhole,
   RefusesLog,
   RefusesTrace,
   RefusesOctets,
@@ -63,7 +63,7 @@ pub fn forward<R: Threads + Wait + Sync, G: Observer, I: Read, W: Write, F: Writ
     requires unread { reads_of input.old ≡ 0 }
     requires input { has_failed input.old ≡ false }
     requires output { has_failed output.old ≡ false }
-    ensures { Forwards taking.now limits sources.now (map (λ text. text.items) texts.now) shown
+    ensures { Forwards taking.now limits sources.now (map (λ text. text.items) texts.now) G.waits shown
         (I.remaining (inner_of input.old)) (I.remaining (inner_of input.new))
         (has_failed input.new) (unended_reads input.old input.new)
         (W.contents (inner_of output.old)) (W.contents (inner_of output.new)) (has_failed output.new) result }
@@ -94,8 +94,8 @@ fn forwarded<R: Threads + Wait + Sync, G: Observer, I: Read, F: Write>(
     requires texts { length texts.now ≡ limits.ports }
     requires unread { reads_of input.old ≡ 0 }
     requires input { has_failed input.old ≡ false }
-    ensures forwarded { IfOk result (λ text. IsForwarded taking.now limits sources.now (map (λ text. text.items) texts.now) shown
-        (I.remaining (inner_of input.old)) (I.remaining (inner_of input.new)) (has_failed input.new) text.items) }
+    ensures forwarded { IfOk result (λ text. IsForwarded taking.now limits sources.now (map (λ text. text.items) texts.now)
+        G.waits shown (I.remaining (inner_of input.old)) (I.remaining (inner_of input.new)) (has_failed input.new) text.items) }
     ensures refused { IfErr result (IsForwardRefusal taking.now limits sources.now (map (λ text. text.items) texts.now)
         (I.remaining (inner_of input.old)) (I.remaining (inner_of input.new))
         (has_failed input.new) (unended_reads input.old input.new)) }
@@ -123,7 +123,7 @@ fn run_input<R: Threads + Wait + Sync, G: Observer, I: Read, F: Write>(
     requires ports { All (λ pair. pair.port < limits.ports) first }
     requires unread { reads_of input.old ≡ 0 }
     requires input { has_failed input.old ≡ false }
-    ensures ran { IfOk result (λ text. IsTraceRun taking.now limits first shown
+    ensures ran { IfOk result (λ text. IsTraceRun taking.now limits first G.waits shown
         (I.remaining (inner_of input.old)) (I.remaining (inner_of input.new)) (has_failed input.new) text.items) }
     ensures refused { IfErr result (RefusesTrace taking.now limits first
         (I.remaining (inner_of input.old)) (I.remaining (inner_of input.new))
@@ -158,7 +158,7 @@ fn run_octets<R: Threads + Wait + Sync, G: Observer, F: Write>(
     faults: &mut Tried<F>,
 ) -> Result<Vec<u8>, ForwardRefusal>
     requires { All (λ pair. pair.port < limits.ports) first }
-    ensures ran { IfOk result (λ text. IsOctetsRun taking.now limits first shown octets.now text.items) }
+    ensures ran { IfOk result (λ text. IsOctetsRun taking.now limits first G.waits shown octets.now text.items) }
     ensures refused { IfErr result (RefusesOctets taking.now limits first octets.now) }
 {
     match run_taken(rt, alloc, limits, first, taking, observer, octets, faults) {
@@ -197,7 +197,7 @@ fn run_taken<R: Threads + Wait + Sync, G: Observer, F: Write>(
     faults: &mut Tried<F>,
 ) -> Result<RunReport, ForwardRefusal>
     requires { All (λ pair. pair.port < limits.ports) first }
-    ensures ran { IfOk result (λ report. IsRunOf taking.now limits first octets.now report × NoneStopped report.stops.items) }
+    ensures ran { IfOk result (λ report. IsRunOf taking.now limits first octets.now report × IsWhole G.waits report) }
     ensures refused { IfErr result (RefusesOctets taking.now limits first octets.now) }
 {
     match taking {
@@ -219,7 +219,7 @@ fn run_trace<R: Threads + Wait + Sync, G: Observer, F: Write>(
     faults: &mut Tried<F>,
 ) -> Result<RunReport, ForwardRefusal>
     requires { All (λ pair. pair.port < limits.ports) first }
-    ensures ran { IfOk result (λ report. IsRunOf InTurn limits first octets.now report × NoneStopped report.stops.items) }
+    ensures ran { IfOk result (λ report. IsRunOf InTurn limits first octets.now report × IsWhole G.waits report) }
     ensures refused { IfErr result (RefusesOctets InTurn limits first octets.now) }
 {
     let trace = match Checked::new(octets) {
@@ -247,7 +247,7 @@ fn run_log<R: Threads + Wait + Sync, G: Observer, F: Write>(
     faults: &mut Tried<F>,
 ) -> Result<RunReport, ForwardRefusal>
     requires { All (λ pair. pair.port < limits.ports) first }
-    ensures ran { IfOk result (λ report. LogRuns names.now limits first octets.now report × NoneStopped report.stops.items) }
+    ensures ran { IfOk result (λ report. LogRuns names.now limits first octets.now report × IsWhole G.waits report) }
     ensures refused { IfErr result (RefusesLog names.now limits first octets.now) }
 {
     if let Some(why) = no_log(octets) {

@@ -59,7 +59,7 @@ pub fn forward_inputs<R: Threads + Wait + Sync, G: Observer, W: Write, F: Write>
     requires first { All (λ pair. pair.port < limits.ports) first }
     requires inputs { length inputs.now ≡ limits.ports }
     requires output { has_failed output.old ≡ false }
-    ensures { ForwardsInputs limits first inputs.now shown
+    ensures { ForwardsInputs limits first inputs.now G.waits shown
         (W.contents (inner_of output.old)) (W.contents (inner_of output.new)) (has_failed output.new) result }
 {
     match inputs_text(rt, alloc, limits, first, inputs, shown, observer, faults) {
@@ -81,7 +81,7 @@ fn inputs_text<R: Threads + Wait + Sync, G: Observer, F: Write>(
 ) -> Result<Vec<u8>, ForwardRefusal>
     requires first { All (λ pair. pair.port < limits.ports) first }
     requires inputs { length inputs.now ≡ limits.ports }
-    ensures ran { IfOk result (λ text. IsInputsRun limits first inputs.now shown text.items) }
+    ensures ran { IfOk result (λ text. IsInputsRun limits first inputs.now G.waits shown text.items) }
     ensures refused { IfErr result (RefusesInputsRun limits first inputs.now) }
 {
     let lists = match input_lists(alloc, inputs, faults) {

@@ -23,7 +23,7 @@ pub use files::forward_named;
 pub use forwarding::forward;
 pub use inputs::{PortInput, forward_inputs};
 pub use lines::Shown;
-pub use observing::{NoObserver, Observer, ProgressOnStderr};
+pub use observing::{NoObserver, Observer, ProgressOnStderr, Waiting};
 pub use port_files::forward_files;
 pub use refusal::ForwardRefusal;
 pub use taking::{NamedInterface, Taking};

@@ -1,5 +1,7 @@
 //! Who observes a run.
 
+ghost use Rattle.std.specs.Prelude.{true, false};
+
 use gw_ports::Gate;
 use std::marker::Sync;
 use std::rt::Clock;
@@ -20,6 +22,12 @@ pub trait Observer: Gate {
 pub struct NoObserver;
 
 impl Gate for NoObserver {
+    ghost waits = { false };
+
+    fn waits_for_room(&self) -> bool {
+        false
+    }
+
     fn enter(&self, _port: u8, _index: usize) {}
 
     fn leave(&self, _port: u8, _index: usize) {}
@@ -31,6 +39,40 @@ impl Gate for NoObserver {
 
 impl Observer for NoObserver {
     fn begins(&self, _frames: usize) {}
+}
+
+/// Observes as another does, while a copy that finds its lane full waits for room.
+#[derive(Drop)]
+pub struct Waiting<'a, G>(pub &'a G);
+
+impl<G: Gate> Gate for Waiting<'_, G> {
+    ghost waits = { true };
+
+    fn waits_for_room(&self) -> bool {
+        true
+    }
+
+    fn enter(&self, port: u8, index: usize) {
+        self.0.enter(port, index);
+    }
+
+    fn leave(&self, port: u8, index: usize) {
+        self.0.leave(port, index);
+    }
+
+    fn before_replace(&self, index: usize) {
+        self.0.before_replace(index);
+    }
+
+    fn replaced(&self, index: usize) {
+        self.0.replaced(index);
+    }
+}
+
+impl<G: Observer> Observer for Waiting<'_, G> {
+    fn begins(&self, frames: usize) {
+        self.0.begins(frames);
+    }
 }
 
 /// Tells a person on stderr, once a second, how many frames were offered of those that there are.
@@ -84,6 +126,12 @@ impl<R: Clock + Eprint> ProgressOnStderr<'_, R> {
 }
 
 impl<R: Clock + Eprint + Sync> Gate for ProgressOnStderr<'_, R> {
+    ghost waits = { false };
+
+    fn waits_for_room(&self) -> bool {
+        false
+    }
+
     fn enter(&self, _port: u8, _index: usize) {}
 
     fn leave(&self, _port: u8, index: usize) {

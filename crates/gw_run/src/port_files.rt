@@ -43,7 +43,7 @@ pub fn forward_files<R: Threads + Wait + Sync + Files, G: Observer, W: Write, F:
     requires sources { length sources.now ≡ limits.ports }
     requires files { length files.now ≡ limits.ports }
     requires output { has_failed output.old ≡ false }
-    ensures { ForwardsFiles limits sources.now files.now shown
+    ensures { ForwardsFiles limits sources.now files.now G.waits shown
         (W.contents (inner_of output.old)) (W.contents (inner_of output.new)) (has_failed output.new) result }
 {
     let first = match named_batch(rt, alloc, sources, faults) {

@@ -3,7 +3,8 @@
 ghost use Rattle.std.specs.Prelude.{◌≡◌, ◌≤◌, ◌<◌, ℕ, List, length, map, slice_index, slice_index_or, vec_len};
 ghost use Rattle.std.specs.Prelude.{IfOk, IfErr, IfNone, IfSome, All};
 ghost use Rattle.gw_trace.specs.Shares.{share_of};
-ghost use Rattle.gw_run.specs.Forwarding.{AreShares, IsFirstStop, IsListRun, IsRunOn, IsStopOf, NoneStopped, RefusesInputs};
+ghost use Rattle.gw_run.specs.Forwarding.{AreShares, IsFirstStop, IsListRun, IsRunOn, IsStopOf, IsWhole, NoneStopped};
+ghost use Rattle.gw_run.specs.Forwarding.{RefusesInputs};
 
 use crate::observing::Observer;
 use crate::refusal::ForwardRefusal;
@@ -29,7 +30,7 @@ pub(crate) fn run_shares<R: Threads + Wait + Sync, G: Observer>(
     observer: &G,
 ) -> Result<RunReport, ForwardRefusal>
     requires { All (λ pair. pair.port < limits.ports) first }
-    ensures ran { IfOk result (λ report. IsRunOn limits first trace.now report × NoneStopped report.stops.items) }
+    ensures ran { IfOk result (λ report. IsRunOn limits first trace.now report × IsWhole G.waits report) }
     ensures refused { IfErr result (RefusesInputs (IsRunOn limits first trace.now) limits first) }
 {
     let Ok((inputs, sizes)) = shares(alloc, trace, limits.ports() as usize) else {
@@ -63,7 +64,7 @@ pub(crate) fn run_lists<R: Threads + Wait + Sync, G: Observer>(
     requires lists { vec_len lists ≡ limits.ports }
     requires first { All (λ pair. pair.port < limits.ports) first }
     ensures ran { IfOk result (λ report. IsListRun limits first (map (λ list. list.items) lists.items) report
-        × NoneStopped report.stops.items) }
+        × IsWhole G.waits report) }
     ensures refused { IfErr result
         (RefusesInputs (IsListRun limits first (map (λ list. list.items) lists.items)) limits first) }
 {

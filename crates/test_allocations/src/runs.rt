@@ -25,6 +25,14 @@ const LATER: usize = 33;
 struct Open;
 
 impl Gate for Open {
+    ghost use Rattle.std.specs.Prelude.{false};
+
+    ghost waits = { false };
+
+    fn waits_for_room(&self) -> bool {
+        false
+    }
+
     fn enter(&self, _port: u8, _index: usize) {}
 
     fn leave(&self, _port: u8, _index: usize) {}

@@ -124,6 +124,14 @@ impl Lockstep {
 }
 
 impl Gate for Lockstep {
+    ghost use Rattle.std.specs.Prelude.{false};
+
+    ghost waits = { false };
+
+    fn waits_for_room(&self) -> bool {
+        false
+    }
+
     fn enter(&self, _port: u8, index: usize) {
         self.wait_for(&self.replaced, index);
         self.entered.fetch_add(1, Ordering::SeqCst);
@@ -187,6 +195,14 @@ fn four_ports_and_five_batches_in_step(rt: HostRuntime) -> Result<(), Fail> {
 struct Yielding;
 
 impl Gate for Yielding {
+    ghost use Rattle.std.specs.Prelude.{false};
+
+    ghost waits = { false };
+
+    fn waits_for_room(&self) -> bool {
+        false
+    }
+
     fn enter(&self, _port: u8, _index: usize) {
         for _turn in 0..100 {
             yield_now();

@@ -52,6 +52,14 @@ impl InTurn {
 }
 
 impl Gate for InTurn {
+    ghost use Rattle.std.specs.Prelude.{false};
+
+    ghost waits = { false };
+
+    fn waits_for_room(&self) -> bool {
+        false
+    }
+
     fn enter(&self, port: u8, index: usize) {
         match (port, index) {
             (0, 0) => {
@@ -288,6 +296,14 @@ impl Noting {
 }
 
 impl Gate for Noting {
+    ghost use Rattle.std.specs.Prelude.{false};
+
+    ghost waits = { false };
+
+    fn waits_for_room(&self) -> bool {
+        false
+    }
+
     fn enter(&self, _port: u8, _index: usize) {
         self.note();
     }

@@ -106,6 +106,14 @@ impl Pace {
 }
 
 impl Gate for Pace {
+    ghost use Rattle.std.specs.Prelude.{false};
+
+    ghost waits = { false };
+
+    fn waits_for_room(&self) -> bool {
+        false
+    }
+
     fn enter(&self, port: u8, index: usize) {
         if index.saturating_add(1) >= self.shown.size {
             self.wait_for(&self.replaced, self.replacements);

@@ -14,7 +14,9 @@ ghost use Rattle.std.specs.Prelude.{
   ◌==◌,
   ◌&&◌,
   not,
+  IfOk,
   MatchResult,
+  true,
   OnErr,
   OnOk,
   Err,
@@ -26,11 +28,11 @@ ghost use Rattle.gw_claims.specs.Holders.{HoldsAfter};
 ghost use Rattle.gw_ledger.specs.Ports.{ports_below, IsPartOf, IsPortSet};
 ghost use Rattle.gw_ledger.specs.Ledgers.{ledger_with};
 ghost use Rattle.gw_ports.specs.Ends.{IsCounted, end_in};
-ghost use Rattle.gw_ports.specs.Offers.{Offered};
+ghost use Rattle.gw_ports.specs.Offers.{IsPlaced, Offered};
 ghost use Rattle.gw_ports.specs.declared.refusals.OfferRefusal.TheVariants.{FramesSpent, NoReading};
 
 use super::PortIn;
-use crate::enqueue::enqueue;
+use crate::enqueue::{FullLane, Lost, enqueue};
 use crate::refusals::OfferRefusal;
 use gw_board::{NoReading, Watch};
 use gw_frame::Frame;
@@ -49,6 +51,24 @@ impl PortIn {
         ensures unchanged { OnErr result (self.new ≡ self.old) }
         ensures spent { (result ≡ Err FramesSpent) ↔ (self.old.ledger.taken ≡ self.old.frames) }
     {
+        self.offer_by(frame, &Lost)
+    }
+
+    // The same, where a copy that finds its lane full may wait for room.
+    pub(crate) fn offer_by<F: FullLane>(
+        &mut self,
+        frame: Frame,
+        full: &F,
+    ) -> Result<Outcome, OfferRefusal>
+        ensures offered { (heard : List (List ℕ)) → HoldsAfter self.old.claims heard
+            → MatchResult result (λ outcome. Offered heard self.old frame outcome self.new) (λ _. self.new ≡ self.old) }
+        ensures end { end_in self.new ≡ end_in self.old }
+        ensures board { self.new.board ≡ self.old.board }
+        ensures inside { OnOk result (self.old.ledger.taken < self.old.frames) }
+        ensures unchanged { OnErr result (self.new ≡ self.old) }
+        ensures spent { (result ≡ Err FramesSpent) ↔ (self.old.ledger.taken ≡ self.old.frames) }
+        ensures all { F.waits ≡ true → IfOk result IsPlaced }
+    {
         if self.ledger.taken >= u64::from(self.frames) {
             return Err(OfferRefusal::FramesSpent);
         }
@@ -63,7 +83,7 @@ impl PortIn {
             number,
             frame,
         };
-        let placed = enqueue(&mut self.lanes, allowed, copy);
+        let placed = enqueue(&mut self.lanes, allowed, copy, full);
         let outcome = Outcome {
             number,
             front: self.watch.len() as u32,

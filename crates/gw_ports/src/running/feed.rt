@@ -1,9 +1,28 @@
 //! The ingress threads: one a port offers its frames, while the calling thread publishes.
 
-ghost use Rattle.std.specs.Prelude.{◌≡◌, vec_capacity, IfSome};
+ghost use Rattle.std.specs.Prelude.{
+  ◌≡◌,
+  ◌<◌,
+  ◌↔◌,
+  ℕ,
+  List,
+  vec_capacity,
+  IfOk,
+  IfSome,
+  IsTrue,
+  MatchResult,
+  OnErr,
+  OnOk,
+  Err,
+};
+ghost use Rattle.gw_claims.specs.Holders.{HoldsAfter};
+ghost use Rattle.gw_ports.specs.Ends.{end_in};
+ghost use Rattle.gw_ports.specs.Offers.{IsPlaced, Offered};
 ghost use Rattle.gw_ports.specs.Running.{CanFeed, CanOffer, IsDone, Pairwise, Publishes};
+ghost use Rattle.gw_ports.specs.declared.refusals.OfferRefusal.TheVariants.{FramesSpent};
 
 use super::publishing::{Published, Publishing};
+use crate::enqueue::Awaited;
 use crate::{Gate, OfferRefusal, PortIn};
 use gw_frame::Frame;
 use gw_ledger::Outcome;
@@ -18,6 +37,8 @@ pub(super) struct Feed<I> {
     pub port: PortIn,
     pub input: I,
     pub outcomes: Vec<Outcome>,
+    /// Whether a copy that finds its lane full waits for room, and is not lost.
+    pub waits: bool,
 }
 
 /// What the ingress threads of a run begin with, and the thread that publishes.
@@ -48,7 +69,11 @@ impl<I: Iterator<Item = Frame>> Promise<Done> for FeedPromise<I> {
 }
 
 // Offers the frames of a port, until one is refused.
-fn offer_frames<I: Iterator<Item = Frame>, G: Gate>(feed: Feed<I>, gate: &G) -> Done
+fn offer_frames<R: Wait, I: Iterator<Item = Frame>, G: Gate>(
+    rt: &R,
+    feed: Feed<I>,
+    gate: &G,
+) -> Done
     requires { CanOffer I.can_next I.remaining feed }
     ensures { IsDone I.next_gives feed result }
 {
@@ -56,12 +81,13 @@ fn offer_frames<I: Iterator<Item = Frame>, G: Gate>(feed: Feed<I>, gate: &G) -> 
         mut port,
         input,
         mut outcomes,
+        waits,
     } = feed;
     let number = port.number();
     for frame in input {
         let index = outcomes.len();
         gate.enter(number, index);
-        let offered = port.offer(frame);
+        let offered = offer_one(rt, &mut port, frame, waits);
         gate.leave(number, index);
         match offered {
             Ok(outcome) => outcomes.push_reserved(outcome),
@@ -81,15 +107,37 @@ fn offer_frames<I: Iterator<Item = Frame>, G: Gate>(feed: Feed<I>, gate: &G) -> 
     }
 }
 
+// Offers a frame at a port. Where it waits, no copy of it is lost.
+fn offer_one<R: Wait>(
+    rt: &R,
+    port: &mut PortIn,
+    frame: Frame,
+    waits: bool,
+) -> Result<Outcome, OfferRefusal>
+    ensures offered { (heard : List (List ℕ)) → HoldsAfter port.old.claims heard
+        → MatchResult result (λ outcome. Offered heard port.old frame outcome port.new) (λ _. port.new ≡ port.old) }
+    ensures end { end_in port.new ≡ end_in port.old }
+    ensures inside { OnOk result (port.old.ledger.taken < port.old.frames) }
+    ensures unchanged { OnErr result (port.new ≡ port.old) }
+    ensures spent { (result ≡ Err FramesSpent) ↔ (port.old.ledger.taken ≡ port.old.frames) }
+    ensures all { IsTrue waits → IfOk result IsPlaced }
+{
+    if waits {
+        port.offer_by(frame, &Awaited(rt))
+    } else {
+        port.offer(frame)
+    }
+}
+
 // Starts a thread for each of the ports, from the last one down, publishes, and joins them. None where no thread could be made.
 fn feed_all<'s, E, R, G, I>(
     threads: &'s Scope<'s, E>,
-    rt: &R,
+    rt: &'s R,
     gate: &'s G,
     mut intake: Intake<I>,
 ) -> Option<(Vec<Done>, Published)>
 where
-    R: Threads + Wait,
+    R: Threads + Wait + Sync,
     G: Gate,
     I: Iterator<Item = Frame> + Send + 's,
     requires ready { CanFeed I.can_next I.remaining intake }
@@ -106,7 +154,7 @@ where
                 promise,
                 move || -> Done
                     requires { CanOffer I.can_next I.remaining feed }
-                { offer_frames(feed, gate) },
+                { offer_frames(rt, feed, gate) },
             ) else {
                 return None;
             };
@@ -126,7 +174,7 @@ pub(super) fn start_feeds<R, G, I>(
     intake: Intake<I>,
 ) -> Option<(Vec<Done>, Published)>
 where
-    R: Threads + Wait,
+    R: Threads + Wait + Sync,
     G: Gate,
     I: Iterator<Item = Frame> + Send,
     requires ready { CanFeed I.can_next I.remaining intake }

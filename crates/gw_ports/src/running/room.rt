@@ -31,6 +31,7 @@ pub(super) fn prepare<I: Iterator>(
     inputs: Vec<I>,
     sizes: &[usize],
     batches: usize,
+    waits: bool,
 ) -> Result<Prepared<I>, AllocError>
     requires count { (vec_len inputs ≡ vec_len ins) × (length sizes.now ≡ vec_len ins) × (vec_len outs ≡ vec_len ins) }
     requires few { vec_len ins ≤ 16 }
@@ -39,6 +40,7 @@ pub(super) fn prepare<I: Iterator>(
     ensures empty { IfOk result (λ p. All (λ o. o.outcomes.items ≡ []) p.feeds.items) }
     ensures room { IfOk result (λ p. (k : ℕ) (d : Feed I) → k < length p.feeds.items
         → vec_capacity (slice_index_or p.feeds.items k d).outcomes ≡ min (slice_index sizes.now k) limits.frames) }
+    ensures waits { IfOk result (λ p. All (λ o. o.waits ≡ waits) p.feeds.items) }
     ensures outs { IfOk result (λ p. map (λ t. t.port) p.drains.items ≡ outs.items) }
     ensures drains { IfOk result (λ p. All (λ t. t.out.items ≡ []) p.drains.items) }
     ensures copies { IfOk result (λ p. (k : ℕ) (d : Drain) → k < length p.drains.items
@@ -57,7 +59,7 @@ pub(super) fn prepare<I: Iterator>(
     Ok(Prepared {
         drains: drains(alloc, limits, outs, sizes)?,
         drained: Vec::with_capacity(alloc, ports)?,
-        feeds: feeds(alloc, limits, ins, inputs, sizes)?,
+        feeds: feeds(alloc, limits, ins, inputs, sizes, waits)?,
         done: Vec::with_capacity(alloc, ports)?,
         ingress: IngressPorts::with_room(alloc, ports)?,
         egress: EgressPorts::with_room(alloc, ports)?,
@@ -72,6 +74,7 @@ fn feeds<I: Iterator>(
     ins: Vec<PortIn>,
     inputs: Vec<I>,
     sizes: &[usize],
+    waits: bool,
 ) -> Result<Vec<Feed<I>>, AllocError>
     requires count { (vec_len inputs ≡ vec_len ins) × (length sizes.now ≡ vec_len ins) }
     ensures ports { IfOk result (λ made. map (λ o. o.port) made.items ≡ ins.items) }
@@ -79,6 +82,7 @@ fn feeds<I: Iterator>(
     ensures empty { IfOk result (λ made. All (λ o. o.outcomes.items ≡ []) made.items) }
     ensures room { IfOk result (λ made. (k : ℕ) (d : Feed I) → k < length made.items
         → vec_capacity (slice_index_or made.items k d).outcomes ≡ min (slice_index sizes.now k) limits.frames) }
+    ensures waits { IfOk result (λ made. All (λ o. o.waits ≡ waits) made.items) }
 {
     let mut feeds = Vec::with_capacity(alloc, ins.len())?;
     let mut inputs = inputs.into_iter();
@@ -92,6 +96,7 @@ fn feeds<I: Iterator>(
             port,
             input,
             outcomes,
+            waits,
         })?;
     }
     Ok(feeds)

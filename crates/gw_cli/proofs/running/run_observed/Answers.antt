@@ -10,33 +10,47 @@ use Rattle.gw_cli.proofs.running.run_observed.Goals as goal
 pub returns-then-names_file : goal.returns-then-names_file
 returns-then-names_file g c =
     let run = c.args.run.now in
+    let waits = g.G.Gate.waits in
     inr (
       ap (list_any is_some) (sym c.as_slice-files.ensures.value) ∙ sym c.names_file.ensures ∙ c.if-names_file.true,
       refl,
       subst
-          (λ (files : List (Option (Bor (List ℕ)))). ForwardsFiles run.limits run.sources.items files run.shown
+          (λ b. ForwardsFiles run.limits run.sources.items run.inputs.items b run.shown
+          (g.W.Write.contents (inner_of c.args.output.now)) (g.W.Write.contents (inner_of c.forward_files.new.output))
+          (has_failed c.forward_files.new.output) c.forward_files.result)
+          c.requires.waits
+          (subst
+          (λ (files : List (Option (Bor (List ℕ)))). ForwardsFiles run.limits run.sources.items files waits run.shown
           (g.W.Write.contents (inner_of c.args.output.now)) (g.W.Write.contents (inner_of c.forward_files.new.output))
           (has_failed c.forward_files.new.output) c.forward_files.result)
           c.as_slice-files.ensures.value
           (subst
-          (λ (sources : List PolicySource). ForwardsFiles run.limits sources c.as_slice-files.result.now run.shown
+          (λ (sources : List PolicySource). ForwardsFiles run.limits sources c.as_slice-files.result.now waits run.shown
           (g.W.Write.contents (inner_of c.args.output.now)) (g.W.Write.contents (inner_of c.forward_files.new.output))
           (has_failed c.forward_files.new.output) c.forward_files.result)
-          c.as_slice-sources.ensures.value c.forward_files.ensures),
+          c.as_slice-sources.ensures.value c.forward_files.ensures)),
     )
 
 pub returns : goal.returns
 returns g c =
     let run = c.args.run.now in
+    let waits = g.G.Gate.waits in
     let taking = c.asked_taking-taking.result in
     inl (
       taking,
       ap (list_any is_some) (sym c.as_slice-files.ensures.value) ∙ sym c.names_file.ensures ∙ c.if-names_file.false,
       subst
-          (λ (sources : List PolicySource). ForwardsNamed taking run.limits sources run.shown
+          (λ b. ForwardsNamed taking run.limits run.sources.items b run.shown
           (g.I.Read.remaining (inner_of c.args.input.now)) (g.I.Read.remaining (inner_of c.forward_named.new.input))
           (has_failed c.forward_named.new.input) (unended_reads c.args.input.now c.forward_named.new.input)
           (g.W.Write.contents (inner_of c.args.output.now)) (g.W.Write.contents (inner_of c.forward_named.new.output))
           (has_failed c.forward_named.new.output) c.forward_named.result)
-          c.as_slice-sources.ensures.value c.forward_named.ensures,
+          c.requires.waits
+          (subst
+          (λ (sources : List PolicySource). ForwardsNamed taking run.limits sources waits run.shown
+          (g.I.Read.remaining (inner_of c.args.input.now)) (g.I.Read.remaining (inner_of c.forward_named.new.input))
+          (has_failed c.forward_named.new.input) (unended_reads c.args.input.now c.forward_named.new.input)
+          (g.W.Write.contents (inner_of c.args.output.now)) (g.W.Write.contents (inner_of c.forward_named.new.output))
+          (has_failed c.forward_named.new.output) c.forward_named.result)
+          c.as_slice-sources.ensures.value c.forward_named.ensures),
     )

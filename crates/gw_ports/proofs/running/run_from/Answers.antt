@@ -9,6 +9,7 @@ use Rattle.gw_ports.specs.Running.{HasTaken, IsDone}
 use Rattle.gw_ports.specs.declared.running.feed.Done.{Done}
 use Rattle.gw_ports.specs.declared.running.feed.Feed.{Feed}
 use Rattle.gw_ports.specs.declared.running.drain.Drain.{Drain}
+use Rattle.gw_ports.proofs.Placed.{none_lost}
 use Rattle.gw_ports.proofs.Opening.{ends_after_offers, ends_after_takes, input_at, ready_ports, same_gateway}
 use Rattle.gw_ports.proofs.Reports.{reported}
 use Rattle.gw_ports.proofs.Room.{has_room}
@@ -186,3 +187,10 @@ returns-in-Ok-close_ends-clause-reported g c =
       out = c.gather-egress.result.out;
       report = c.in-Ok-close_ends.report;
     }) (returns-in-Ok-close_ends-clause-ran g c)
+
+-- Where the ports wait, no copy is lost.
+pub returns-in-Ok-close_ends-clause-none_lost : goal.returns-in-Ok-close_ends-clause-none_lost
+returns-in-Ok-close_ends-clause-none_lost g c = λ waits.
+    none_lost g.I.Iterator.next_gives c.in-Ok-prepare.prepared.feeds.items c.in-Some.done.items
+    c.gather-ingress.result.outcomes.items c.waits_for_room-waits.result c.in-Some.ensures.done c.in-Ok-prepare.ensures.waits
+    c.gather-ingress.ensures.outcomes (c.waits_for_room-waits.ensures ∙ waits)

@@ -8,7 +8,7 @@ pub returns-in-Ok-clause-forwarded : goal.returns-in-Ok-clause-forwarded
 returns-in-Ok-clause-forwarded g c =
     IfOk-weaker c.run_input.result _ _
     (λ text run. under_policies c.args.taking.now c.args.limits c.args.sources.now
-    (map (λ text. text.items) c.args.texts.now) c.args.shown
+    (map (λ text. text.items) c.args.texts.now) g.G.Gate.waits c.args.shown
     (g.I.Read.remaining (inner_of c.args.input.now)) (g.I.Read.remaining (inner_of c.run_input.new.input))
     (has_failed c.run_input.new.input) c.in-Ok.first text.items c.in-Ok.ensures.first run)
     c.run_input.ensures.ran

@@ -6,7 +6,7 @@ use Rattle.gw_run.proofs.forwarding.run_input.Goals as goal
 pub returns-in-Ok-clause-ran : goal.returns-in-Ok-clause-ran
 returns-in-Ok-clause-ran g c =
     IfOk-weaker c.run_octets.result _ _
-    (λ text run. of_trace c.args.taking.now c.args.limits c.args.first c.args.shown
+    (λ text run. of_trace c.args.taking.now c.args.limits c.args.first g.G.Gate.waits c.args.shown
     (g.I.Read.remaining (inner_of c.args.input.now))
     (g.I.Read.remaining (inner_of c.read_trace.new.reader)) (has_failed c.read_trace.new.reader) c.in-Ok.octets.items
     c.as_slice.result.now text.items c.in-Ok.ensures.input c.as_slice.ensures.value run)

@@ -7,7 +7,7 @@ returns-in-Ok-clause-ran g c =
     (λ text lines. record {
       report = c.in-Ok.report;
       ran = c.in-Ok.ensures.ran.0;
-      unstopped = c.in-Ok.ensures.ran.1;
+      whole = c.in-Ok.ensures.ran.1;
       lines = lines;
     })
     c.report_octets.ensures.lines

@@ -11,7 +11,7 @@ returns-in-Ok-run_lists-clause-ran g c =
       offered = frames_of_all c.args.inputs.now c.in-Ok.lists.items c.in-Ok.ensures.frames;
       report = c.in-Ok-run_lists.report;
       ran = c.in-Ok-run_lists.ensures.ran.0;
-      unstopped = c.in-Ok-run_lists.ensures.ran.1;
+      whole = c.in-Ok-run_lists.ensures.ran.1;
       lines = lines;
     })
     c.report_octets.ensures.lines

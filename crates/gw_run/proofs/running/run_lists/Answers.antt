@@ -9,9 +9,9 @@ returns-in-Ok-clause-ran g c =
     let inputs = map (λ list. list.items) c.args.lists.items in
     let ran = c.in-Ok.ensures.ran in
     IfOk-weaker c.unstopped.result _ _
-    (λ whole is. whole_run (IsListRun c.args.limits c.args.first inputs) c.in-Ok.report whole
+    (λ whole is. whole_run (IsListRun c.args.limits c.args.first inputs) g.G.Gate.waits c.in-Ok.report whole
     (run_on_lists c.args.limits c.args.first inputs ran.0 c.new.result.items c.in-Ok.report ran.1 c.new.ensures.items ran.2)
-    is)
+    c.in-Ok.ensures.none_lost is)
     c.unstopped.ensures.whole
 
 pub returns-in-Ok-clause-refused : goal.returns-in-Ok-clause-refused

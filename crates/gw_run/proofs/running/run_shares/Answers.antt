@@ -6,10 +6,10 @@ use Rattle.gw_run.proofs.running.run_shares.Goals as goal
 pub returns-in-Ok-ran-clause-ran : goal.returns-in-Ok-ran-clause-ran
 returns-in-Ok-ran-clause-ran g c =
     IfOk-weaker c.unstopped.result _ _
-    (λ whole is. whole_run (IsRunOn c.args.limits c.args.first c.args.trace.now) c.in-Ok-ran.report whole
+    (λ whole is. whole_run (IsRunOn c.args.limits c.args.first c.args.trace.now) g.G.Gate.waits c.in-Ok-ran.report whole
     (run_on_shares c.args.limits c.args.first c.args.trace.now c.in-Ok.inputs.items _ c.new.result.items c.in-Ok-ran.report
     c.in-Ok.ensures.shares.0 c.ports.ensures.ports c.new.ensures.items c.in-Ok-ran.ensures.ran)
-    is)
+    c.in-Ok-ran.ensures.none_lost is)
     c.unstopped.ensures.whole
 
 pub returns-in-Ok-ran-clause-refused : goal.returns-in-Ok-ran-clause-refused

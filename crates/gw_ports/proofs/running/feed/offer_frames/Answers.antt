@@ -2,9 +2,9 @@ use Rattle.std.proofs.Common.{◌≡◌, ◌∙◌, ℕ, ◌++◌, ◌∷◌, []
 use Rattle.gw_claims.specs.Holders.{HoldsAfter}
 use Rattle.gw_ledger.specs.declared.outcome.Outcome.{Outcome}
 use Rattle.gw_ports.specs.Ends.{Ingress}
-use Rattle.gw_ports.specs.Offers.{Offered}
+use Rattle.gw_ports.specs.Offers.{IsPlaced, Offered}
 use Rattle.gw_ports.specs.Running.{Offers}
-use Rattle.gw_ports.proofs.Runs.{heard_after, heard_more, offers_more, yields_more}
+use Rattle.gw_ports.proofs.Runs.{all_push, heard_after, heard_more, offers_more, yields_more}
 use Rattle.gw_ports.proofs.running.feed.offer_frames.Goals as goal
 
 -- One frame more was offered, where the one before left the port.
@@ -12,7 +12,7 @@ pub loop-frame-preserved : goal.loop-frame-preserved
 loop-frame-preserved g c =
     let at = c.loop-frame in
     let start = c.args.feed.port in
-    let new = c.offer-offered.new.self in
+    let new = c.offer_one-offered.new.port in
     let frame = c.in-Some.frame in
     let frames = at.yielded in
     let inv = at.invariant in
@@ -33,6 +33,8 @@ loop-frame-preserved g c =
       (let t = inv.7 in omega arith),
       c.push_reserved.ensures.capacity ∙ inv.8,
       (let t = inv.9 in let less = goes.2 in omega arith),
+      λ waits. all_push IsPlaced at.outcomes.items c.push_reserved.new.self.items c.in-Ok.outcome c.push_reserved.ensures.items
+          (inv.10 waits) (c.in-Ok.ensures.all waits),
     )
 
 -- The refused frame left the port as it was.
@@ -55,4 +57,5 @@ returns-in-Err g c =
       room = (let fits = at.outcomes.ok.1 in let size = at.outcomes.ok.0 in let same = inv.8 in omega arith);
       spent = λ is. subst (λ (p : Ingress). p.ledger.taken ≡ p.frames) (sym same)
           (c.in-Err.ensures.spent.0 (ap (λ w. Err w) (cc is)));
+      all = inv.10;
     }

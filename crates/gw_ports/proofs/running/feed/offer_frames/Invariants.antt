@@ -1,6 +1,7 @@
-use Rattle.std.proofs.Common.{◌≡◌, ◌+◌, ◌≤◌, [], length, vec_capacity, vec_len}
+use Rattle.std.proofs.Common.{◌≡◌, ◌+◌, ◌≤◌, [], length, All, IsTrue, vec_capacity, vec_len}
 use Rattle.gw_claims.specs.Holders.{HoldsAfter}
 use Rattle.gw_ports.specs.Ends.{end_in}
+use Rattle.gw_ports.specs.Offers.{IsPlaced}
 use Rattle.gw_ports.specs.Running.{Offers}
 use Rattle.gw_ports.proofs.Runs.{heard_after}
 use Rattle.gw_ports.proofs.running.feed.offer_frames.Given as goal
@@ -18,3 +19,4 @@ invariant-loop-frame g l =
     × (vec_capacity l.outcomes ≡ vec_capacity l.initial.outcomes)
     × (length l.yielded + (goal.iterator-loop-frame g).remaining l.frame-iterator
     ≤ (goal.iterator-loop-frame g).remaining l.initial.frame-iterator)
+    × (IsTrue l.waits → All IsPlaced l.outcomes.items)

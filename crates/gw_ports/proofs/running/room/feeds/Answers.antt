@@ -1,5 +1,5 @@
 use Rattle.std.proofs.Common.{◌≡◌, ◌∙◌, ◌++◌, [], append-nil, arith, ap, length, length-append, map, min}
-use Rattle.std.proofs.Common.{slice_index, sym, vec_capacity}
+use Rattle.std.proofs.Common.{slice_index, sym, vec_capacity, refl}
 use Rattle.std.specs.Vec.Iter.{into_iter_items}
 use Rattle.std.proofs.lemmas.List.{length-map, nil_from_length}
 use Rattle.gw_ports.specs.declared.running.feed.Feed.{Feed}
@@ -10,7 +10,12 @@ pub loop-port-preserved : goal.loop-port-preserved
 loop-port-preserved g c =
     let at = c.loop-port in
     let O = Feed g.row.I.Denot in
-    let new : O = record { port = c.in-Some.port; input = c.in-Some-next.input; outcomes = c.in_ok-outcomes.outcomes } in
+    let new : O = record {
+      port = c.in-Some.port;
+      input = c.in-Some-next.input;
+      outcomes = c.in_ok-outcomes.outcomes;
+      waits = c.args.waits;
+    } in
     let old = at.feeds.items in
     let now = c.push.new.self.items in
     let items = c.in_ok-push.ensures.items in
@@ -24,6 +29,7 @@ loop-port-preserved g c =
           at.invariant.3
           (let exact = c.in_ok-outcomes.ensures.exact ∙ c.most_taken.ensures.value in
           let size = ap (λ n. min (slice_index c.args.sizes.now n) c.args.limits.frames) (here ∙ count) in omega arith),
+      all_push (λ (o : O). o.waits ≡ c.args.waits) old now new items at.invariant.4 refl,
     )
 
 pub returns-clause-ports : goal.returns-clause-ports

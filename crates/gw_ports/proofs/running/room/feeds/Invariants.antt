@@ -11,3 +11,4 @@ invariant-loop-port g l =
     × All (λ o. o.outcomes.items ≡ []) l.feeds.items
     × ((k : ℕ) (d : Feed g.row.I.Denot) → k < length l.feeds.items
     → vec_capacity (slice_index_or l.feeds.items k d).outcomes ≡ min (slice_index l.sizes k) l.limits.frames)
+    × All (λ o. o.waits ≡ l.fn.waits) l.feeds.items

@@ -15,11 +15,11 @@ use Rattle.gw_ports.proofs.Judging.{allowed_elsewhere}
 use Rattle.gw_ports.proofs.Placing.{keeps_lanes, placed_inside}
 use Rattle.gw_ports.proofs.OneGateway.{rings_stay, same_end}
 use Rattle.gw_ports.proofs.Summing.{copies_placed}
-use Rattle.gw_ports.proofs.port_in.PortIn.offer.Goals as goal
+use Rattle.gw_ports.proofs.port_in.PortIn.offer_by.Goals as goal
 
 -- A port to which the frame is allowed is another port of the gateway, so it has a lane.
 pub enqueue-placed-requires-clause-there : goal.enqueue-placed-requires-clause-there
-enqueue-placed-requires-clause-there c = λ port has.
+enqueue-placed-requires-clause-there g c = λ port has.
     let inside = c.self.inside in
     let ports = c.len-ports.result in
     let local = c.is_local-local.result in
@@ -35,7 +35,7 @@ enqueue-placed-requires-clause-there c = λ port has.
 
 -- Placing keeps the lanes, and each copy placed is counted.
 pub invariant_of-self-2 : goal.invariant_of-self-2
-invariant_of-self-2 c =
+invariant_of-self-2 g c =
     let inside = c.self.inside in
     let old = inside.lanes.items in
     let new = c.enqueue-placed.new.lanes in
@@ -43,7 +43,7 @@ invariant_of-self-2 c =
     let copy : FrameCopy = record { from = inside.port; number = inside.ledger.taken; frame = c.args.frame } in
     let done =
     subst (λ (l : List (Option Inlet)). PlacesCopies c.in-Ok.allowed copy placed l new) c.deref_mut.ensures.value
-    c.enqueue-placed.ensures in
+    c.enqueue-placed.ensures.placed in
     let items : take inside.lanes.len (new ++ drop (length new) old) ≡ new =
     with_items_is inside.lanes new (done.size ∙ sym inside.lanes.ok.0) in
     let few : length old ≤ 16 = c.self.invariant.0.most in
@@ -68,7 +68,7 @@ invariant_of-self-2 c =
     )
 
 pub returns-clause-offered : goal.returns-clause-offered
-returns-clause-offered c = λ heard.
+returns-clause-offered g c = λ heard.
     let inside = c.self.inside in
     let old = inside.lanes.items in
     let new = c.enqueue-placed.new.lanes in
@@ -80,7 +80,7 @@ returns-clause-offered c = λ heard.
     let copy : FrameCopy = record { from = inside.port; number = inside.ledger.taken; frame = frame } in
     let done =
     subst (λ (l : List (Option Inlet)). PlacesCopies allowed copy placed l new) c.deref_mut.ensures.value
-    c.enqueue-placed.ensures in
+    c.enqueue-placed.ensures.placed in
     let items : take inside.lanes.len (new ++ drop (length new) old) ≡ new =
     with_items_is inside.lanes new (done.size ∙ sym inside.lanes.ok.0) in
     let size : c.len-ports.result ≡ length old = let e = c.len-ports.ensures in let ok = inside.lanes.ok.0 in omega arith in
@@ -114,14 +114,14 @@ returns-clause-offered c = λ heard.
 
 -- Placing leaves each lane its ring.
 pub returns-clause-end : goal.returns-clause-end
-returns-clause-end c =
+returns-clause-end g c =
     let inside = c.self.inside in
     let old = inside.lanes.items in
     let new = c.enqueue-placed.new.lanes in
     let copy : FrameCopy = record { from = inside.port; number = inside.ledger.taken; frame = c.args.frame } in
     let done =
     subst (λ (l : List (Option Inlet)). PlacesCopies c.in-Ok.allowed copy c.enqueue-placed.result l new)
-    c.deref_mut.ensures.value c.enqueue-placed.ensures in
+    c.deref_mut.ensures.value c.enqueue-placed.ensures.placed in
     let items : take inside.lanes.len (new ++ drop (length new) old) ≡ new =
     with_items_is inside.lanes new (done.size ∙ sym inside.lanes.ok.0) in
     let rings = ap (λ (l : List (Option Inlet)). map ring_to l) items ∙ rings_stay _ _ _ old new done in
