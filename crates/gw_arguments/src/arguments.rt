@@ -18,6 +18,10 @@ pub enum Request<'a> {
     Query(Query<'a>),
     /// An answer to what a file of this name holds.
     Named(Query<'a>, &'a str),
+    /// Who holds which address at each interface of a log.
+    ClaimsLog,
+    /// The same of the log in a file of this name.
+    ClaimsLogNamed(&'a str),
     /// `replay`.
     Replay,
 }
@@ -211,10 +215,15 @@ fn with_plain<'a>(alloc: Global, program: Building<'a>) -> Building<'a> {
     let claims = reading(
         alloc,
         "claims",
-        "Tells who holds which address after the records heard, one in hexadecimal digits a line",
-        "gw claims [FILE]",
+        "Tells who holds which address after the records heard, one in hexadecimal digits a line, or after the frames of a log",
+        "gw claims [--log] [FILE]",
         "Example: gw claims <<< 98EEFF80080000000500000000000000",
-    );
+    )
+    .arg(flag(
+        alloc,
+        "log",
+        "Reads a log of candump, and tells the holders at each interface behind its name",
+    ));
     let replay = described(
         alloc,
         "replay",
@@ -264,6 +273,7 @@ fn asked<'a>(alloc: Global, name: &str, found: &ArgMatches<'a>) -> Result<Reques
         "run" => Err(wrong(alloc, "`run` must be the first word")),
         "judge" => Err(wrong(alloc, "`judge` must be the first word")),
         "diff" => Err(wrong(alloc, "`diff` must be the first word")),
+        "claims" if found.get_flag("log") => Ok(claims_log(found)),
         "ask" => {
             let question = asked_question(alloc, found)?;
             Ok(on_input(Query::Ask(question), found))
@@ -277,6 +287,14 @@ fn on_input<'a>(query: Query<'a>, found: &ArgMatches<'a>) -> Request<'a> {
     match found.get_str(FILE) {
         None | Some("-") => Request::Query(query),
         Some(file) => Request::Named(query, file),
+    }
+}
+
+/// The log that the arguments name, or the standard input.
+fn claims_log<'a>(found: &ArgMatches<'a>) -> Request<'a> {
+    match found.get_str(FILE) {
+        None | Some("-") => Request::ClaimsLog,
+        Some(file) => Request::ClaimsLogNamed(file),
     }
 }
 

@@ -12,6 +12,7 @@ use Rattle.gw_run.specs.declared.taking.Taking.{Taking}
 use Rattle.gw_commands.specs.Differences.{ComparesNamed}
 use Rattle.gw_commands.specs.PortDifferences.{ComparesNamedPorts}
 use Rattle.gw_commands.specs.Judgings.{JudgesNamed}
+use Rattle.gw_commands.specs.LogClaims.{TellsHolders, TellsHoldersNamed}
 use Rattle.gw_commands.specs.LogDifferences.{DiffsNamed}
 use Rattle.gw_commands.specs.Replays.{Replays}
 use Rattle.gw_commands.specs.Queries.{AnswersNamed, AnswersQuery, RefusesQuery, tells_blocked}
@@ -42,14 +43,16 @@ abbrev pub OnlyAnswersWords : Option (List ℕ) → Option (List ℕ) → Option
 OnlyAnswersWords before after old new write_failed told_old told_new tell_failed status =
     (after ≡ before) × ((kind : ErrorKind) × AnswersWords kind old new write_failed told_old told_new tell_failed status)
 
--- a query was answered from the reader, or from a file and the reader gave nothing; or a script was replayed, or the arguments
--- were answered and nothing was read
+-- a query was answered from the reader, or from a file and the reader gave nothing; or the holders of a log were told, from the
+-- reader or from a file; or a script was replayed, or the arguments were answered and nothing was read
 abbrev pub DoesWords : Option (List ℕ) → Option (List ℕ) → Bool → ℕ → Option (List ℕ) → Option (List ℕ) → Bool
     → Option (List ℕ) → Option (List ℕ) → Bool → ℕ → Type 0
 DoesWords before after failed reads old new write_failed told_old told_new tell_failed status =
     ((query : Query)
     × Does (AnswersQuery query) (RefusesQuery query) (tells_blocked query) before after failed old new write_failed status)
     ⊎ ((query : Query) × (after ≡ before) × AnswersNamed query old new write_failed status)
+    ⊎ TellsHolders before after failed old new write_failed status
+    ⊎ ((after ≡ before) × TellsHoldersNamed old new write_failed status)
     ⊎ Replays before after failed reads old new write_failed status
     ⊎ OnlyAnswersWords before after old new write_failed told_old told_new tell_failed status
 

@@ -10,7 +10,9 @@ ghost use Rattle.gw_cli.specs.Asked.{AnswersWords, DoesWords};
 use clap::Error;
 use clap::error::ErrorKind;
 use gw_arguments::{Request, read_arguments};
-use gw_commands::{Query, Refusal, answer_named, answer_query, replay, respond};
+use gw_commands::{
+    Query, Refusal, answer_named, answer_query, claims_log, claims_log_named, replay, respond,
+};
 use gw_io::{Tried, WriteFault, write_all};
 use std::alloc::Global;
 use std::convert::AsStr;
@@ -53,6 +55,8 @@ pub fn command<R: Files, S: AsStr, I: Read, W: Write, F: Write>(
     match read_arguments(alloc, words) {
         Ok(Request::Query(query)) => answer_query(alloc, query, input, output, faults),
         Ok(Request::Named(query, file)) => answer_named(rt, alloc, query, file, output, faults),
+        Ok(Request::ClaimsLog) => claims_log(alloc, input, output, faults),
+        Ok(Request::ClaimsLogNamed(file)) => claims_log_named(rt, alloc, file, output, faults),
         Ok(Request::Replay) => replay(alloc, input, output, faults),
         Err(error) => answer_words(alloc, &error, output, faults),
     }

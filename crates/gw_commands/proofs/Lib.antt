@@ -3,6 +3,7 @@ pub mod ClaimLines
 pub mod DifferenceStatus
 pub mod EndedEarly
 pub mod JsonTexts
+pub mod LogClaims
 pub mod LogEnds
 pub mod LogTexts
 pub mod PathsTold

@@ -9,6 +9,7 @@ pub mod PortDifferences
 pub mod Frames
 pub mod JsonCounts
 pub mod Judgings
+pub mod LogClaims
 pub mod LogCounts
 pub mod LogDifferences
 pub mod Policies

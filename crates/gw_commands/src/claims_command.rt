@@ -114,7 +114,7 @@ fn holders(alloc: Global, claims: &Claims) -> Result<String, AllocError>
 }
 
 /// The line of an address and the NAME that holds it.
-fn push_holder(text: &mut String, address: u8, name: Name) -> Result<(), AllocError>
+pub(crate) fn push_holder(text: &mut String, address: u8, name: Name) -> Result<(), AllocError>
     ensures { OnOk result (string_bytes text.new ≡ string_bytes text.old ++ holder_line address name) }
 {
     let value = name.value();

@@ -38,7 +38,7 @@ held_more text held said more now written put before =
     append_assoc text more now ∙ ap (λ (xs : List ℕ). text ++ xs) (sym put) ∙ sym (append_assoc text held said)
     ∙ ap (λ (xs : List ℕ). xs ++ said) before
 
-tallied_more : (fate : List ℕ → Fate) (lines : List (List ℕ)) (line : List ℕ) (t u : Tally) → IsTally (map fate lines) t
+pub tallied_more : (fate : List ℕ → Fate) (lines : List (List ℕ)) (line : List ℕ) (t u : Tally) → IsTally (map fate lines) t
     → u ≡ tally_with (fate line) t → IsTally (map fate (lines ++ line ∷ [])) u
 tallied_more fate lines line t u told one =
     subst (IsTally (map fate (lines ++ line ∷ []))) (sym one)

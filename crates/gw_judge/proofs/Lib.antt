@@ -12,5 +12,6 @@ pub mod JudgedLines
 pub mod PartByPart
 pub mod Streams
 pub mod EgressStreams
+pub mod Hearing
 pub mod Captured
 mod JudgeExamples

@@ -15,7 +15,7 @@ use Rattle.gw_judge.specs.Fates.{is_refused, fate_of}
 use Rattle.gw_judge.specs.Tallies.{IsTally}
 use Rattle.gw_judge.specs.Counting.{no_tally, tally_with}
 use Rattle.gw_judge.specs.Judged.{log_lines, last_line, line_text, written_of}
-use Rattle.gw_judge.specs.LineParts.{IsLinePart, ends_line}
+use Rattle.gw_judge.specs.LineParts.{IsEndless, IsLinePart, ends_line}
 use Rattle.gw_judge.specs.UnderWay.{Puts, Judges, AreJudged, HasJudged, Begins, Reaches, Closes}
 use Rattle.gw_judge.proofs.Gathering.{appended_nothing}
 use Rattle.gw_judge.proofs.Lines.{rest_alone, written_more, written_none}
@@ -180,12 +180,12 @@ stays_judged fate front strict octets text w p h =
 
 -- ---- the last line
 
-lines_at_end : (fate : List ℕ → Fate) (front : Fate → Option (List ℕ)) (strict : Bool) (octets : List ℕ) (p : Judging)
-    (text : List ℕ) → (h : HasJudged fate front strict octets p text) → log_lines octets ≡ h.lines ++ last_line h.rest
-lines_at_end fate front strict octets p text h =
-    ap log_lines (sym (append-nil octets)) ∙ h.split []
-    ∙ ap (λ (rest : List ℕ). h.lines ++ log_lines rest) (append-nil h.rest)
-    ∙ ap (λ (last : List (List ℕ)). h.lines ++ last) (rest_alone h.rest h.endless)
+pub lines_at_end : (octets rest : List ℕ) (lines : List (List ℕ))
+    → ((later : List ℕ) → log_lines (octets ++ later) ≡ lines ++ log_lines (rest ++ later)) → IsEndless rest
+    → log_lines octets ≡ lines ++ last_line rest
+lines_at_end octets rest lines split endless =
+    ap log_lines (sym (append-nil octets)) ∙ split [] ∙ ap (λ (r : List ℕ). lines ++ log_lines r) (append-nil rest)
+    ∙ ap (λ (last : List (List ℕ)). lines ++ last) (rest_alone rest endless)
 
 pub no_rest : (rest : List ℕ) → length (take 65537 rest) ≡ 0 → last_line rest ≡ []
 no_rest [] none = refl
@@ -207,7 +207,7 @@ pub closes_without : (fate : List ℕ → Fate) (front : Fate → Option (List �
 closes_without fate front strict octets text w p h empty =
     let held : List ℕ = p.gathered.held.items in
     let lines : log_lines octets ≡ h.lines =
-    lines_at_end fate front strict octets p text h
+    lines_at_end octets h.rest h.lines h.split h.endless
     ∙ ap (λ (last : List (List ℕ)). h.lines ++ last) (no_rest h.rest (sym (ap length h.kept) ∙ empty)) ∙ append-nil h.lines in (
       [],
       appended_nothing w,
@@ -225,7 +225,7 @@ pub closes_with : {A : Type 0} (r : Result A JudgeFault) (by : List ℕ → Fate
     → Closes (fate_of by) front strict octets text w x failed r q
 closes_with (Ok done) by front strict octets text w x failed p q h some one judged =
     let lines : log_lines octets ≡ h.lines ++ h.rest ∷ [] =
-    lines_at_end (fate_of by) front strict octets p text h ∙ ap (λ (last : List (List ℕ)). h.lines ++ last)
+    lines_at_end octets h.rest h.lines h.split h.endless ∙ ap (λ (last : List (List ℕ)). h.lines ++ last)
     (some_rest h.rest (subst (λ (k : List ℕ). 0 < length k) h.kept some)) in
     let reached = line_judged done (fate_of by) front strict h.lines h.rest p.tally q.tally text p.gathered.held.items
     q.gathered.held.items w x failed h.judged (tally_whole by p.kept.items h.rest p.tally q.tally h.kept one)
@@ -238,7 +238,7 @@ closes_with (Ok done) by front strict octets text w x failed p q h some one judg
     )
 closes_with {A} (Err fault) by front strict octets text w x failed p q h some one judged =
     let lines : log_lines octets ≡ h.lines ++ h.rest ∷ [] =
-    lines_at_end (fate_of by) front strict octets p text h ∙ ap (λ (last : List (List ℕ)). h.lines ++ last)
+    lines_at_end octets h.rest h.lines h.split h.endless ∙ ap (λ (last : List (List ℕ)). h.lines ++ last)
     (some_rest h.rest (subst (λ (k : List ℕ). 0 < length k) h.kept some)) in
     line_fails A fault (fate_of by) front strict h.lines h.rest p.tally q.tally text p.gathered.held.items
     q.gathered.held.items w x failed octets [] lines h.judged

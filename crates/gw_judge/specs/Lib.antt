@@ -9,9 +9,12 @@ pub mod Egress
 -- the first octets of an input, and what judging a trace reads and counts
 pub mod FirstOctets
 pub mod Captures
+-- what is heard of a log
+pub mod Heard
 -- the inside: a tally with a line more, parts of lines, and how far a log was judged
 pub mod Counting
 pub mod LineParts
 pub mod UnderWay
 pub mod EgressUnderWay
 pub mod CapturesUnderWay
+pub mod HearingUnderWay

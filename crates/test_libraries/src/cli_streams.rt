@@ -6,13 +6,18 @@ use crate::streams::{Source, WHOLE};
 /// The words of a command, with an input and the output that it gives.
 type WholeRun = (&'static [&'static str], &'static str, &'static str);
 
-const WHOLE_RUNS: [WholeRun; 8] = [
+const WHOLE_RUNS: [WholeRun; 9] = [
     (&[], FIRST_RUN, "pass 1\n"),
     (&["check"], "3,5 0 0 1,96 0 0 3,6 0 0 1,", "accepted 3\n"),
     (
         &["claims"],
         "98EEFF80080000000500000000000000\n",
         "128 0000000000000005\n",
+    ),
+    (
+        &["claims", "--log"],
+        "can0 18EEFF80#0500000000000000\n",
+        "can0 128 0000000000000005\n",
     ),
     (&["table", "--frame", R], "default = \"pass\"\n", "pass\n"),
     (&["verdict", R], "1,6 0 0 7,", "pass 7\n"),
