@@ -22,8 +22,8 @@ pub enum Request<'a> {
     ClaimsLog,
     /// The same of the log in a file of this name.
     ClaimsLogNamed(&'a str),
-    /// `replay`.
-    Replay,
+    /// `replay`, and whether the status is to tell that a line was refused.
+    Replay { strict: bool },
 }
 
 /// The version that `--version` tells.
@@ -228,15 +228,20 @@ fn with_plain<'a>(alloc: Global, program: Building<'a>) -> Building<'a> {
         alloc,
         "replay",
         "Runs a script of a gateway's events, and writes the answer of each line",
-        "gw replay < SCRIPT",
+        "gw replay [--strict] < SCRIPT",
         "Example: gw replay < examples/replay/full-lane.script",
     );
+    let replay = Building::of(replay).arg(flag(
+        alloc,
+        "strict",
+        "Ends with status 1 where a line was refused; without it with 0, as where none was",
+    ));
     program
         .subcommand(check.done())
         .subcommand(asm.done())
         .subcommand(list.done())
         .subcommand(claims.done())
-        .subcommand(Ok(replay))
+        .subcommand(replay.done())
 }
 
 /// The commands, as `clap` reads them and shows their help.
@@ -269,7 +274,9 @@ pub fn read_arguments<'a, S: AsStr>(alloc: Global, words: &'a [S]) -> Result<Req
 /// What the arguments behind the name of a command ask for.
 fn asked<'a>(alloc: Global, name: &str, found: &ArgMatches<'a>) -> Result<Request<'a>, Error> {
     match name {
-        "replay" => Ok(Request::Replay),
+        "replay" => Ok(Request::Replay {
+            strict: found.get_flag("strict"),
+        }),
         "run" => Err(wrong(alloc, "`run` must be the first word")),
         "judge" => Err(wrong(alloc, "`judge` must be the first word")),
         "diff" => Err(wrong(alloc, "`diff` must be the first word")),

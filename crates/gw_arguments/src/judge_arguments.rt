@@ -108,7 +108,7 @@ fn with_taking<'a>(alloc: Global, command: Building<'a>) -> Building<'a> {
     command.arg(ingress_port(alloc)).arg(flag(
         alloc,
         "strict",
-        "Ends with the first line that says no classic frame; without it such lines are counted",
+        "Ends with the first line that says no classic frame, or record of a capture that is none; without it they are counted",
     ))
 }
 

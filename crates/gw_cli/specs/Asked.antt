@@ -53,7 +53,7 @@ DoesWords before after failed reads old new write_failed told_old told_new tell_
     ⊎ ((query : Query) × (after ≡ before) × AnswersNamed query old new write_failed status)
     ⊎ TellsHolders before after failed old new write_failed status
     ⊎ ((after ≡ before) × TellsHoldersNamed old new write_failed status)
-    ⊎ Replays before after failed reads old new write_failed status
+    ⊎ ((strict : Bool) × Replays strict before after failed reads old new write_failed status)
     ⊎ OnlyAnswersWords before after old new write_failed told_old told_new tell_failed status
 
 -- what is asked of `run` is done by a gateway of these limits, under the policies of each port's source: where no file is named

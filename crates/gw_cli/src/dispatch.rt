@@ -57,7 +57,7 @@ pub fn command<R: Files, S: AsStr, I: Read, W: Write, F: Write>(
         Ok(Request::Named(query, file)) => answer_named(rt, alloc, query, file, output, faults),
         Ok(Request::ClaimsLog) => claims_log(alloc, input, output, faults),
         Ok(Request::ClaimsLogNamed(file)) => claims_log_named(rt, alloc, file, output, faults),
-        Ok(Request::Replay) => replay(alloc, input, output, faults),
+        Ok(Request::Replay { strict }) => replay(alloc, strict, input, output, faults),
         Err(error) => answer_words(alloc, &error, output, faults),
     }
 }

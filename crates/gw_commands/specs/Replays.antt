@@ -1,6 +1,6 @@
 -- What the command `replay` reads and writes: `before` and `after` are what its reader has left, `old` and `new` what its writer
 -- took.
-use Rattle.std.specs.Prelude.{◌≡◌, ◌⊎◌, ℕ, Bool, false, List, [], Option}
+use Rattle.std.specs.Prelude.{◌≡◌, ◌⊎◌, ℕ, Bool, false, ◌&&◌, if◌then◌else◌, List, [], Option}
 use Rattle.std.specs.Io.KnownBytes.{Appends}
 use Rattle.gw_replay.specs.declared.whole.ReplayFault.{ReplayFault}
 use Rattle.gw_replay.specs.Written.{IsReplayed, IsPartlyReplayed, IsHalted, IsReplayFault, fault_number}
@@ -23,9 +23,14 @@ pub record EndsEarly (before after : Option (List ℕ)) (read_failed : Bool) (re
   pub line : WritesPart middle new (fault_line fault)
   pub whole : write_failed ≡ false → Appends middle new (fault_line fault)
 
--- all of the script's answers and status 0, where no read and no write failed; or what was answered before it ended early and
--- status 1
-abbrev pub Replays : Option (List ℕ) → Option (List ℕ) → Bool → ℕ → Option (List ℕ) → Option (List ℕ) → Bool → ℕ → Type 0
-Replays before after read_failed reads old new write_failed status =
-    ((status ≡ 0) × (read_failed ≡ false) × (write_failed ≡ false) × IsReplayed before after old new)
+-- the status of a script that was replayed to its end: strictly it tells whether one of its lines was refused
+abbrev pub replayed_status : Bool → Bool → ℕ
+replayed_status strict refused = if strict && refused then 1 else 0
+
+-- all of the script's answers and the status that tells of its lines, where no read and no write failed; or what was answered
+-- before it ended early and status 1
+abbrev pub Replays : Bool → Option (List ℕ) → Option (List ℕ) → Bool → ℕ → Option (List ℕ) → Option (List ℕ) → Bool → ℕ → Type 0
+Replays strict before after read_failed reads old new write_failed status =
+    ((refused : Bool) × (status ≡ replayed_status strict refused) × (read_failed ≡ false) × (write_failed ≡ false)
+    × IsReplayed before after old new refused)
     ⊎ ((status ≡ 1) × EndsEarly before after read_failed reads old new write_failed)

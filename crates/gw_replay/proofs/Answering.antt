@@ -1,6 +1,7 @@
 -- What a line is answered, with or without a gateway.
 use Rattle.std.proofs.Common.{◌≡◌, ◌≢◌, ℕ, List, Option, Some, None, Result, Ok, Err, refl, ap, sym, ◌∙◌, subst, codes, inl, inr}
-use Rattle.std.proofs.Common.{◌⊎◌}
+use Rattle.std.proofs.Common.{◌⊎◌, false}
+use Rattle.std.specs.Prelude.{is_err}
 use Rattle.gw_replay.specs.declared.fault.Fault.{Fault}
 use Rattle.gw_replay.specs.declared.fault.Fault.TheVariants.{LongLine, NoAscii, NoCommand, NoLimits, SecondLimits, BadLimits}
 use Rattle.gw_replay.specs.declared.fault.Fault.TheVariants.{Record}
@@ -37,7 +38,7 @@ pub obeyed_first : (s : Option SessionState) (session : Option Session) (new : S
     → IsObeyed s request (Ok line) (Some new)
 obeyed_first None session new request line is stands b text = record {
   session = Some b.session;
-  obeys = ap (λ known. record { text = known; session = Some b.session }) text ∙ sym b.told;
+  obeys = ap (λ known. record { text = known; session = Some b.session; refused = false }) text ∙ sym b.told;
   stands = b.stands;
 }
 obeyed_first (Some t) session new request line is stands b text = absurd (subst (λ r. StandsIn r (Some t)) is stands)
@@ -45,10 +46,12 @@ obeyed_first (Some t) session new request line is stands b text = absurd (subst 
 -- the line of a command
 pub answered_by : (s : Option SessionState) (line : List ℕ) (request : Request) (said : Result (List ℕ) Fault)
     (new : Option Session) → meaning_of line ≡ asks request → IsObeyed s request said new
-    → IsAnswered s line (line_of said) new
+    → IsAnswered s line (line_of said) (is_err said) new
 answered_by s line request said new means h = record {
   session = h.session;
-  answers = subst (λ meaning. Answers s meaning (record { text = line_of said; session = h.session })) (sym means) h.obeys;
+  answers =
+      subst (λ meaning. Answers s meaning (record { text = line_of said; session = h.session; refused = is_err said }))
+      (sym means) h.obeys;
   stands = h.stands;
 }
 

@@ -1,6 +1,6 @@
 -- A script has one text of answers, of which the answers of its first lines are the beginning.
 use Rattle.std.proofs.Common.{ℕ, ◌≡◌, List, [], ◌∷◌, ◌++◌, reverse, codes, Option, Some, None, Result, Ok, Err, refl, subst, sym}
-use Rattle.std.proofs.Common.{ap, ◌∙◌, append_assoc}
+use Rattle.std.proofs.Common.{ap, ◌∙◌, append_assoc, Bool, ◌||◌}
 use Rattle.std.proofs.lemmas.List.{append-nil, reverse-append}
 use Rattle.gw_policy.specs.Filter.{Filter}
 use Rattle.gw_replay.specs.declared.fault.Fault.{Fault}
@@ -70,7 +70,11 @@ answers_alone law s (asks request) a b h k = obeyed s h k
 
 -- what stands after one line more
 abbrev after_one : Told → Told → Told
-after_one earlier one = record { text = earlier.text ++ one.text; session = one.session }
+after_one earlier one = record {
+  text = earlier.text ++ one.text;
+  session = one.session;
+  refused = earlier.refused || one.refused;
+}
 
 -- and so have all lines up to it
 lines_alone : OneRefusal → (lines : List (List ℕ)) (a b : Told) → AreAnswers lines a → AreAnswers lines b → a ≡ b
@@ -82,11 +86,13 @@ lines_alone law (line ∷ before) a b h k =
     let one : h.1 ≡ k.1 = answers_alone law k.0.session (meaning_of line) h.1 k.1 moved k.3 in
     h.4 ∙ ap (λ (t : Told). after_one t h.1) earlier ∙ ap (after_one k.0) one ∙ sym k.4
 
--- a script has one text of answers
-pub one_text : OneRefusal → (script text other : List ℕ) → IsAnswer script text → IsAnswer script other → text ≡ other
-one_text law script text other a b =
-    ap (λ (t : Told). t.text) (lines_alone law (reverse (lines_of script)) (record { text = text; session = a.session })
-    (record { text = other; session = b.session }) a.answers b.answers)
+-- a script has one text of answers, and a line of it is refused or none is
+pub one_text : OneRefusal → (script text other : List ℕ) (f g : Bool) → IsAnswer script text f → IsAnswer script other g
+    → (text ≡ other) × (f ≡ g)
+one_text law script text other f g a b =
+    let same = lines_alone law (reverse (lines_of script)) (record { text = text; session = a.session; refused = f })
+    (record { text = other; session = b.session; refused = g }) a.answers b.answers in
+    (ap (λ (t : Told). t.text) same, ap (λ (t : Told). t.refused) same)
 
 -- the answers of more lines begin with those of the lines before them
 lines_behind : (later lines : List (List ℕ)) (a : Told) → AreAnswers (later ++ lines) a
@@ -106,14 +112,14 @@ lines_behind (line ∷ later) lines a h =
     )
 
 -- what is answered to a script's first lines is the beginning of what is answered to it
-pub begins_text : OneRefusal → (script text whole : List ℕ) → BeginsAnswer script text → IsAnswer script whole
-    → (rest : List ℕ) × (whole ≡ text ++ rest)
-begins_text law script text whole b a =
+pub begins_text : OneRefusal → (script text whole : List ℕ) (refused : Bool) → BeginsAnswer script text
+    → IsAnswer script whole refused → (rest : List ℕ) × (whole ≡ text ++ rest)
+begins_text law script text whole refused b a =
     let turned : reverse (lines_of script) ≡ reverse b.later ++ reverse b.first =
     ap (λ (ls : List (List ℕ)). reverse ls) b.lines ∙ reverse-append b.first b.later in
-    let told : Told = record { text = whole; session = a.session } in
+    let told : Told = record { text = whole; session = a.session; refused = refused } in
     let found = lines_behind (reverse b.later) (reverse b.first) told
     (subst (λ (ls : List (List ℕ)). AreAnswers ls told) turned a.answers) in
     let same = ap (λ (t : Told). t.text) (lines_alone law (reverse b.first) found.0
-    (record { text = text; session = b.session }) found.1 b.answers) in
+    (record { text = text; session = b.session; refused = b.refused }) found.1 b.answers) in
     (found.2.0, found.2.1 ∙ ap (λ (t : List ℕ). t ++ found.2.0) same)

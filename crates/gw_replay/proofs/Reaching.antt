@@ -1,5 +1,6 @@
 -- How far a script was answered, with one more line or octet.
 use Rattle.std.proofs.Common.{◌≡◌, ℕ, ◌+◌, ◌-◌, ◌<◌, Bool, true, false, List, [], ◌∷◌, ◌++◌, length, take, drop, Option, Some}
+use Rattle.std.proofs.Common.{◌||◌}
 use Rattle.std.proofs.Common.{None, Result, Ok, Err, refl, ap, sym, ◌∙◌, subst, append_assoc, append-nil, arith, map, reverse}
 use Rattle.std.proofs.Common.{true≢false}
 use Rattle.std.proofs.lemmas.Bool.{false≢true}
@@ -20,8 +21,8 @@ use Rattle.gw_replay.proofs.CutLines.{lines_behind, one_line, joined_more, whole
 use Rattle.gw_replay.proofs.KeptLines.{kept_means, kept_more}
 
 -- nothing was read
-pub reached_nothing : (p : ScriptReader) → p.kept.items ≡ [] → p.script.session ≡ None → HasReached [] p []
-reached_nothing p empty first = record {
+pub reached_nothing : (p : ScriptReader) → p.kept.items ≡ [] → p.script.session ≡ None → p.refused ≡ false → HasReached [] p []
+reached_nothing p empty first fine = record {
   lines = [];
   rest = [];
   cut = refl;
@@ -29,7 +30,7 @@ reached_nothing p empty first = record {
   endless = All-nil (λ c. is_line_feed c ≡ false);
   kept = empty;
   session = None;
-  answers = refl;
+  answers = ap (λ refused. record { text = []; session = None; refused = refused }) fine;
   stands = subst (λ state. StandsIn state None) (sym first) tt;
 }
 
@@ -41,6 +42,7 @@ begins octets more text p h = record {
   lines = ap (λ front. lines_of (front ++ more)) h.cut ∙ ap lines_of (append_assoc (joined h.lines) h.rest more)
       ∙ lines_behind h.lines (h.rest ++ more) h.whole;
   session = h.session;
+  refused = p.refused;
   answers = h.answers;
 }
 
@@ -52,13 +54,22 @@ ended_of octets text p h = record {
   lines = ap lines_of h.cut ∙ lines_behind h.lines h.rest h.whole ∙ ap (λ last. map without_return h.lines ++ last)
       (one_line h.rest h.endless);
   session = h.session;
+  refused = p.refused;
   answers = h.answers;
 }
 
+-- whether a line was refused, by another name
+still_answered : (lines : List (List ℕ)) (text : List ℕ) (s : Option SessionState) (before now : Bool) → now ≡ before
+    → AreAnswers (reverse (map without_return lines)) (record { text = text; session = s; refused = before })
+    → AreAnswers (reverse (map without_return lines)) (record { text = text; session = s; refused = now })
+still_answered lines text s before now same answers =
+    subst (λ refused. AreAnswers (reverse (map without_return lines)) (record { text = text; session = s; refused = refused }))
+    (sym same) answers
+
 -- the same state under other answers
 pub reached_same : (octets text : List ℕ) (p q : ScriptReader) → HasReached octets p text → q.script ≡ p.script
-    → q.kept.items ≡ p.kept.items → HasReached octets q text
-reached_same octets text p q h script kept = record {
+    → q.kept.items ≡ p.kept.items → q.refused ≡ p.refused → HasReached octets q text
+reached_same octets text p q h script kept refused = record {
   lines = h.lines;
   rest = h.rest;
   cut = h.cut;
@@ -66,15 +77,15 @@ reached_same octets text p q h script kept = record {
   endless = h.endless;
   kept = kept ∙ h.kept;
   session = h.session;
-  answers = h.answers;
+  answers = still_answered h.lines text h.session p.refused q.refused refused h.answers;
   stands = subst (λ s. StandsIn s.session h.session) (sym script) h.stands;
 }
 
 -- more octets without a line feed
 pub reached_part : (octets part text : List ℕ) (p q : ScriptReader) → HasReached octets p text → HasNoEnd part
     → q.kept.items ≡ p.kept.items ++ take (most_kept - length p.kept.items) part
-    → q.script ≡ p.script → HasReached (octets ++ part) q text
-reached_part octets part text p q h ended kept script = record {
+    → q.script ≡ p.script → q.refused ≡ p.refused → HasReached (octets ++ part) q text
+reached_part octets part text p q h ended kept script refused = record {
   lines = h.lines;
   rest = h.rest ++ part;
   cut = ap (λ front. front ++ part) h.cut ∙ append_assoc (joined h.lines) h.rest part;
@@ -82,7 +93,7 @@ reached_part octets part text p q h ended kept script = record {
   endless = All-append (λ c. is_line_feed c ≡ false) h.rest part h.endless ended;
   kept = kept ∙ ap (λ before. before ++ take (most_kept - length before) part) h.kept ∙ kept_more most_kept h.rest part;
   session = h.session;
-  answers = h.answers;
+  answers = still_answered h.lines text h.session p.refused q.refused refused h.answers;
   stands = subst (λ s. StandsIn s.session h.session) (sym script) h.stands;
 }
 
@@ -93,19 +104,24 @@ kept_answers s ended kept rest told is =
     subst (λ meaning. Answers s meaning told) (ap (λ line. meaning_of (ended_line ended line)) is ∙ kept_means ended rest)
 
 -- one answer more
-pub answers_more : (before : List (List ℕ)) (line text one : List ℕ) (s t : Option SessionState)
-    → AreAnswers before (record { text = text; session = s })
-    → Answers s (meaning_of line) (record { text = one; session = t })
-    → AreAnswers (line ∷ before) (record { text = text ++ one; session = t })
-answers_more before line text one s t earlier answer =
-    (record { text = text; session = s }, record { text = one; session = t }, earlier, answer, refl)
+pub answers_more : (before : List (List ℕ)) (line text one : List ℕ) (s t : Option SessionState) (f g now : Bool)
+    → AreAnswers before (record { text = text; session = s; refused = f })
+    → Answers s (meaning_of line) (record { text = one; session = t; refused = g }) → now ≡ (f || g)
+    → AreAnswers (line ∷ before) (record { text = text ++ one; session = t; refused = now })
+answers_more before line text one s t f g now earlier answer same = (
+  record { text = text; session = s; refused = f },
+  record { text = one; session = t; refused = g },
+  earlier,
+  answer,
+  ap (λ refused. record { text = text ++ one; session = t; refused = refused }) same,
+)
 
 -- a line feed ends the line that is kept
 pub reached_line : (octets before : List ℕ) (p mid q : ScriptReader) → (h : HasReached octets p (before ++ p.answers.items))
     → AnswersKept h.session (ended_line true p.kept.items) p mid → q.script ≡ mid.script → q.answers.items ≡ mid.answers.items
-    → q.kept.items ≡ []
+    → q.kept.items ≡ [] → q.refused ≡ mid.refused
     → HasReached (octets ++ 10 ∷ []) q (before ++ q.answers.items)
-reached_line octets before p mid q h a script answers empty = record {
+reached_line octets before p mid q h a script answers empty same = record {
   lines = h.lines ++ h.rest ∷ [];
   rest = [];
   cut = ap (λ front. front ++ 10 ∷ []) h.cut ∙ append_assoc (joined h.lines) h.rest (10 ∷ [])
@@ -116,26 +132,28 @@ reached_line octets before p mid q h a script answers empty = record {
   session = a.session;
   answers =
       let told = answers_more (reverse (map without_return h.lines)) (without_return h.rest) (before ++ p.answers.items) a.text
-      h.session a.session h.answers
-      (kept_answers h.session true p.kept.items h.rest (record { text = a.text; session = a.session }) h.kept a.answers) in
+      h.session a.session p.refused a.refused q.refused h.answers
+      (kept_answers h.session true p.kept.items h.rest (record { text = a.text; session = a.session; refused = a.refused }) h.kept
+      a.answers) (same ∙ a.told) in
       let all : (before ++ p.answers.items) ++ a.text ≡ before ++ q.answers.items =
       append_assoc before p.answers.items a.text ∙ ap (λ said. before ++ said) (sym (answers ∙ a.appended)) in
-      subst (λ lines. AreAnswers lines (record { text = before ++ q.answers.items; session = a.session }))
+      subst (λ lines. AreAnswers lines (record { text = before ++ q.answers.items; session = a.session; refused = q.refused }))
       (sym (newest_first h.lines h.rest))
       (subst (λ said. AreAnswers (without_return h.rest ∷ reverse (map without_return h.lines))
-      (record { text = said; session = a.session })) all told);
+      (record { text = said; session = a.session; refused = q.refused })) all told);
   stands = subst (λ s. StandsIn s.session a.session) (sym script) a.stands;
 }
 
 -- the script's end ends it
 pub whole_answer : (octets before : List ℕ) (p mid : ScriptReader) → (h : HasReached octets p (before ++ p.answers.items))
     → AnswersKept h.session (ended_line false p.kept.items) p mid
-    → IsAnswer octets (before ++ mid.answers.items)
+    → IsAnswer octets (before ++ mid.answers.items) mid.refused
 unfolding ended_of
 whole_answer octets before p mid h a =
     let told = answers_more (reverse (map without_return h.lines)) h.rest (before ++ p.answers.items) a.text
-    h.session a.session h.answers
-    (kept_answers h.session false p.kept.items h.rest (record { text = a.text; session = a.session }) h.kept a.answers) in
+    h.session a.session p.refused a.refused mid.refused h.answers
+    (kept_answers h.session false p.kept.items h.rest (record { text = a.text; session = a.session; refused = a.refused }) h.kept
+    a.answers) a.told in
     let all : (before ++ p.answers.items) ++ a.text ≡ before ++ mid.answers.items =
     append_assoc before p.answers.items a.text ∙ ap (λ said. before ++ said) (sym a.appended) in
     let lines : lines_of octets ≡ map without_return h.lines ++ h.rest ∷ [] =
@@ -143,30 +161,44 @@ whole_answer octets before p mid h a =
     record {
       session = a.session;
       answers =
-          subst (λ known. AreAnswers known (record { text = before ++ mid.answers.items; session = a.session }))
+          subst
+          (λ known. AreAnswers known (record { text = before ++ mid.answers.items; session = a.session; refused = mid.refused }))
           (sym (ap reverse lines ∙ last_first (map without_return h.lines) h.rest))
           (subst (λ said. AreAnswers (h.rest ∷ reverse (map without_return h.lines))
-          (record { text = said; session = a.session })) all told);
+          (record { text = said; session = a.session; refused = mid.refused })) all told);
     }
 
 -- a whole answer is one of all lines
-pub all_begin : (octets text : List ℕ) → IsAnswer octets text → BeginsAnswer octets text
-all_begin octets text h = record {
+pub all_begin : (octets text : List ℕ) (refused : Bool) → IsAnswer octets text refused → BeginsAnswer octets text
+all_begin octets text refused h = record {
   first = lines_of octets;
   later = [];
   lines = sym (append-nil (lines_of octets));
   session = h.session;
+  refused = refused;
   answers = h.answers;
 }
 
+-- whether a line was refused, with a line more
+pub not_refused : (before : Bool) → before ≡ (before || false)
+not_refused true = refl
+not_refused false = refl
+
+pub now_refused : (before : Bool) → true ≡ (before || true)
+now_refused true = refl
+now_refused false = refl
+
 -- a line was answered with a text, which stands behind the answers so far
-pub kept_said : (s : Option SessionState) (line known text : List ℕ) (old new : ScriptReader) → line ≡ known
-    → IsAnswered s line text new.script.session → new.answers.items ≡ old.answers.items ++ text → AnswersKept s known old new
-kept_said s line known text old new is h appended = record {
+pub kept_said : (s : Option SessionState) (line known text : List ℕ) (refused : Bool) (old new : ScriptReader) → line ≡ known
+    → IsAnswered s line text refused new.script.session → new.refused ≡ (old.refused || refused)
+    → new.answers.items ≡ old.answers.items ++ text → AnswersKept s known old new
+kept_said s line known text refused old new is h told appended = record {
   text = text;
   session = h.session;
-  answers = subst (λ l. Answers s (meaning_of l) (record { text = text; session = h.session })) is h.answers;
+  refused = refused;
+  answers = subst (λ l. Answers s (meaning_of l) (record { text = text; session = h.session; refused = refused })) is h.answers;
   stands = h.stands;
+  told = told;
   appended = appended;
 }
 
@@ -180,35 +212,36 @@ on_extended (Err e) old more new items follows = tt
 pub part_kept : (octets text before : List ℕ) (end : ℕ) (p mid : ScriptReader) → HasReached octets p (before ++ p.answers.items)
     → end ≡ position_or_len is_line_feed text
     → mid.kept.items ≡ p.kept.items ++ take (most_kept - length p.kept.items) (take end text) → mid.script ≡ p.script
-    → mid.answers ≡ p.answers
+    → mid.answers ≡ p.answers → mid.refused ≡ p.refused
     → HasReached (octets ++ take end text) mid (before ++ mid.answers.items)
-part_kept octets text before end p mid h at kept script answers =
+part_kept octets text before end p mid h at kept script answers refused =
     subst (λ vec. HasReached (octets ++ take end text) mid (before ++ vec.items)) (sym answers)
-    (reached_part octets (take end text) (before ++ p.answers.items) p mid h (before_end text end at) kept script)
+    (reached_part octets (take end text) (before ++ p.answers.items) p mid h (before_end text end at) kept script refused)
 
 -- a text without a line feed was kept
 pub text_kept : (octets text before : List ℕ) (end : ℕ) (p mid : ScriptReader) → HasReached octets p (before ++ p.answers.items)
     → end ≡ position_or_len is_line_feed text → end ≡ length text
     → mid.kept.items ≡ p.kept.items ++ take (most_kept - length p.kept.items) (take end text) → mid.script ≡ p.script
-    → mid.answers ≡ p.answers
+    → mid.answers ≡ p.answers → mid.refused ≡ p.refused
     → HasReached (octets ++ text) mid (before ++ mid.answers.items)
-text_kept octets text before end p mid h at all kept script answers =
+text_kept octets text before end p mid h at all kept script answers refused =
     subst (λ part. HasReached (octets ++ part) mid (before ++ mid.answers.items)) (take_all end text (omega arith))
-    (part_kept octets text before end p mid h at kept script answers)
+    (part_kept octets text before end p mid h at kept script answers refused)
 
 -- a text with a line feed was answered up to it
 pub line_passed : (octets text before behind : List ℕ) (end : ℕ) (p mid last next : ScriptReader)
     → HasReached octets p (before ++ p.answers.items)
     → end ≡ position_or_len is_line_feed text → end < length text → behind ≡ drop (end + 1) text
     → mid.kept.items ≡ p.kept.items ++ take (most_kept - length p.kept.items) (take end text) → mid.script ≡ p.script
-    → mid.answers ≡ p.answers
+    → mid.answers ≡ p.answers → mid.refused ≡ p.refused
     → ((s : Option SessionState) → StandsIn mid.script.session s → AnswersKept s (ended_line true mid.kept.items) mid last)
-    → next.script ≡ last.script → next.answers.items ≡ last.answers.items → next.kept.items ≡ []
+    → next.script ≡ last.script → next.answers.items ≡ last.answers.items → next.kept.items ≡ [] → next.refused ≡ last.refused
     → Passes octets text before behind next
-line_passed octets text before behind end p mid last next h at within follows kept script answers answered same said empty =
-    let part = part_kept octets text before end p mid h at kept script answers in
+line_passed octets text before behind end p mid last next h at within follows kept script answers fine answered same said empty
+    refused =
+    let part = part_kept octets text before end p mid h at kept script answers fine in
     let line = reached_line (octets ++ take end text) before mid last next part (answered part.session part.stands) same said
-    empty in
+    empty refused in
     record {
       head = take end text ++ 10 ∷ [];
       cut = cut_at text end at within ∙ ap (λ rest. (take end text ++ 10 ∷ []) ++ rest) (sym follows);
@@ -262,7 +295,7 @@ pub last_begins : {A E : Type 0} (r : Result A E) (octets text : List ℕ) (p mi
     → OnErr r (mid.answers.items ≡ p.answers.items)
     → BeginsAnswer octets (text ++ mid.answers.items)
 last_begins (Ok done) octets text p mid h answered same =
-    all_begin octets (text ++ mid.answers.items) (whole_answer octets text p mid h (answered h.session h.stands))
+    all_begin octets (text ++ mid.answers.items) mid.refused (whole_answer octets text p mid h (answered h.session h.stands))
 last_begins (Err e) octets text p mid h answered same =
     subst (λ known. BeginsAnswer known (text ++ mid.answers.items)) (append-nil octets)
     (line_refused octets [] text p mid h same)

@@ -1,5 +1,5 @@
 -- Each script has a text of answers.
-use Rattle.std.proofs.Common.{ℕ, ◌≡◌, ◌≢◌, List, [], ◌∷◌, reverse, map, Option, Some, None, Result, Ok, Err, refl, inl, inr}
+use Rattle.std.proofs.Common.{ℕ, Bool, ◌≡◌, ◌≢◌, List, [], ◌∷◌, reverse, map, Option, Some, None, Result, Ok, Err, refl, inl, inr}
 use Rattle.gw_insn.specs.declared.insn.Raw.{Raw}
 use Rattle.gw_insn.specs.declared.insn.Insn.{Insn}
 use Rattle.gw_insn.specs.Listing.{IsListing}
@@ -88,6 +88,7 @@ all_answered (line ∷ before) =
     (_, (earlier.0, one.0, earlier.1, one.1, refl))
 
 -- a script has a text of answers
-pub some_text : (script : List ℕ) → (text : List ℕ) × IsAnswer script text
+pub some_text : (script : List ℕ) → (text : List ℕ) × (refused : Bool) × IsAnswer script text refused
 some_text script =
-    let told = all_answered (reverse (lines_of script)) in (told.0.text, record { session = told.0.session; answers = told.1 })
+    let told = all_answered (reverse (lines_of script)) in
+    (told.0.text, told.0.refused, record { session = told.0.session; answers = told.1 })

@@ -48,8 +48,8 @@ pub goes_on : {A E : Type 0} {a b c w x y : Option (List ℕ)} {p next : ScriptR
     (more : Bool) (q : ScriptReader) → IsUnderWay a b w x p → IsNextPiece b c kept (Ok more) → more ≡ true → piece ≡ kept
     → ((octets text : List ℕ) → HasReached octets p (text ++ p.answers.items) → HasFed octets piece text r q)
     → is_err r ≡ false → Appends x y q.answers.items → next.script ≡ q.script → next.kept ≡ q.kept → next.answers.items ≡ []
-    → IsUnderWay a c w y next
-goes_on {a} {b} {c} {w} {x} {y} {next} r piece kept more q h read some same fed fine written script rest empty = record {
+    → next.refused ≡ q.refused → IsUnderWay a c w y next
+goes_on {a} {b} {c} {w} {x} {y} {next} r piece kept more q h read some same fed fine written script rest empty refused = record {
   octets = h.octets ++ piece;
   text = h.text ++ q.answers.items;
   consumed = consumed_more a b c h.octets piece h.consumed
@@ -58,7 +58,7 @@ goes_on {a} {b} {c} {w} {x} {y} {next} r piece kept more q h read some same fed 
   empty = empty;
   reached = reached_same (h.octets ++ piece) (h.text ++ q.answers.items) q next
       (fed_whole r h.octets piece h.text q fine (fed h.octets h.text (reached_on h)))
-      script (ap (λ vec. vec.items) rest);
+      script (ap (λ vec. vec.items) rest) refused;
 }
 
 -- the answers of the lines that were ended, and those of the piece behind them
@@ -138,6 +138,7 @@ part_of failed a c w x ReadFault h = record {
           later = h.answers.unfinished ∷ [];
           lines = h.answers.lines;
           session = h.answers.session;
+          refused = h.answers.refused;
           answers = h.answers.answers;
         })));
   };
@@ -147,9 +148,9 @@ part_of failed a c w x WriteFault h = h
 part_of failed a c w x OutOfMemory h = record { text = h.text; read = h.read; written = whole_part w x h.text h.written }
 
 -- what a fault answers
-pub halts : {A : Type 0} (failed : Bool) (a c w x : Option (List ℕ)) (reads : ℕ) (unwritten : Bool) (fault : ReplayFault)
+pub halts : (failed : Bool) (a c w x : Option (List ℕ)) (reads : ℕ) (unwritten : Bool) (fault : ReplayFault)
     → IsHalted failed a c w x fault → IsReplayFault failed reads unwritten fault → reads ≤ most_reads
-    → HasReplayed {A = A} a c w x failed reads unwritten (Err fault)
+    → HasReplayed a c w x failed reads unwritten (Err fault)
 halts failed a c w x reads unwritten fault h why few = record {
   replayed = tt;
   part = part_of failed a c w x fault h;
@@ -161,9 +162,9 @@ halts failed a c w x reads unwritten fault h why few = record {
 }
 
 -- the reader came to its end, and the last line was answered
-ends_whole : {a b c w x y : Option (List ℕ)} {p : ScriptReader} → (h : IsUnderWay a b w x p) → Keeps b c → IsAtEnd c
-    → (all : List ℕ) × IsAnswer h.octets (h.text ++ all) × Appends x y all → IsReplayed a c w y
-ends_whole {a} {b} {c} {w} {x} {y} h kept end said = record {
+ends_whole : {a b c w x y : Option (List ℕ)} {p : ScriptReader} (refused : Bool) → (h : IsUnderWay a b w x p) → Keeps b c
+    → IsAtEnd c → (all : List ℕ) × IsAnswer h.octets (h.text ++ all) refused × Appends x y all → IsReplayed a c w y refused
+ends_whole {a} {b} {c} {w} {x} {y} refused h kept end said = record {
   script = h.octets;
   consumed = consumed_kept a b c h.octets h.consumed kept;
   end = end;
@@ -183,16 +184,16 @@ ends_read {a} {b} {c} {p} h kept all begins = record {
 }
 
 -- what the end answers
-pub ends : {A : Type 0} {a b w x : Option (List ℕ)} {p : ScriptReader} (c y : Option (List ℕ)) (kept : List ℕ) (more : Bool)
-    (failed unwritten : Bool) (reads : ℕ) (r : Result A ReplayFault) → (h : IsUnderWay a b w x p)
+pub ends : {a b w x : Option (List ℕ)} {p : ScriptReader} (c y : Option (List ℕ)) (kept : List ℕ) (more : Bool)
+    (failed unwritten : Bool) (reads : ℕ) (r : Result Bool ReplayFault) → (h : IsUnderWay a b w x p)
     → IsNextPiece b c kept (Ok more) → more ≡ false
     → ((octets text : List ℕ) → HasReached octets p (text ++ p.answers.items) → EndsWith octets text x y r)
     → failed ≡ false → reads ≤ most_reads → OnOk r (unwritten ≡ false) → IfErr r (IsEndFault unwritten)
     → HasReplayed a c w y failed reads unwritten r
-ends {b} {w} {x} c y kept more failed unwritten reads (Ok done) h read none ended fine few whole fault =
+ends {b} {w} {x} c y kept more failed unwritten reads (Ok refused) h read none ended fine few whole fault =
     let end = met_end b c kept more none read in
     record {
-      replayed = ends_whole h end.0 end.1 (ended h.octets h.text (reached_on h));
+      replayed = ends_whole refused h end.0 end.1 (ended h.octets h.text (reached_on h));
       part = tt;
       halted = tt;
       fault = tt;

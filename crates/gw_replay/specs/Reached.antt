@@ -1,5 +1,5 @@
 -- How far a script was read and answered.
-use Rattle.std.specs.Prelude.{◌≡◌, ◌+◌, ℕ, Bool, true, false, List, [], ◌∷◌, ◌++◌, length, map, reverse, take, All}
+use Rattle.std.specs.Prelude.{◌≡◌, ◌+◌, ℕ, Bool, true, false, ◌||◌, List, [], ◌∷◌, ◌++◌, length, map, reverse, take, All}
 use Rattle.std.specs.Prelude.{Option, Some, None, Result, Ok, Err}
 use Rattle.std.specs.Borrow.{Bor}
 use Rattle.std.specs.List.{flat_map}
@@ -35,15 +35,17 @@ pub record HasReached (octets : List ℕ) (p : ScriptReader) (text : List ℕ) :
   pub endless : HasNoEnd rest
   pub kept : p.kept.items ≡ take most_kept rest
   pub session : Option SessionState
-  pub answers : AreAnswers (reverse (map without_return lines)) (record { text = text; session = session })
+  pub answers : AreAnswers (reverse (map without_return lines)) (record { text = text; session = session; refused = p.refused })
   pub stands : StandsIn p.script.session session
 
 -- one line was answered
 pub record AnswersKept (s : Option SessionState) (line : List ℕ) (old new : ScriptReader) : Type 0 where
   pub text : List ℕ
   pub session : Option SessionState
-  pub answers : Answers s (meaning_of line) (record { text = text; session = session })
+  pub refused : Bool
+  pub answers : Answers s (meaning_of line) (record { text = text; session = session; refused = refused })
   pub stands : StandsIn new.script.session session
+  pub told : new.refused ≡ (old.refused || refused)
   pub appended : new.answers.items ≡ old.answers.items ++ text
 
 -- a text up to the end of its first line was read, and this stands behind it
@@ -75,8 +77,8 @@ HasFed octets piece text (Ok done) new = HasReached (octets ++ piece) new (text 
 HasFed octets piece text (Err e) new = BeginsAnswer (octets ++ piece) (text ++ new.answers.items)
 
 -- the script's last answers were written
-abbrev pub EndsWith : {A : Type 0} → List ℕ → List ℕ → Option (List ℕ) → Option (List ℕ) → Result A ReplayFault → Type 0
-EndsWith octets text old new (Ok done) = (all : List ℕ) × IsAnswer octets (text ++ all) × Appends old new all
+abbrev pub EndsWith : List ℕ → List ℕ → Option (List ℕ) → Option (List ℕ) → Result Bool ReplayFault → Type 0
+EndsWith octets text old new (Ok refused) = (all : List ℕ) × IsAnswer octets (text ++ all) refused × Appends old new all
 EndsWith octets text old new (Err OutOfMemory) = (all : List ℕ) × BeginsAnswer octets (text ++ all) × Appends old new all
 EndsWith octets text old new (Err e) = (all : List ℕ) × BeginsAnswer octets (text ++ all) × WritesPart old new all
 

@@ -1,5 +1,6 @@
 -- The answers of a script: each line is judged after the lines before it.
-use Rattle.std.specs.Prelude.{◌≡◌, ◌≤◌, ℕ, ◌==◌, Bool, true, not, ◌&&◌, nat_le, nat_lt, if◌then◌else◌, List, [], ◌∷◌, ◌++◌}
+use Rattle.std.specs.Prelude.{◌≡◌, ◌≤◌, ℕ, ◌==◌, Bool, true, false, not, ◌&&◌, ◌||◌, is_err, nat_le, nat_lt, if◌then◌else◌}
+use Rattle.std.specs.Prelude.{List, [], ◌∷◌, ◌++◌}
 use Rattle.std.specs.Prelude.{length, reverse, codes, Option, Some, None, Result, Ok, Err}
 use Rattle.std.specs.List.{list_all}
 use Rattle.std.specs.Option.{option_map_or}
@@ -40,10 +41,12 @@ meaning_of line =
     else if not (is_ascii line) then wrong fault.NoAscii
     else option_map_or asks (request_of line) (wrong fault.NoCommand)
 
--- the answer of a line, and the gateway that stands afterwards, if limits were accepted
+-- the answer of a line, the gateway that stands afterwards, if limits were accepted, and whether the line is refused; of lines,
+-- whether one is
 pub record Told : Type 0 where
   pub text : List ℕ
   pub session : Option SessionState
+  pub refused : Bool
 
 -- from one number to another
 abbrev pub is_within : ℕ → ℕ → ℕ → Bool
@@ -61,12 +64,12 @@ new_session limits = record { limits = limits; batch = []; history = [] }
 
 -- a line while there is no gateway
 abbrev pub told_without : Result (List ℕ) Fault → Told
-told_without said = record { text = line_of said; session = None }
+told_without said = record { text = line_of said; session = None; refused = is_err said }
 
 -- limits make a gateway where they are within their ranges
 abbrev pub after_limits : Bounds → Told
 after_limits limits =
-    if limits_fit limits then record { text = codes "limits\n"; session = Some (new_session limits) }
+    if limits_fit limits then record { text = codes "limits\n"; session = Some (new_session limits); refused = false }
     else told_without (Err (fault.BadLimits))
 
 -- before limits were accepted no other command is
@@ -77,17 +80,17 @@ first_told _ = told_without (Err fault.NoLimits)
 
 -- what a script tells of a reply
 abbrev pub told_of : Reply → Told
-told_of reply = record { text = line_of reply.said; session = Some reply.session }
+told_of reply = record { text = line_of reply.said; session = Some reply.session; refused = is_err reply.said }
 
 -- of a policy's text: the policy joins the open batch, or the line says why there is none
 abbrev pub told_joining : SessionState → List ℕ → ℕ → Result Filter (List ℕ) → Told
 told_joining s line port (Ok filter) = told_of (after_joining s line port (Ok filter))
-told_joining s line port (Err text) = record { text = text; session = Some s }
+told_joining s line port (Err text) = record { text = text; session = Some s; refused = true }
 
 -- of a record's text: the frame is taken, or the line has the number of its refusal
 abbrev pub told_taking : SessionState → ℕ → Result (List ℕ) ℕ → Told
 told_taking s port (Ok octets) = told_of (after_event s (event.Take port octets))
-told_taking s port (Err number) = record { text = refused_line number []; session = Some s }
+told_taking s port (Err number) = record { text = refused_line number []; session = Some s; refused = true }
 
 -- the answer of a command once limits were accepted, and what stands afterwards
 abbrev pub Tells : SessionState → Request → Told → Type 0
@@ -109,21 +112,25 @@ Obeys (Some s) request told = Tells s request told
 
 -- the answer of a line by its meaning
 abbrev pub Answers : Option SessionState → Meaning → Told → Type 0
-Answers s silent told = told ≡ record { text = []; session = s }
-Answers s (wrong fault) told = told ≡ record { text = line_of (Err fault); session = s }
+Answers s silent told = told ≡ record { text = []; session = s; refused = false }
+Answers s (wrong fault) told = told ≡ record { text = line_of (Err fault); session = s; refused = true }
 Answers s (asks request) told = Obeys s request told
 
--- the answers of lines, of which the last stands first here, and the gateway that stands after them
+-- the answers of lines, of which the last stands first here, the gateway that stands after them, and whether one is refused
 abbrev pub AreAnswers : List (List ℕ) → Told → Type 0
-AreAnswers [] told = told ≡ record { text = []; session = None }
+AreAnswers [] told = told ≡ record { text = []; session = None; refused = false }
 AreAnswers (line ∷ before) told =
     (earlier : Told) × (one : Told) × AreAnswers before earlier × Answers earlier.session (meaning_of line) one
-    × (told ≡ record { text = earlier.text ++ one.text; session = one.session })
+    × (told ≡ record {
+      text = earlier.text ++ one.text;
+      session = one.session;
+      refused = earlier.refused || one.refused;
+    })
 
--- the answers of a script
-pub record IsAnswer (script text : List ℕ) : Type 0 where
+-- the answers of a script, and whether one of its lines is refused
+pub record IsAnswer (script text : List ℕ) (refused : Bool) : Type 0 where
   pub session : Option SessionState
-  pub answers : AreAnswers (reverse (lines_of script)) (record { text = text; session = session })
+  pub answers : AreAnswers (reverse (lines_of script)) (record { text = text; session = session; refused = refused })
 
 -- the answers of a script's first lines
 pub record BeginsAnswer (script text : List ℕ) : Type 0 where
@@ -131,7 +138,8 @@ pub record BeginsAnswer (script text : List ℕ) : Type 0 where
   pub later : List (List ℕ)
   pub lines : lines_of script ≡ first ++ later
   pub session : Option SessionState
-  pub answers : AreAnswers (reverse first) (record { text = text; session = session })
+  pub refused : Bool
+  pub answers : AreAnswers (reverse first) (record { text = text; session = session; refused = refused })
 
 -- the answers of the lines that a line feed ends in a script: what stands behind the last line feed has none
 pub record AnswersEnded (script text : List ℕ) : Type 0 where
@@ -139,7 +147,8 @@ pub record AnswersEnded (script text : List ℕ) : Type 0 where
   pub unfinished : List ℕ
   pub lines : lines_of script ≡ ended ++ unfinished ∷ []
   pub session : Option SessionState
-  pub answers : AreAnswers (reverse ended) (record { text = text; session = session })
+  pub refused : Bool
+  pub answers : AreAnswers (reverse ended) (record { text = text; session = session; refused = refused })
 
 -- the answers of a script's first lines: of all that a line feed ends before its last 65536 octets, and maybe of more
 pub record AnswersMost (script text : List ℕ) : Type 0 where

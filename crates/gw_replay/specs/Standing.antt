@@ -1,5 +1,5 @@
 -- What the code holds after lines.
-use Rattle.std.specs.Prelude.{◌≡◌, ℕ, false, List, codes}
+use Rattle.std.specs.Prelude.{◌≡◌, ℕ, Bool, false, List, codes, is_err}
 use Rattle.std.specs.Prelude.{Option, Some, None, Result, Ok, Err}
 use Rattle.gw_ledger.specs.Bounds.{Bounds}
 use Rattle.gw_core.specs.Start.{unheard}
@@ -50,7 +50,7 @@ StandsIn _ _ = ⊥
 -- a first command made a gateway
 pub record Begins (request : Request) (r : Session) : Type 0 where
   pub session : SessionState
-  pub told : first_told request ≡ record { text = line_of (Ok (codes "limits\n")); session = Some session }
+  pub told : first_told request ≡ record { text = line_of (Ok (codes "limits\n")); session = Some session; refused = false }
   pub stands : HasState r session
 
 -- it made none
@@ -62,11 +62,11 @@ IsFirstFault request why = first_told request ≡ told_without (Err why)
 pub record IsObeyed (s : Option SessionState) (request : Request) (said : Result (List ℕ) Fault) (new : Option Session)
     : Type 0 where
   pub session : Option SessionState
-  pub obeys : Obeys s request (record { text = line_of said; session = session })
+  pub obeys : Obeys s request (record { text = line_of said; session = session; refused = is_err said })
   pub stands : StandsIn new session
 
--- a line was answered with a text
-pub record IsAnswered (s : Option SessionState) (line text : List ℕ) (new : Option Session) : Type 0 where
+-- a line was answered with a text, and maybe refused
+pub record IsAnswered (s : Option SessionState) (line text : List ℕ) (refused : Bool) (new : Option Session) : Type 0 where
   pub session : Option SessionState
-  pub answers : Answers s (meaning_of line) (record { text = text; session = session })
+  pub answers : Answers s (meaning_of line) (record { text = text; session = session; refused = refused })
   pub stands : StandsIn new session

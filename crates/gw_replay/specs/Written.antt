@@ -1,5 +1,5 @@
 -- What replaying reads and writes: `before` and `after` are what its reader has left, `old` and `new` what its writer took.
-use Rattle.std.specs.Prelude.{◌≡◌, ◌≤◌, ◌⊎◌, ℕ, Bool, true, false, List, Option, Result, OnOk, OnErr, IfErr}
+use Rattle.std.specs.Prelude.{◌≡◌, ◌≤◌, ◌⊎◌, ℕ, Bool, true, false, List, Option, Result, OnOk, OnErr, IfOk, IfErr}
 use Rattle.std.specs.Io.KnownBytes.{Appends, IsAtEnd, Consumes}
 use Rattle.gw_io.specs.Pieces.{most_reads, GivesAtLeast}
 use Rattle.gw_io.specs.Written.{WritesPart}
@@ -7,13 +7,13 @@ use Rattle.gw_replay.specs.declared.whole.ReplayFault.{ReplayFault}
 use Rattle.gw_replay.specs.declared.whole.ReplayFault.TheVariants.{ReadFault, WriteFault, OutOfMemory}
 use Rattle.gw_replay.specs.Scripts.{IsAnswer, AnswersEnded, AnswersMost}
 
--- the reader gave a whole script and has no more, and the script's answers were written
-pub record IsReplayed (before after old new : Option (List ℕ)) : Type 0 where
+-- the reader gave a whole script and has no more, and the script's answers were written; one of its lines was refused, or none
+pub record IsReplayed (before after old new : Option (List ℕ)) (refused : Bool) : Type 0 where
   pub script : List ℕ
   pub consumed : Consumes before after script
   pub end : IsAtEnd after
   pub text : List ℕ
-  pub answers : IsAnswer script text
+  pub answers : IsAnswer script text refused
   pub written : Appends old new text
 
 -- the reader gave a part of a script, and these are the answers of its first lines, but for some that end in what was read last
@@ -57,9 +57,9 @@ IsReplayFault read_failed reads write_failed WriteFault = write_failed ≡ true
 IsReplayFault read_failed reads write_failed OutOfMemory = Unit {0}
 
 -- what replaying answers, of a reader that was read so often and a writer
-pub record HasReplayed {A : Type 0} (before after old new : Option (List ℕ)) (read_failed : Bool) (reads : ℕ)
-    (write_failed : Bool) (result : Result A ReplayFault) : Type 0 where
-  pub replayed : OnOk result (IsReplayed before after old new)
+pub record HasReplayed (before after old new : Option (List ℕ)) (read_failed : Bool) (reads : ℕ)
+    (write_failed : Bool) (result : Result Bool ReplayFault) : Type 0 where
+  pub replayed : IfOk result (IsReplayed before after old new)
   pub part : OnErr result (IsPartlyReplayed before after old new)
   pub halted : IfErr result (IsHalted read_failed before after old new)
   pub fault : IfErr result (IsReplayFault read_failed reads write_failed)

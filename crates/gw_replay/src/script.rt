@@ -65,7 +65,7 @@ impl Script {
     ghost use Rattle.std.specs.Prelude.{Option, None};
     ghost use Rattle.gw_replay.specs.Faults.{UnlessMemory};
     ghost use Rattle.gw_replay.specs.Replies.{SessionState};
-    ghost use Rattle.gw_replay.specs.Said.{said_text};
+    ghost use Rattle.gw_replay.specs.Said.{said_text, is_refusal};
     ghost use Rattle.gw_replay.specs.Standing.{StandsIn, IsObeyed, IsAnswered};
 
     /// Starts before the first line.
@@ -78,7 +78,7 @@ impl Script {
     /// Answers a line. It fails only where the memory that the line needs was refused.
     pub fn answer(&mut self, alloc: Global, line: &[u8]) -> Result<Said, AllocError>
         ensures { (s : Option SessionState) → StandsIn self.old.session s
-            → IfOk result (λ said. IsAnswered s line.now (said_text said) self.new.session) }
+            → IfOk result (λ said. IsAnswered s line.now (said_text said) (is_refusal said) self.new.session) }
     {
         let asked = match meaning_of(line) {
             Meaning::Silent => return Ok(Said::Nothing),

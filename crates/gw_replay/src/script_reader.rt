@@ -26,6 +26,8 @@ pub struct ScriptReader {
     pub answers: Vec<u8>,
     // how many lines were ended, for a person
     pub lines: u64,
+    // whether a line was refused
+    pub refused: bool,
 }
 
 impl ScriptReader {
@@ -46,6 +48,7 @@ impl ScriptReader {
             kept: Vec::new(alloc),
             answers: Vec::new(alloc),
             lines: 0,
+            refused: false,
         }
     }
 
@@ -100,6 +103,7 @@ impl ScriptReader {
             ++ take (most_kept - length self.old.kept.items) part.now) }
         ensures script { self.new.script ≡ self.old.script }
         ensures answers { self.new.answers ≡ self.old.answers }
+        ensures refused { self.new.refused ≡ self.old.refused }
     {
         let room = MAX_KEPT.saturating_sub(self.kept.len()).min(part.len());
         self.kept.extend_from_slice(&part[..room])
@@ -124,6 +128,7 @@ impl ScriptReader {
             Said::Line(line) => self.answers.extend_from_slice(line.as_bytes()),
             Said::Refused(fault) => {
                 let number = self.lines;
+                self.refused = true;
                 let _ = writeln!(faults, "gw: line {number}: {fault}");
                 self.answers.extend_from_slice(fault.line().as_bytes())
             }
@@ -143,6 +148,7 @@ impl ScriptReader {
         ensures script { self.new.script ≡ self.old.script }
         ensures kept { self.new.kept ≡ self.old.kept }
         ensures lines { self.new.lines ≡ self.old.lines }
+        ensures refused { self.new.refused ≡ self.old.refused }
         ensures empty { OnOk result (self.new.answers.items ≡ []) }
     {
         match write_all(writer, self.answers.as_slice()) {
@@ -154,13 +160,14 @@ impl ScriptReader {
         }
     }
 
-    /// Answers the last line, which no line feed ended, and writes its answer.
+    /// Answers the last line, which no line feed ended, and writes its answer. It returns whether a line of the script was
+    /// refused.
     pub fn end<W: Write, F: Write>(
         &mut self,
         alloc: Global,
         writer: &mut Tried<W>,
         faults: &mut Tried<F>,
-    ) -> Result<(), ReplayFault>
+    ) -> Result<bool, ReplayFault>
         requires { has_failed writer.old ≡ false }
         ensures ended { (octets text : List ℕ) → HasReached octets self.old (text ++ self.old.answers.items)
             → EndsWith octets text (W.contents (inner_of writer.old)) (W.contents (inner_of writer.new)) result }
@@ -172,7 +179,7 @@ impl ScriptReader {
             return Err(ReplayFault::WriteFault);
         }
         match answered {
-            Ok(()) => Ok(()),
+            Ok(()) => Ok(self.refused),
             Err(AllocError) => Err(ReplayFault::OutOfMemory),
         }
     }

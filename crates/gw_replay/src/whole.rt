@@ -66,13 +66,13 @@ impl From<AllocError> for ReplayFault {
     }
 }
 
-/// Runs a script. The line that answers a command is written as soon as the piece that ends the command was read. Answers
-/// that stand before a fault are written.
+/// Runs a script, and returns whether a line of it was refused. The line that answers a command is written as soon as the piece
+/// that ends the command was read. Answers that stand before a fault are written.
 pub fn replay<R: Read, W: Write>(
     alloc: Global,
     reader: &mut Tried<R>,
     writer: &mut Tried<W>,
-) -> Result<(), ReplayFault>
+) -> Result<bool, ReplayFault>
     requires reader { has_failed reader.old ≡ false }
     requires unread { reads_of reader.old ≡ 0 }
     requires writer { has_failed writer.old ≡ false }
@@ -90,7 +90,7 @@ pub fn replay_told<R: Read, W: Write, F: Write>(
     reader: &mut Tried<R>,
     writer: &mut Tried<W>,
     faults: &mut Tried<F>,
-) -> Result<(), ReplayFault>
+) -> Result<bool, ReplayFault>
     requires reader { has_failed reader.old ≡ false }
     requires unread { reads_of reader.old ≡ 0 }
     requires writer { has_failed writer.old ≡ false }

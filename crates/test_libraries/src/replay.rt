@@ -110,7 +110,7 @@ impl Read for Endless {
 /// What became of a script.
 #[derive(Drop)]
 struct Replayed {
-    ended: Result<(), ReplayFault>,
+    ended: Result<bool, ReplayFault>,
     /// Whether a read failed.
     has_failed: bool,
     /// What was written.

@@ -90,7 +90,7 @@ pieces-preserved g c = record {
   way = goes_on c.feed-fed.result c.piece.result.now c.read.new.self.piece c.in_ok-read.field-0 c.feed-fed.new.self
       c.pieces.invariant.way c.in_ok-read.ensures.piece c.if-branch.true c.piece.ensures c.feed-fed.ensures.fed
       (ap is_err c.in_ok-fed.was) c.in_ok-write.ensures.written c.write.ensures.script c.write.ensures.kept
-      c.in_ok-write.ensures.empty;
+      c.in_ok-write.ensures.empty c.write.ensures.refused;
 }
 
 pub returns-clause-replayed : goal.returns-clause-replayed

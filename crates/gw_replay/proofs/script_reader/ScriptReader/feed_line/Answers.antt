@@ -12,7 +12,7 @@ returns-then-end-text-clause-fed g c = λ octets before h.
     text_kept octets c.args.text.now before c.position_of-end.result c.args.self.now c.keep.new.self h
     c.position_of-end.ensures.place c.if-end-text.true
     (on_ok c.keep.result (sym c.is_err.ensures.value ∙ c.if-is_err.false) c.keep.ensures.kept)
-    c.keep.ensures.script c.keep.ensures.answers
+    c.keep.ensures.script c.keep.ensures.answers c.keep.ensures.refused
 
 pub returns-in-Err-clause-fed : goal.returns-in-Err-clause-fed
 returns-in-Err-clause-fed g c = λ octets before h.
@@ -27,4 +27,5 @@ returns-clause-fed g c = λ octets before h.
     line_passed octets c.args.text.now before _ c.position_of-end.result c.args.self.now c.keep.new.self c.answer_kept.new.self _
     h c.position_of-end.ensures.place within (rest_from (c.position_of-end.result + 1) c.args.text.now)
     (on_ok c.keep.result (sym c.is_err.ensures.value ∙ c.if-is_err.false) c.keep.ensures.kept)
-    c.keep.ensures.script c.keep.ensures.answers c.in-Ok.ensures.answered refl refl c.clear.ensures.items
+    c.keep.ensures.script c.keep.ensures.answers c.keep.ensures.refused c.in-Ok.ensures.answered refl refl c.clear.ensures.items
+    refl
