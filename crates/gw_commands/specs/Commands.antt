@@ -1,7 +1,7 @@
 -- What a command does: it reads its input whole, and writes the answer to it or its first refusal.
 use Rattle.std.specs.Prelude.{◌≡◌, ℕ, ◌<◌, ◌≤◌, ◌⊎◌, Bool, true, false, List, length, Option, Result, Ok, Err, MatchResult}
 use Rattle.std.specs.Io.KnownBytes.{Appends, IsAtEnd, Consumes}
-use Rattle.gw_input.specs.declared.bounds.TheConstants.{MAX_INPUT}
+use Rattle.gw_input.specs.Bounds.{most_octets}
 use Rattle.gw_io.specs.Written.{WritesPart}
 use Rattle.gw_commands.specs.declared.answer.Answer.{Answer}
 use Rattle.gw_commands.specs.declared.refusal.Refusal.{Refusal}
@@ -13,14 +13,14 @@ use Rattle.gw_commands.specs.Refusals.{refusal_text}
 pub record IsInput (before after : Option (List ℕ)) (failed : Bool) (input : List ℕ) : Type 0 where
   pub consumed : Consumes before after input
   pub end : IsAtEnd after
-  pub fits : length input ≤ MAX_INPUT
+  pub fits : length input ≤ most_octets
   pub whole : failed ≡ false
 
 -- the reader failed, or gave too much, or memory was wanting for what it gave
 abbrev pub IsInputRefusal : Option (List ℕ) → Option (List ℕ) → Bool → Refusal → Type 0
 IsInputRefusal before after failed ReadFault = failed ≡ true
 IsInputRefusal before after failed TooMuchInput =
-    (octets : List ℕ) × Consumes before after octets × (MAX_INPUT < length octets) × (failed ≡ false)
+    (octets : List ℕ) × Consumes before after octets × (most_octets < length octets) × (failed ≡ false)
 IsInputRefusal before after failed OutOfMemory = failed ≡ false
 IsInputRefusal before after failed _ = ⊥
 

@@ -1,4 +1,5 @@
--- public meaning: lines and words, records, the programs of listings, tables, and the line of a refusal
+-- public meaning: bounds, lines and words, records, the programs of listings, tables, and the line of a refusal
+pub mod Bounds
 pub mod Lines
 pub mod Words
 pub mod RuleLines

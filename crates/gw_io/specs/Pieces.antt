@@ -2,11 +2,10 @@
 use Rattle.std.specs.Prelude.{◌<◌, ◌≤◌, ℕ, Bool, true, false, List, length, Option, Result, Ok, Err}
 use Rattle.std.specs.Io.KnownBytes.{Consumes, IsAtEnd, Keeps}
 use Rattle.gw_io.specs.declared.pieces.ReadFault.{ReadFault}
-use Rattle.gw_io.specs.declared.pieces.TheConstants.{MAX_READS}
 
--- the most reads of one input
+-- the most reads of one input, 2 to the 24th (docs/DECISIONS.md, R54)
 abbrev pub most_reads : ℕ
-most_reads = MAX_READS
+most_reads = 16777216
 
 -- the piece that was read last, and how many reads are left
 pub record Known : Type 0 where

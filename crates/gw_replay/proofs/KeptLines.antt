@@ -5,18 +5,18 @@ use Rattle.std.specs.Prelude.{slice_index, if◌then◌else◌, ◌==◌}
 use Rattle.std.proofs.lemmas.Bool.{cases_lt, lt-ltb}
 use Rattle.std.proofs.lemmas.List.{length-take, take_all}
 use native.Mathlib.Numerals.{unary_clauses}
-use Rattle.gw_input.specs.declared.bounds.TheConstants.{MAX_INPUT}
+use Rattle.gw_input.specs.Bounds.{most_octets}
 use Rattle.gw_input.specs.Lines.{without_return, ended_line}
 use Rattle.gw_replay.specs.Scripts.{silent, wrong, is_silent, meaning_of}
 use Rattle.gw_replay.specs.Reached.{most_kept}
 use Rattle.gw_replay.specs.declared.fault.Fault.TheVariants.{LongLine}
 
 -- the meaning of a line of more octets than a line has
-long_meaning : (line : List ℕ) → MAX_INPUT < length line → meaning_of line ≡ (if is_silent line then silent else wrong LongLine)
-long_meaning line long = rw (lt-ltb MAX_INPUT (length line) long) refl
+long_meaning : (line : List ℕ) → most_octets < length line → meaning_of line ≡ (if is_silent line then silent else wrong LongLine)
+long_meaning line long = rw (lt-ltb most_octets (length line) long) refl
 
 -- two lines that begin alike, both too long, say the same
-same_long : (a b : List ℕ) → MAX_INPUT < length a → MAX_INPUT < length b → is_silent a ≡ is_silent b
+same_long : (a b : List ℕ) → most_octets < length a → most_octets < length b → is_silent a ≡ is_silent b
     → meaning_of a ≡ meaning_of b
 same_long a b one other alike =
     long_meaning a one ∙ ap (λ quiet. if quiet then silent else wrong LongLine) alike ∙ sym (long_meaning b other)
@@ -53,7 +53,7 @@ front_alike zero line some = absurd (omega arith)
 front_alike (suc n) [] some = refl
 front_alike (suc n) (c ∷ line) some = refl
 
-ended_long : (ended : Bool) (line : List ℕ) → MAX_INPUT + 1 < length line → MAX_INPUT < length (ended_line ended line)
+ended_long : (ended : Bool) (line : List ℕ) → most_octets + 1 < length line → most_octets < length (ended_line ended line)
 ended_long false line long = omega arith
 ended_long true line long = let less = shorter_by line in omega arith
 

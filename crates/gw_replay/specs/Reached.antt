@@ -7,7 +7,7 @@ use Rattle.std.specs.Io.KnownBytes.{Appends, Consumes}
 use Rattle.gw_replay.specs.declared.script_reader.ScriptReader.{ScriptReader}
 use Rattle.gw_replay.specs.declared.whole.ReplayFault.{ReplayFault}
 use Rattle.gw_replay.specs.declared.whole.ReplayFault.TheVariants.{ReadFault, WriteFault, OutOfMemory}
-use Rattle.gw_input.specs.declared.bounds.TheConstants.{MAX_INPUT}
+use Rattle.gw_input.specs.Bounds.{most_octets}
 use Rattle.gw_input.specs.Lines.{is_line_feed, without_return}
 use Rattle.gw_replay.specs.Replies.{SessionState}
 use Rattle.gw_replay.specs.Scripts.{meaning_of, Answers, AreAnswers, BeginsAnswer, IsAnswer}
@@ -16,7 +16,7 @@ use Rattle.gw_io.specs.Written.{WritesPart}
 
 -- how many octets of an unfinished line are kept
 abbrev pub most_kept : ℕ
-most_kept = MAX_INPUT + 2
+most_kept = most_octets + 2
 
 -- lines, each with a line feed behind it
 abbrev pub joined : List (List ℕ) → List ℕ

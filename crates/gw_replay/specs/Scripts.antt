@@ -8,7 +8,7 @@ use Rattle.gw_ledger.specs.Bounds.{Bounds}
 use Rattle.gw_replay.specs.declared.fault.Fault.{Fault}
 use Rattle.gw_replay.specs.declared.fault.Fault.TheVariants as fault
 use Rattle.gw_replay.specs.Faults.{line_of}
-use Rattle.gw_input.specs.declared.bounds.TheConstants.{MAX_INPUT}
+use Rattle.gw_input.specs.Bounds.{most_octets}
 use Rattle.gw_input.specs.Lines.{lines_of}
 use Rattle.gw_policy.specs.Filter.{Filter}
 use Rattle.gw_core.specs.declared.event.Event.TheVariants as event
@@ -37,7 +37,7 @@ is_ascii line = list_all (λ c. nat_lt c 128) line
 abbrev pub meaning_of : List ℕ → Meaning
 meaning_of line =
     if is_silent line then silent
-    else if nat_lt MAX_INPUT (length line) then wrong fault.LongLine
+    else if nat_lt most_octets (length line) then wrong fault.LongLine
     else if not (is_ascii line) then wrong fault.NoAscii
     else option_map_or asks (request_of line) (wrong fault.NoCommand)
 

@@ -1,6 +1,6 @@
 use Rattle.std.proofs.Common.{◌≡◌, ◌≤◌, ◌+◌, ◌-◌, length, false}
 use Rattle.std.specs.Io.KnownBytes.{Consumes}
-use Rattle.gw_input.specs.declared.bounds.TheConstants.{MAX_INPUT}
+use Rattle.gw_input.specs.Bounds.{most_octets}
 use Rattle.gw_io.specs.Pieces.{most_reads}
 use Rattle.gw_io.specs.Tries.{inner_of, has_failed}
 use Rattle.gw_commands.proofs.streams.read_input.Given as goal
@@ -13,4 +13,4 @@ invariant-pieces g l = record {
 }
 
 abbrev pub decreases-pieces : goal.decreases-pieces
-decreases-pieces g l = MAX_INPUT + 1 - length l.input.items
+decreases-pieces g l = most_octets + 1 - length l.input.items
