@@ -2,18 +2,20 @@
 
 use crate::arguments::{described, flag, ingress_port, matched, valued};
 use crate::building::Building;
-use crate::run_arguments::wrong;
-use clap::{Arg, ArgGroup, ArgMatches, Command, Error};
+use crate::egress_arguments::{EgressRequest, asked_egress, with_egress};
+use crate::source_arguments::Usage;
+use clap::{Arg, ArgAction, ArgGroup, ArgMatches, Command, Error};
 use gw_commands::{CountForm, Grouping, LogQuery, PolicyKind, Shown};
 use std::alloc::{AllocError, Global};
 use std::convert::AsStr;
 
 /// What `gw judge` is asked for.
-#[derive(Clone, Copy)]
-pub struct JudgeRequest<'a> {
-    pub query: LogQuery,
-    /// The name of the policy's file.
-    pub file: &'a str,
+#[derive(Drop)]
+pub enum JudgeRequest<'a> {
+    /// How the policy of a file of this name judges a log.
+    Log(LogQuery, &'a str),
+    /// What leaves of a log of several interfaces.
+    Egress(EgressRequest<'a>),
 }
 
 /// The command `judge`, as `clap` reads it and shows its help.
@@ -22,36 +24,38 @@ pub fn judge_arguments<'a>(alloc: Global) -> Result<Command<'a>, AllocError> {
         alloc,
         "judge",
         "Judges each frame of a log of candump or of a pcap trace: counts what each rule decided, or writes the lines that pass",
-        "gw judge (--table FILE | --listing FILE) [--port P] [[--by WHAT] [--json] | --passed | --blocked | --each] [--strict] \
-        < LOG",
+        "gw judge ((--table FILE | --listing FILE) [--port P] [[--by WHAT] [--json] | --passed | --blocked | --each] [--strict] \
+        | --out --interface NAME=P.. [--table P=FILE].. [--listing P=FILE].. [--ports N]) < LOG",
         "Example: gw judge --table examples/display.toml < examples/traces/diagnostics.log",
     );
     let command = with_policy(alloc, Building::of(command))
         .made_arg(counted_by(alloc))
         .made_arg(as_json(alloc));
-    with_taking(alloc, with_shown(alloc, command)).done()
+    with_egress(alloc, with_taking(alloc, with_shown(alloc, command))).done()
 }
 
-/// The command with the options that name the policy's file, of which one is given.
+/// The command with the options that name the files of policies.
 fn with_policy<'a>(alloc: Global, command: Building<'a>) -> Building<'a> {
     command
         .group(policy_group(alloc))
-        .arg(valued(
+        .arg(policy_file(
             alloc,
             "table",
-            "FILE",
-            "A file with the policy table that decides each frame",
+            "A file with the policy table that decides each frame; with --out P=FILE, once for each port",
         ))
-        .arg(valued(
+        .arg(policy_file(
             alloc,
             "listing",
-            "FILE",
-            "A file with a program's listing that decides each frame",
+            "A file with a program's listing that decides each frame; with --out P=FILE, once for each port",
         ))
 }
 
+fn policy_file<'a>(alloc: Global, name: &'a str, help: &'a str) -> Arg<'a> {
+    valued(alloc, name, "FILE", help).action(ArgAction::Append)
+}
+
 fn policy_group<'a>(alloc: Global) -> Result<ArgGroup<'a>, AllocError> {
-    let group = ArgGroup::new(alloc, "policy").required(true);
+    let group = ArgGroup::new(alloc, "policy").required(true).multiple(true);
     group.arg("table")?.arg("listing")
 }
 
@@ -117,18 +121,23 @@ pub fn read_judge<'a, S: AsStr>(alloc: Global, words: &'a [S]) -> Result<JudgeRe
     let matches = matched(alloc, words)?;
     match matches.subcommand() {
         Some(("judge", found)) => asked(alloc, found),
-        _ => Err(wrong(alloc, "this is not the command `judge`")),
+        _ => Err(Usage::Judge.wrong(alloc, "this is not the command `judge`")),
     }
 }
 
 /// What the arguments behind `judge` ask for.
 fn asked<'a>(alloc: Global, found: &ArgMatches<'a>) -> Result<JudgeRequest<'a>, Error> {
-    let (kind, file) = match (found.get_str("table"), found.get_str("listing")) {
-        (Some(file), _) => (PolicyKind::Table, file),
-        (None, Some(file)) => (PolicyKind::Listing, file),
-        (None, None) => return Err(wrong(
+    if found.get_flag("out") {
+        return Ok(JudgeRequest::Egress(asked_egress(alloc, found)?));
+    }
+    let tables = found.get_strs("table").unwrap_or(&[]);
+    let listings = found.get_strs("listing").unwrap_or(&[]);
+    let (kind, file) = match (tables, listings) {
+        (&[file], &[]) => (PolicyKind::Table, file),
+        (&[], &[file]) => (PolicyKind::Listing, file),
+        _ => return Err(Usage::Judge.wrong(
             alloc,
-            "no policy is given: name a file by --table or --listing",
+            "one policy judges a log: name its file by --table or --listing; those of several ports are for --out",
         )),
     };
     let query = LogQuery {
@@ -138,7 +147,7 @@ fn asked<'a>(alloc: Global, found: &ArgMatches<'a>) -> Result<JudgeRequest<'a>, 
         by: grouping(found),
         strict: found.get_flag("strict"),
     };
-    Ok(JudgeRequest { query, file })
+    Ok(JudgeRequest::Log(query, file))
 }
 
 /// What is written.

@@ -5,13 +5,16 @@ mod arguments;
 mod ask_arguments;
 mod building;
 mod diff_arguments;
+mod egress_arguments;
 mod input_arguments;
 mod judge_arguments;
 mod port_files;
 mod run_arguments;
+mod source_arguments;
 mod taking_arguments;
 
 pub use arguments::{Request, read_arguments};
 pub use diff_arguments::{DiffRequest, read_diff};
+pub use egress_arguments::EgressRequest;
 pub use judge_arguments::{JudgeRequest, read_judge};
 pub use run_arguments::{RunRequest, read_run};

@@ -5,7 +5,7 @@ ghost use Rattle.std.specs.Prelude.{◌≡◌, length, vec_len, IfOk};
 use crate::arguments::{described, flag, matched, valued};
 use crate::building::Building;
 use crate::input_arguments::{asked_inputs, input_option};
-use crate::port_files::{WordFault, port_file, told};
+use crate::source_arguments::{Usage, name_files};
 use crate::taking_arguments::asked_interfaces;
 use clap::error::ErrorKind;
 use clap::{Arg, ArgAction, ArgMatches, Command, Error, value_parser};
@@ -117,7 +117,8 @@ fn lane_option<'a>(alloc: Global) -> Arg<'a> {
     .value_parser(value_parser!(u32).range(1..=1024))
 }
 
-fn interface_option<'a>(alloc: Global) -> Arg<'a> {
+/// The option that names an interface of a log for a port.
+pub(crate) fn interface_option<'a>(alloc: Global) -> Arg<'a> {
     valued(
         alloc,
         "interface",
@@ -162,7 +163,7 @@ fn asked<'a>(alloc: Global, run: &ArgMatches<'a>) -> Result<RunRequest<'a>, Erro
 {
     let limits = asked_limits(alloc, run)?;
     let sources = asked_sources(alloc, run, limits.ports() as usize)?;
-    let interfaces = asked_interfaces(alloc, run, limits.ports() as usize)?;
+    let interfaces = asked_interfaces(alloc, run, limits.ports() as usize, Usage::Run)?;
     let inputs = asked_inputs(alloc, run, limits.ports() as usize)?;
     Ok(RunRequest {
         limits,
@@ -219,51 +220,15 @@ fn asked_sources<'a>(
     }
     let others = program.map_or(PolicySource::Opening, PolicySource::Program);
     let mut sources = vec![in alloc; others; ports]?;
-    name_files(alloc, tables, PolicyKind::Table, &mut sources)?;
-    name_files(alloc, listings, PolicyKind::Listing, &mut sources)?;
+    name_files(alloc, tables, PolicyKind::Table, &mut sources, Usage::Run)?;
+    name_files(
+        alloc,
+        listings,
+        PolicyKind::Listing,
+        &mut sources,
+        Usage::Run,
+    )?;
     Ok(sources)
-}
-
-/// Names files of a kind for their ports.
-fn name_files<'a>(
-    alloc: Global,
-    words: &[&'a str],
-    kind: PolicyKind,
-    sources: &mut [PolicySource<'a>],
-) -> Result<(), Error>
-    ensures { length sources.new ≡ length sources.old }
-{
-    for word in words {
-        let (port, file) = match named_port(word, sources) {
-            Ok(named) => named,
-            Err(fault) => {
-                let text = told(
-                    alloc,
-                    word,
-                    sources.len(),
-                    fault,
-                    "one table or one listing",
-                )?;
-                return Err(wrong(alloc, &text));
-            }
-        };
-        if let Some(place) = sources.get_mut(port) {
-            *place = match kind {
-                PolicyKind::Table => PolicySource::Table(file),
-                PolicyKind::Listing => PolicySource::Listing(file),
-            };
-        }
-    }
-    Ok(())
-}
-
-/// The port and the file of `P=FILE`, where no file is named for the port before.
-fn named_port<'a>(word: &'a str, sources: &[PolicySource]) -> Result<(usize, &'a str), WordFault> {
-    let (port, file) = port_file(word, sources.len())?;
-    match sources.get(port) {
-        Some(PolicySource::Table(_) | PolicySource::Listing(_)) => Err(WordFault::Twice(port)),
-        _ => Ok((port, file)),
-    }
 }
 
 /// `clap`'s error with this text, and the usage of `run`.

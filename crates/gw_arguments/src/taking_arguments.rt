@@ -1,6 +1,6 @@
-//! Which port takes which frame, as the arguments of `gw run` say it.
+//! Which port takes which frame, as the arguments of a command say it.
 
-use crate::run_arguments::wrong;
+use crate::source_arguments::Usage;
 use clap::{ArgMatches, Error};
 use gw_run::NamedInterface;
 use std::alloc::{AllocError, Global};
@@ -8,14 +8,15 @@ use std::alloc::{AllocError, Global};
 /// The interfaces of a log that are named for so many ports.
 pub(crate) fn asked_interfaces<'a>(
     alloc: Global,
-    run: &ArgMatches<'a>,
+    found: &ArgMatches<'a>,
     ports: usize,
+    usage: Usage,
 ) -> Result<Vec<NamedInterface<'a>>, Error> {
     let mut interfaces = Vec::new(alloc);
-    for word in run.get_strs("interface").unwrap_or(&[]) {
+    for word in found.get_strs("interface").unwrap_or(&[]) {
         match named_interface(word, ports, interfaces.as_slice()) {
             Ok(named) => interfaces.push(named)?,
-            Err(fault) => return Err(wrong(alloc, &told(alloc, word, ports, fault)?)),
+            Err(fault) => return Err(usage.wrong(alloc, &told(alloc, word, ports, fault)?)),
         }
     }
     Ok(interfaces)

@@ -9,6 +9,9 @@ use Rattle.gw_commands.specs.Commands.{Does, Writes, WritesText}
 use Rattle.gw_run.specs.Forwarding.{ForwardsNamed}
 use Rattle.gw_run.specs.PortInputs.{ForwardsFiles}
 use Rattle.gw_run.specs.declared.taking.Taking.{Taking}
+use Rattle.gw_run.specs.Egress.{WritesEgressNamed}
+use Rattle.gw_judge.specs.declared.interfaces.NamedInterface.{NamedInterface}
+use Rattle.gw_commands.specs.declared.policies.PolicySource.{PolicySource}
 use Rattle.gw_commands.specs.Differences.{ComparesNamed}
 use Rattle.gw_commands.specs.PortDifferences.{ComparesNamedPorts}
 use Rattle.gw_commands.specs.Judgings.{JudgesNamed}
@@ -75,12 +78,14 @@ RunsWords before after failed reads old new write_failed told_old told_new tell_
     × DoesRun run before after failed reads old new write_failed status)
     ⊎ OnlyAnswersWords before after old new write_failed told_old told_new tell_failed status
 
--- a log was judged by the policy of a file, or the file or the policy was refused; or the arguments were answered and nothing
--- was read
+-- a log was judged by the policy of a file, or the file or the policy was refused; or what leaves of one at several interfaces
+-- was written, or a port's file or policy was refused; or the arguments were answered and nothing was read
 abbrev pub JudgesWords : Option (List ℕ) → Option (List ℕ) → Bool → Option (List ℕ) → Option (List ℕ) → Bool
     → Option (List ℕ) → Option (List ℕ) → Bool → ℕ → Type 0
 JudgesWords before after failed old new write_failed told_old told_new tell_failed status =
     ((query : LogQuery) × JudgesNamed query before after failed old new write_failed status)
+    ⊎ ((names : List NamedInterface) × (sources : List PolicySource)
+    × WritesEgressNamed names sources before after failed old new write_failed status)
     ⊎ OnlyAnswersWords before after old new write_failed told_old told_new tell_failed status
 
 -- the tables of two files, or of a gateway's ports, were compared over every frame, and nothing was read; or those of two files

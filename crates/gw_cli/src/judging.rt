@@ -5,9 +5,10 @@ ghost use Rattle.gw_io.specs.Tries.{inner_of, has_failed};
 ghost use Rattle.gw_cli.specs.Asked.{JudgesWords};
 
 use crate::dispatch::answer_words;
-use gw_arguments::read_judge;
+use gw_arguments::{EgressRequest, JudgeRequest, read_judge};
 use gw_commands::judge_named;
 use gw_io::Tried;
+use gw_run::egress_named;
 use std::alloc::Global;
 use std::convert::AsStr;
 use std::io::{Read, Write};
@@ -31,7 +32,17 @@ pub fn judge_command<R: Files, S: AsStr, I: Read, W: Write, F: Write>(
         (F.contents (inner_of faults.old)) (F.contents (inner_of faults.new)) (has_failed faults.new) result }
 {
     match read_judge(alloc, words) {
-        Ok(asked) => judge_named(rt, alloc, asked.query, asked.file, input, output, faults),
+        Ok(JudgeRequest::Log(query, file)) => {
+            judge_named(rt, alloc, query, file, input, output, faults)
+        }
+        Ok(JudgeRequest::Egress(asked)) => {
+            let EgressRequest {
+                sources,
+                interfaces,
+            } = asked;
+            let names = interfaces.as_slice();
+            egress_named(rt, alloc, &sources, names, input, output, faults)
+        }
         Err(error) => answer_words(alloc, &error, output, faults),
     }
 }

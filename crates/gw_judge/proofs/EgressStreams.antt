@@ -45,8 +45,9 @@ pub goes_on_egress : {A : Type 0} (r : Result A JudgeFault) (names : List NamedI
     → ReachesEgress names batches (octets ++ now.part) text x y failed r q)
     → IsEgressUnderWay names batches a c w y now.rest q more
 goes_on_egress {A} r names batches a b c w x y failed rest now p q parts more done fine fewer way next taken =
-    let reached = subst (λ (s : Result A JudgeFault). ReachesEgress names batches (way.octets ++ now.part) way.text x y failed s q)
-    fine (taken way.octets way.text way.taken) in
+    let Reaches : Result A JudgeFault → Type 0 = λ s.
+    ReachesEgress names batches (way.octets ++ now.part) way.text x y failed s q in
+    let reached = subst Reaches fine (taken way.octets way.text way.taken) in
     record {
       octets = way.octets ++ now.part;
       text = way.text ++ reached.0;
@@ -83,8 +84,9 @@ pub stops_egress : {A : Type 0} (r : Result A JudgeFault) (names : List NamedInt
     → ReachesEgress names batches (octets ++ now.part) text x y failed r q)
     → WritesPartOfEgress names batches a c w y read_failed failed fault
 stops_egress {A} r names batches a b c w x y read_failed failed rest now p q parts fault bad way next taken =
-    let reached = subst (λ (s : Result A JudgeFault). ReachesEgress names batches (way.octets ++ now.part) way.text x y failed s q)
-    bad (taken way.octets way.text way.taken) in
+    let Reaches : Result A JudgeFault → Type 0 = λ s.
+    ReachesEgress names batches (way.octets ++ now.part) way.text x y failed s q in
+    let reached = subst Reaches bad (taken way.octets way.text way.taken) in
     fails_partly fault names batches a c w x y ((way.octets ++ now.part) ++ now.rest) way.text read_failed failed
     (given_more a b c way.octets rest now way.consumed next) way.written (reached now.rest)
 

@@ -58,4 +58,5 @@ one_failed {A} {B} r done fault f xs n d w y z failed then_failed held mid now e
     ∙ ap (λ (front : List ℕ). front ++ behind) (first_texts f xs n d within)
     ∙ sym (flat_map-append f (take (n + 1) xs) (drop (n + 1) xs)) ∙ ap (flat_map f) (take-append-drop (n + 1) xs) in
     subst (λ (text : List ℕ). Puts {A = B} w z then_failed held text (Err fault) end) split
-    (second_failed r done fault w y z failed then_failed held (flat_map f (take n xs)) (f (get_or xs n d)) behind mid now end bad before put)
+    (second_failed r done fault w y z failed then_failed held (flat_map f (take n xs)) (f (get_or xs n d)) behind mid now end
+    bad before put)

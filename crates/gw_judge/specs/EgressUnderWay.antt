@@ -1,6 +1,6 @@
 -- How far what leaves of a log was written: `old` and `new` are what its writer took, before a call and after it.
-use Rattle.std.specs.Prelude.{◌≡◌, ◌≤◌, ◌<◌, ℕ, ◌==◌, not, ◌&&◌, Bool, true, List, ◌++◌, length, reverse, slice_index_or, take, Option}
-use Rattle.std.specs.Prelude.{Result, Ok, Err}
+use Rattle.std.specs.Prelude.{◌≡◌, ◌≤◌, ◌<◌, ℕ, ◌==◌, not, ◌&&◌, Bool, true, List, ◌++◌, length, reverse, slice_index_or}
+use Rattle.std.specs.Prelude.{take, Option, Result, Ok, Err}
 use Rattle.std.specs.List.{flat_map}
 use Rattle.std.specs.Io.KnownBytes.{Appends, Consumes}
 use Rattle.gw_io.specs.Written.{WritesPart}

@@ -209,8 +209,8 @@ fn put_said<N: LineNotes, W: Write>(
     ensures whole { OnOk result (has_failed writer.new ≡ false) }
 {
     match port_named(gateway.names, said.interface()) {
-        Some(own) if usize::from(own) < MAX_PORTS => {
-            put_taken(gateway, said, own, claims, gathered, writer)
+        Some(ingress) if usize::from(ingress) < MAX_PORTS => {
+            put_taken(gateway, said, ingress, claims, gathered, writer)
         }
         _ => {
             notes.see_untaken(said.interface());
@@ -223,46 +223,46 @@ fn put_said<N: LineNotes, W: Write>(
 fn put_taken<W: Write>(
     gateway: &Gateway,
     said: &LogLine,
-    own: u8,
+    ingress: u8,
     claims: &mut [Claims; MAX_PORTS],
     gathered: &mut Gathered,
     writer: &mut Tried<W>,
 ) -> Result<(), JudgeFault>
     requires writer { has_failed writer.old ≡ false }
-    requires own { own < 16 }
+    requires ingress { ingress < 16 }
     ensures put { (batches : List (List Pair)) (lines : List (List ℕ)) → StandsAfter gateway.now.policies.now batches
         → HearPorts claims.old (heard_at gateway.now.names.now lines)
         → Puts (W.contents (inner_of writer.old)) (W.contents (inner_of writer.new)) (has_failed writer.new)
-        gathered.old.held.items (egress_lines gateway.now.names.now batches lines said.now own)
+        gathered.old.held.items (egress_lines gateway.now.names.now batches lines said.now ingress)
         result gathered.new.held.items }
     ensures heard { (heard : ℕ → List (List ℕ)) → HearPorts claims.old heard
-        → HearPorts claims.new (λ port. (if own == port then said.now.octets ∷ [] else []) ++ heard port) }
+        → HearPorts claims.new (λ port. (if ingress == port then said.now.octets ∷ [] else []) ++ heard port) }
     ensures whole { OnOk result (has_failed writer.new ≡ false) }
 {
-    let segment = &mut claims[usize::from(own)];
+    let segment = &mut claims[usize::from(ingress)];
     let local = segment.is_local(said.frame());
     segment.hear(said.frame());
     if local {
         return Ok(());
     }
-    put_allowed(gateway, said, own, gathered, writer)
+    put_allowed(gateway, said, ingress, gathered, writer)
 }
 
 /// Puts the lines of a frame at the ports to which it is allowed, in ascending order.
 fn put_allowed<W: Write>(
     gateway: &Gateway,
     said: &LogLine,
-    own: u8,
+    ingress: u8,
     gathered: &mut Gathered,
     writer: &mut Tried<W>,
 ) -> Result<(), JudgeFault>
     requires { has_failed writer.old ≡ false }
     ensures { Puts (W.contents (inner_of writer.old)) (W.contents (inner_of writer.new)) (has_failed writer.new)
-        gathered.old.held.items (lines_below gateway.now.names.now gateway.now.policies.now said.now own 16)
+        gathered.old.held.items (lines_below gateway.now.names.now gateway.now.policies.now said.now ingress 16)
         result gathered.new.held.items }
 {
     for port in 0..MAX_PORTS as u8 {
-        put_port(gateway, said, own, port, gathered, writer)?;
+        put_port(gateway, said, ingress, port, gathered, writer)?;
     }
     Ok(())
 }
@@ -271,7 +271,7 @@ fn put_allowed<W: Write>(
 fn put_port<W: Write>(
     gateway: &Gateway,
     said: &LogLine,
-    own: u8,
+    ingress: u8,
     port: u8,
     gathered: &mut Gathered,
     writer: &mut Tried<W>,
@@ -279,22 +279,22 @@ fn put_port<W: Write>(
     requires { has_failed writer.old ≡ false }
     ensures { Puts (W.contents (inner_of writer.old)) (W.contents (inner_of writer.new)) (has_failed writer.new)
         gathered.old.held.items
-        (if set_passes gateway.now.policies.now own said.now.octets port
+        (if set_passes gateway.now.policies.now ingress said.now.octets port
         then lines_at gateway.now.names.now said.now port else [])
         result gathered.new.held.items }
 {
-    if may_leave(gateway.policies, port, own, said.frame()) {
+    if may_leave(gateway.policies, port, ingress, said.frame()) {
         put_lines(gateway.names, said, port, gathered, writer)
     } else {
         Ok(())
     }
 }
 
-/// Whether a frame that was taken at the port `own` may leave at another.
-fn may_leave(policies: &PolicySet, port: u8, own: u8, frame: &Frame) -> bool
-    ensures { result ≡ set_passes policies.now own frame.now port }
+/// Whether a frame that was taken at the port `ingress` may leave at another.
+fn may_leave(policies: &PolicySet, port: u8, ingress: u8, frame: &Frame) -> bool
+    ensures { result ≡ set_passes policies.now ingress frame.now port }
 {
-    port != own && policies.verdict(port, frame, own)
+    port != ingress && policies.verdict(port, frame, ingress)
 }
 
 /// Puts the lines of a frame at a port: one for each of its interfaces.

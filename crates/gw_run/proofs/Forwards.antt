@@ -19,8 +19,8 @@ use Rattle.gw_run.specs.Forwarding.{RefusesInputs, RefusesOctets, RefusesTrace}
 
 -- under the policies of the sources
 pub under_policies : (taking : Taking) (limits : Bounds) (sources : List PolicySource) (texts : List (List ℕ)) (waits : Bool)
-    (shown : Shown) (before after : Option (List ℕ)) (failed : Bool) (first : List Pair) (text : List ℕ) → IsFirst sources texts first
-    → IsTraceRun taking limits first waits shown before after failed text
+    (shown : Shown) (before after : Option (List ℕ)) (failed : Bool) (first : List Pair) (text : List ℕ)
+    → IsFirst sources texts first → IsTraceRun taking limits first waits shown before after failed text
     → IsForwarded taking limits sources texts waits shown before after failed text
 under_policies taking limits sources texts waits shown before after failed first text policies run =
     record { first = first; policies = policies; run = run }
@@ -34,8 +34,9 @@ refused_under_policies taking limits sources texts before after failed reads fir
 
 -- of the octets that the reader gave
 pub of_trace : (taking : Taking) (limits : Bounds) (first : List Pair) (waits : Bool) (shown : Shown)
-    (before after : Option (List ℕ)) (failed : Bool) (octets given text : List ℕ) → IsTraceInput before after failed octets → given ≡ octets
-    → IsOctetsRun taking limits first waits shown given text → IsTraceRun taking limits first waits shown before after failed text
+    (before after : Option (List ℕ)) (failed : Bool) (octets given text : List ℕ) → IsTraceInput before after failed octets
+    → given ≡ octets → IsOctetsRun taking limits first waits shown given text
+    → IsTraceRun taking limits first waits shown before after failed text
 of_trace taking limits first waits shown before after failed octets given text read same run = record {
   octets = octets;
   read = read;

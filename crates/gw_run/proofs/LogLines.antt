@@ -12,7 +12,8 @@ use Rattle.std.proofs.lemmas.List.Elements.{All-from_get_or}
 use Rattle.gw_log.specs.LogLines.{line_of}
 use Rattle.gw_input.specs.Lines.{is_line_feed}
 use Rattle.gw_judge.specs.Judged.{log_lines, with_ends}
-use Rattle.gw_run.specs.Logs.{taken, taken_at}
+use Rattle.gw_judge.specs.Interfaces.{taken}
+use Rattle.gw_run.specs.Logs.{taken_at}
 
 ended_more : (line : List ℕ) (parts : List (List ℕ)) → 0 < length parts
     → with_ends (line ∷ parts) ≡ (line ++ 10 ∷ []) ∷ with_ends parts

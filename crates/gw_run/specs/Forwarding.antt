@@ -39,7 +39,7 @@ use Rattle.gw_run.specs.declared.lines.Shown.{Shown}
 use Rattle.gw_run.specs.declared.lines.Shown.TheVariants.{Lines, Json}
 use Rattle.gw_run.specs.declared.policy_lines.Counted.{Counted}
 use Rattle.gw_run.specs.declared.policy_lines.Counted.TheVariants.{Judged, Passed, Lost}
-use Rattle.gw_run.specs.declared.taking.NamedInterface.{NamedInterface}
+use Rattle.gw_judge.specs.declared.interfaces.NamedInterface.{NamedInterface}
 use Rattle.gw_run.specs.declared.taking.Taking.{Taking}
 use Rattle.gw_run.specs.declared.taking.Taking.TheVariants.{InTurn, ByInterface}
 use Rattle.gw_run.specs.Logs.{named_inputs, no_log}

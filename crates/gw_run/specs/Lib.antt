@@ -1,5 +1,6 @@
 -- All of it is public meaning: what a run promises of its input, its output and its status.
 pub mod Forwarding
+pub mod Egress
 pub mod Logs
 pub mod PortInputs
 pub mod Refusals

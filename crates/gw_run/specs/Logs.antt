@@ -1,28 +1,13 @@
 -- The frames of a log, by the ports that take them.
-use Rattle.std.specs.Prelude.{ℕ, ◌==◌, ◌&&◌, ◌||◌, nat_le, Bool, false, if◌then◌else◌, List, [], ◌∷◌, length, map, slice_index}
-use Rattle.std.specs.Prelude.{Option, Some, None, Ok, Err, option_map}
-use Rattle.std.specs.List.{find, flat_map, range_with_len}
-use Rattle.std.specs.Option.{option_map_or}
-use Rattle.std.specs.Str.{bytes_eq}
-use Rattle.gw_log.specs.LogLines.{Reading, line_of}
+use Rattle.std.specs.Prelude.{ℕ, ◌==◌, ◌&&◌, ◌||◌, nat_le, Bool, if◌then◌else◌, List, length, map, slice_index}
+use Rattle.std.specs.Prelude.{Option, Some, None}
+use Rattle.std.specs.List.{flat_map, range_with_len}
+use Rattle.gw_log.specs.LogLines.{line_of}
 use Rattle.gw_judge.specs.Judged.{log_lines}
 use Rattle.gw_judge.specs.declared.head.NoLog.{NoLog}
 use Rattle.gw_judge.specs.declared.head.NoLog.TheVariants.{Pcap, PcapNg, Gzip}
-use Rattle.gw_run.specs.declared.taking.NamedInterface.{NamedInterface}
-
--- the port that the first of these names gives an interface
-abbrev pub names_interface : List ℕ → NamedInterface → Bool
-names_interface interface named = bytes_eq named.name.now interface
-
-abbrev pub port_named : List NamedInterface → List ℕ → Option ℕ
-port_named names interface = option_map (λ named. named.port) (find (names_interface interface) names)
-
--- what a line gives a port: its frame, where the port takes the frames of its interface
-abbrev pub taken : (List ℕ → Option ℕ) → ℕ → Reading → List (List ℕ)
-taken takes port (Err why) = []
-taken takes port (Ok None) = []
-taken takes port (Ok (Some entry)) =
-    if option_map_or (λ taker. taker == port) (takes entry.interface) false then entry.octets ∷ [] else []
+use Rattle.gw_judge.specs.declared.interfaces.NamedInterface.{NamedInterface}
+use Rattle.gw_judge.specs.Interfaces.{port_named, taken}
 
 -- the frames of a log that a port takes: those of its lines, in order
 unfoldable pub taken_at : (List ℕ → Option ℕ) → ℕ → List ℕ → List (List ℕ)

@@ -1,6 +1,7 @@
 #![tactic(auto)]
 //! The command `run` of the program `gw`: the frames of a trace, forwarded by a gateway that runs in threads.
 
+mod egress_command;
 mod files;
 mod first;
 mod forwarding;
@@ -19,11 +20,13 @@ mod refusal;
 mod running;
 mod taking;
 
+pub use egress_command::{egress_named, write_egress_under};
 pub use files::forward_named;
 pub use forwarding::forward;
+pub use gw_judge::NamedInterface;
 pub use inputs::{PortInput, forward_inputs};
 pub use lines::Shown;
 pub use observing::{NoObserver, Observer, ProgressOnStderr, Waiting};
 pub use port_files::forward_files;
 pub use refusal::ForwardRefusal;
-pub use taking::{NamedInterface, Taking};
+pub use taking::Taking;

@@ -4,24 +4,24 @@ ghost use Rattle.std.specs.Prelude.{◌≡◌, ◌<◌, ◌++◌, ◌∷◌, ◌
 ghost use Rattle.std.specs.Prelude.{Some, option_to_list, IfOk, OnOk};
 ghost use Rattle.gw_log.specs.LogLines.{line_of};
 ghost use Rattle.gw_judge.specs.Judged.{log_lines};
-ghost use Rattle.gw_run.specs.Logs.{port_named, taken, taken_at, log_frames, named_inputs, begins, is_pcap, no_log};
+ghost use Rattle.gw_judge.specs.Interfaces.{port_named, taken};
+ghost use Rattle.gw_run.specs.Logs.{taken_at, log_frames, named_inputs, begins, is_pcap, no_log};
 
 use crate::log_notes::LogNotes;
-use crate::taking::NamedInterface;
 use gw_frame::Frame;
 use gw_input::position_of;
-use gw_judge::NoLog;
+use gw_judge::{LineNotes, NamedInterface, NoLog, port_named};
 use gw_log::read_line;
 use std::alloc::{AllocError, Global};
 
 /// The frames of a log that each of so many ports takes, where its interfaces are named for ports. What a person should know of
 /// the log's other lines is noted.
-pub(crate) fn named_lists<'a>(
+pub(crate) fn named_lists(
     alloc: Global,
     names: &[NamedInterface],
     ports: usize,
-    log: &'a [u8],
-    notes: &mut LogNotes<'a>,
+    log: &[u8],
+    notes: &mut LogNotes,
 ) -> Result<Vec<Vec<Frame>>, AllocError>
     ensures ports { IfOk result (λ lists. vec_len lists ≡ ports) }
     ensures frames { IfOk result (λ lists. map (λ list. list.items) lists.items ≡ named_inputs names.now ports log.now) }
@@ -44,11 +44,11 @@ pub(crate) fn empty_lists(alloc: Global, ports: usize) -> Result<Vec<Vec<Frame>>
 }
 
 /// Puts the frames of a log behind those of the lists, each on that of the port that takes it.
-pub(crate) fn take_log<'a>(
+pub(crate) fn take_log(
     lists: &mut [Vec<Frame>],
     names: &[NamedInterface],
-    log: &'a [u8],
-    notes: &mut LogNotes<'a>,
+    log: &[u8],
+    notes: &mut LogNotes,
 ) -> Result<(), AllocError>
     ensures ports { length lists.new ≡ length lists.old }
     ensures taken { OnOk result ((k : ℕ) (d : _) → k < length lists.old
@@ -65,10 +65,10 @@ pub(crate) fn take_log<'a>(
 }
 
 /// The frames of a log's lines, whatever their interfaces. What a person should know of the log's other lines is noted.
-pub(crate) fn log_frames<'a>(
+pub(crate) fn log_frames(
     alloc: Global,
-    log: &'a [u8],
-    notes: &mut LogNotes<'a>,
+    log: &[u8],
+    notes: &mut LogNotes,
 ) -> Result<Vec<Frame>, AllocError>
     ensures { IfOk result (λ frames. frames.items ≡ log_frames log.now) }
 {
@@ -85,7 +85,7 @@ pub(crate) fn log_frames<'a>(
 }
 
 /// The frame of a line, if the line says one.
-fn line_frame<'a>(line: &'a [u8], notes: &mut LogNotes<'a>) -> Option<Frame>
+fn line_frame(line: &[u8], notes: &mut LogNotes) -> Option<Frame>
     ensures { option_to_list result ≡ taken (λ interface. Some 0) 0 (line_of line.now) }
 {
     notes.see_line();
@@ -113,11 +113,11 @@ pub(crate) fn first_line(log: &[u8]) -> (&[u8], &[u8])
 }
 
 /// Puts the frame of a line behind those of the list of the port that takes it.
-fn take_line<'a>(
+fn take_line(
     lists: &mut [Vec<Frame>],
     names: &[NamedInterface],
-    line: &'a [u8],
-    notes: &mut LogNotes<'a>,
+    line: &[u8],
+    notes: &mut LogNotes,
 ) -> Result<(), AllocError>
     ensures ports { length lists.new ≡ length lists.old }
     ensures taken { OnOk result ((k : ℕ) (d : _) → k < length lists.old
@@ -153,16 +153,6 @@ fn put(lists: &mut [Vec<Frame>], port: u8, frame: Frame) -> Result<(), AllocErro
         lists[index].push(frame)?;
     }
     Ok(())
-}
-
-/// The port that the first of these names gives an interface.
-fn port_named(names: &[NamedInterface], interface: &[u8]) -> Option<u8>
-    ensures { result ≡ port_named names.now interface.now }
-{
-    names
-        .iter()
-        .find(|named| named.name.as_bytes() == interface)
-        .map(|named| named.port)
 }
 
 /// What octets are, as their first ones tell, where they are no log.

@@ -2,7 +2,7 @@
 
 use arrayvec::ArrayVec;
 use gw_io::Tried;
-use gw_judge::Cause;
+use gw_judge::{Cause, LineNotes};
 use gw_log::LogRefusal;
 use std::io::Write;
 use std::str;
@@ -10,66 +10,34 @@ use std::str;
 /// So many interfaces are told by their names.
 const MAX_TOLD: usize = 16;
 
+/// The most octets of an interface that is told by its name: more than a bus system takes.
+const MAX_NAME: usize = 64;
+
 /// An interface that is not named, and how many frames its lines say.
-#[derive(Clone, Copy, Default)]
-struct Untaken<'a> {
-    interface: &'a [u8],
+#[derive(Default, Drop)]
+struct Untaken {
+    interface: ArrayVec<u8, MAX_NAME>,
     frames: u64,
 }
 
 /// What a person should know of the lines of a log that no port takes. No clause speaks of it.
 #[derive(Drop)]
-pub(crate) struct LogNotes<'a> {
+pub(crate) struct LogNotes {
     lines: u64,
     causes: [Cause; LogRefusal::ALL.len()],
-    untaken: ArrayVec<Untaken<'a>, MAX_TOLD>,
-    // the frames of interfaces behind those that are told by their names
+    untaken: ArrayVec<Untaken, MAX_TOLD>,
+    // the frames of interfaces that are not told by their names
     others: u64,
 }
 
-impl<'a> LogNotes<'a> {
+impl LogNotes {
     /// Before the first line.
-    pub fn new() -> LogNotes<'a> {
+    pub fn new() -> LogNotes {
         LogNotes {
             lines: 0,
             causes: [Cause { count: 0, first: 0 }; LogRefusal::ALL.len()],
             untaken: ArrayVec::new(),
             others: 0,
-        }
-    }
-
-    /// Counts a line.
-    pub fn see_line(&mut self) {
-        self.lines = self.lines.saturating_add(1);
-    }
-
-    /// Counts the last line as one that says no classic frame.
-    pub fn see_refused(&mut self, why: LogRefusal) {
-        let line = self.lines;
-        for (cause, of) in self.causes.iter_mut().zip(LogRefusal::ALL) {
-            if of == why {
-                cause.count = cause.count.saturating_add(1);
-                if cause.first == 0 {
-                    cause.first = line;
-                }
-            }
-        }
-    }
-
-    /// Counts a frame of an interface that is not named.
-    pub fn see_untaken(&mut self, interface: &'a [u8]) {
-        for known in self.untaken.as_mut_slice() {
-            if known.interface == interface {
-                known.frames = known.frames.saturating_add(1);
-                return;
-            }
-        }
-        let first = Untaken {
-            interface,
-            frames: 1,
-        };
-        if self.untaken.try_push(first).is_err() {
-            self.others = self.others.saturating_add(1);
         }
     }
 
@@ -114,6 +82,45 @@ impl<'a> LogNotes<'a> {
     }
 }
 
+impl LineNotes for LogNotes {
+    /// Counts a line.
+    fn see_line(&mut self) {
+        self.lines = self.lines.saturating_add(1);
+    }
+
+    /// Counts the last line as one that says no classic frame.
+    fn see_refused(&mut self, why: LogRefusal) {
+        let line = self.lines;
+        for (cause, of) in self.causes.iter_mut().zip(LogRefusal::ALL) {
+            if of == why {
+                cause.count = cause.count.saturating_add(1);
+                if cause.first == 0 {
+                    cause.first = line;
+                }
+            }
+        }
+    }
+
+    /// Counts a frame of an interface that is not named.
+    fn see_untaken(&mut self, interface: &[u8]) {
+        for known in self.untaken.as_mut_slice() {
+            if known.interface.as_slice() == interface {
+                known.frames = known.frames.saturating_add(1);
+                return;
+            }
+        }
+        let mut name = ArrayVec::new();
+        let fits = name.try_extend_from_slice(interface).is_ok();
+        let first = Untaken {
+            interface: name,
+            frames: 1,
+        };
+        if !fits || self.untaken.try_push(first).is_err() {
+            self.others = self.others.saturating_add(1);
+        }
+    }
+}
+
 fn tell_untaken<F: Write>(untaken: &Untaken, faults: &mut Tried<F>) {
     let frames = untaken.frames;
     if untaken.interface.is_empty() {
@@ -123,7 +130,7 @@ fn tell_untaken<F: Write>(untaken: &Untaken, faults: &mut Tried<F>) {
         );
         return;
     }
-    let interface = str::from_utf8(untaken.interface).unwrap_or("?");
+    let interface = str::from_utf8(untaken.interface.as_slice()).unwrap_or("?");
     let _ = writeln!(
         faults,
         "gw: frames of interface {interface}, not taken since no --interface names it: {frames}"

@@ -1,7 +1,9 @@
 //! What a person should know of a run that is no part of its answer. No clause speaks of it.
 
 use crate::log::first_line;
+use crate::refusal::ForwardRefusal;
 use gw_io::Tried;
+use gw_judge::Head;
 use gw_ledger::InLedger;
 use gw_log::read_line;
 use std::io::Write;
@@ -25,6 +27,21 @@ pub(crate) fn note_dealt<F: Write>(ports: u32, faults: &mut Tried<F>) {
     let _ = writeln!(
         faults,
         "gw: frame i of the trace was taken at port i mod {ports}, whatever interface it came from"
+    );
+}
+
+/// Tells of an input that is no log but another file.
+pub(crate) fn note_no_log<F: Write>(head: &Head, faults: &mut Tried<F>) {
+    if let Some(why) = head.no_log() {
+        let _ = writeln!(faults, "gw: {}", ForwardRefusal::NoLog(why));
+    }
+}
+
+/// Tells of a capture that it has no lines.
+pub(crate) fn note_no_lines<F: Write>(faults: &mut Tried<F>) {
+    let _ = writeln!(
+        faults,
+        "gw: the input is a pcap capture and has no lines to write: `gw run --ports N` deals its frames to the ports in turn"
     );
 }
 

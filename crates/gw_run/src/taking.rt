@@ -1,11 +1,6 @@
 //! Which port takes which frame of an input.
 
-/// An interface of a log, and the port that takes the frames of its lines.
-#[derive(Clone, Copy, PartialEq, Eq, Debug)]
-pub struct NamedInterface<'a> {
-    pub name: &'a str,
-    pub port: u8,
-}
+use gw_judge::NamedInterface;
 
 /// Which port takes which frame of an input.
 #[derive(Clone, Copy, Debug)]

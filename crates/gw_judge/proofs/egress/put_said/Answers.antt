@@ -23,7 +23,7 @@ returns-in_default-clause-put g c batches lines stands hears =
           let above = w.if-from-lt-MAX_PORTS.false in
           let same = w.from.ensures in
           ap (taken_lines names batches lines said) (named ∙ w.in-Some.is)
-          ∙ untaken_lines names batches lines said w.in-Some.own (omega arith)
+          ∙ untaken_lines names batches lines said w.in-Some.ingress (omega arith)
       | in_default-via-in_default w ↦ ap (taken_lines names batches lines said) (named ∙ w.in_default.is)
     ] in
     subst (λ (text : List ℕ). Puts {A = Unit {0}} old old failed held text (Ok tt) held) (sym nothing)

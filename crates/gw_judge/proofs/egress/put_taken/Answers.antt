@@ -13,21 +13,21 @@ returns-then-local-clause-put g c batches lines stands hears =
     let old = g.W.Write.contents (inner_of c.args.writer.now) in
     let held : List ℕ = c.args.gathered.now.held.items in
     let failed = has_failed c.args.writer.now in
-    let local = local_there c.args.claims.now (heard_at names lines) c.args.own c.from.result said.octets c.frame.result.now
-    c.index-claims-from.result c.is_local-local.result c.from.ensures c.frame.ensures c.requires.own hears
+    let local = local_there c.args.claims.now (heard_at names lines) c.args.ingress c.from.result said.octets c.frame.result.now
+    c.index-claims-from.result c.is_local-local.result c.from.ensures c.frame.ensures c.requires.ingress hears
     c.is_local-local.ensures.heard ∙ c.if-local.true in
     subst (λ (text : List ℕ). Puts {A = Unit {0}} old old failed held text (Ok tt) held)
-    (sym (local_lines names batches lines said c.args.own local)) (none_put (tt {0}) old failed held c.requires.writer)
+    (sym (local_lines names batches lines said c.args.ingress local)) (none_put (tt {0}) old failed held c.requires.writer)
 
 pub returns-then-local-clause-heard : goal.returns-then-local-clause-heard
 returns-then-local-clause-heard g c heard hears =
-    heard_there c.args.claims.now heard c.args.own c.from.result c.args.said.now.octets c.frame-2.result.now _
-    c.index-claims-from.result c.from.ensures c.frame-2.ensures c.told-claims c.requires.own hears c.hear.ensures.heard
+    heard_there c.args.claims.now heard c.args.ingress c.from.result c.args.said.now.octets c.frame-2.result.now _
+    c.index-claims-from.result c.from.ensures c.frame-2.ensures c.told-claims c.requires.ingress hears c.hear.ensures.heard
 
 pub returns-clause-heard : goal.returns-clause-heard
 returns-clause-heard g c heard hears =
-    heard_there c.args.claims.now heard c.args.own c.from.result c.args.said.now.octets c.frame-2.result.now _
-    c.index-claims-from.result c.from.ensures c.frame-2.ensures c.told-claims c.requires.own hears c.hear.ensures.heard
+    heard_there c.args.claims.now heard c.args.ingress c.from.result c.args.said.now.octets c.frame-2.result.now _
+    c.index-claims-from.result c.from.ensures c.frame-2.ensures c.told-claims c.requires.ingress hears c.hear.ensures.heard
 
 pub returns-clause-put : goal.returns-clause-put
 returns-clause-put g c batches lines stands hears =
@@ -35,9 +35,9 @@ returns-clause-put g c batches lines stands hears =
     let said = c.args.said.now in
     let old = g.W.Write.contents (inner_of c.args.writer.now) in
     let new = g.W.Write.contents (inner_of c.put_allowed.new.writer) in
-    let other = local_there c.args.claims.now (heard_at gateway.names.now lines) c.args.own c.from.result said.octets
-    c.frame.result.now c.index-claims-from.result c.is_local-local.result c.from.ensures c.frame.ensures c.requires.own hears
+    let other = local_there c.args.claims.now (heard_at gateway.names.now lines) c.args.ingress c.from.result said.octets
+    c.frame.result.now c.index-claims-from.result c.is_local-local.result c.from.ensures c.frame.ensures c.requires.ingress hears
     c.is_local-local.ensures.heard ∙ c.if-local.false in
     subst (λ (text : List ℕ). Puts old new (has_failed c.put_allowed.new.writer) c.args.gathered.now.held.items text
     c.put_allowed.result c.put_allowed.new.gathered.held.items)
-    (allowed_lines gateway.names.now batches gateway.policies.now lines said c.args.own stands other) c.put_allowed.ensures
+    (allowed_lines gateway.names.now batches gateway.policies.now lines said c.args.ingress stands other) c.put_allowed.ensures

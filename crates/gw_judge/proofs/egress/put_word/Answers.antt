@@ -17,7 +17,8 @@ returns-in_err-put g c =
     let now : List ℕ = c.put.new.self.held.items in
     let word : List ℕ = c.args.word.now in
     let there : word ++ codes " " ≡ word_text word = sym (word_there word (sym c.is_empty.ensures ∙ c.if-is_empty.false)) in
-    rw (fault.1, fault.2) (subst (λ (text : List ℕ). Puts {A = Unit {0}} old new failed held text (Err c.in_err-put.field-0.0) now) there
+    let Put : List ℕ → Type 0 = λ text. Puts {A = Unit {0}} old new failed held text (Err c.in_err-put.field-0.0) now in
+    rw (fault.1, fault.2) (subst Put there
     (puts_failed c.put.result c.in_err-put.field-0.0 old new failed held word (codes " ") now now c.in_err-put.was
     c.put.ensures))
 

@@ -13,7 +13,8 @@ parts-init g c = record {
   written = c.requires.writer;
   most = omega arith;
   way = λ batches begun stands opened.
-      starts_egress c.args.gateway.now.names.now batches begun (g.R.Read.remaining (inner_of c.args.reader.now)) (g.W.Write.contents (inner_of c.args.writer.now))
+      starts_egress c.args.gateway.now.names.now batches begun (g.R.Read.remaining (inner_of c.args.reader.now))
+      (g.W.Write.contents (inner_of c.args.writer.now))
       c.args.first.now c.behind-parts.result.rest c.new-egress.result 0 opened c.behind-parts.ensures
       c.new-egress.ensures.kept c.new-egress.ensures.gathered c.new-egress.ensures.unheard refl;
 }
@@ -71,7 +72,8 @@ parts-preserved g c =
           c.take.new.self in
           let way = goes_on_egress c.take.result names batches begun before after none old new (has_failed c.take.new.writer)
           c.parts.parts.rest c.next.new.self c.parts.egress c.take.new.self (18446744073709551615 - left)
-          (18446744073709551615 - (left - 1)) c.in_ok-take.field-0 c.in_ok-take.was fewer (c.parts.invariant.way batches begun stands opened)
+          (18446744073709551615 - (left - 1)) c.in_ok-take.field-0 c.in_ok-take.was fewer
+          (c.parts.invariant.way batches begun stands opened)
           (met_part before after c.parts.parts.rest c.next.new.self c.in_ok-next.field-0 c.if-not-branch.false
           c.in_ok-next.ensures.part)
           (subst Taken c.part-part.ensures (λ octets text h. c.take.ensures.taken batches octets text stands h)) in
@@ -116,7 +118,8 @@ returns-in_err-write_out-clause-part g c batches begun stands opened =
     let fewer : 18446744073709551615 - (left - 1) ≤ 18446744073709551615 - left + 1 = omega arith in
     let way = goes_on_egress c.take.result names batches begun before after none old new (has_failed c.take.new.writer)
     c.parts.parts.rest c.next.new.self c.parts.egress c.take.new.self (18446744073709551615 - left)
-    (18446744073709551615 - (left - 1)) c.in_ok-take.field-0 c.in_ok-take.was fewer (c.parts.invariant.way batches begun stands opened)
+    (18446744073709551615 - (left - 1)) c.in_ok-take.field-0 c.in_ok-take.was fewer
+    (c.parts.invariant.way batches begun stands opened)
     (met_part before after c.parts.parts.rest c.next.new.self c.in_ok-next.field-0 c.if-not-branch.false
     c.in_ok-next.ensures.part)
     (subst Taken c.part-part.ensures (λ octets text h. c.take.ensures.taken batches octets text stands h)) in

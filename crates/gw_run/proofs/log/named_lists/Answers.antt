@@ -1,5 +1,6 @@
 use Rattle.std.proofs.Common.{◌≡◌, ◌∙◌, ◌<◌, ◌++◌, ℕ, List, Vec, Global, ap, subst, sym, drop, length, slice_index_or, arith, []}
-use Rattle.gw_run.specs.Logs.{port_named, taken_at}
+use Rattle.gw_judge.specs.Interfaces.{port_named}
+use Rattle.gw_run.specs.Logs.{taken_at}
 use Rattle.gw_run.proofs.LogLines.{lists_of_all}
 use Rattle.gw_run.proofs.log.named_lists.Goals as goal
 

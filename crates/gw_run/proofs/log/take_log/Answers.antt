@@ -1,7 +1,8 @@
 use Rattle.std.proofs.Common.{◌≡◌, ◌∙◌, ◌<◌, [], ap, slice_index_or, subst, sym, arith, rules}
 use Rattle.std.proofs.lemmas.Grind.{common_steps}
 use Rattle.gw_log.specs.LogLines.{line_of}
-use Rattle.gw_run.specs.Logs.{port_named, taken, taken_at}
+use Rattle.gw_judge.specs.Interfaces.{port_named, taken}
+use Rattle.gw_run.specs.Logs.{taken_at}
 use Rattle.gw_run.proofs.LogLines.{no_line_more, one_line_more, taken_first, taken_none}
 use Rattle.gw_run.proofs.log.take_log.Goals as goal
 

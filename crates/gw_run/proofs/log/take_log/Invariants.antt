@@ -1,5 +1,6 @@
 use Rattle.std.proofs.Common.{◌≡◌, ◌<◌, ◌++◌, ℕ, length, slice_index_or}
-use Rattle.gw_run.specs.Logs.{port_named, taken_at}
+use Rattle.gw_judge.specs.Interfaces.{port_named}
+use Rattle.gw_run.specs.Logs.{taken_at}
 use Rattle.gw_run.proofs.log.take_log.Given as goal
 
 abbrev pub invariant-lines : goal.invariant-lines

@@ -6,8 +6,9 @@ use Rattle.gw_judge.proofs.egress.Egress.take.Goals as goal
 pub returns-then-not-ends_line-clause-taken : goal.returns-then-not-ends_line-clause-taken
 returns-then-not-ends_line-clause-taken g c batches octets text stands h =
     let self = c.args.self.now in
-    takes_open_part c.args.gateway.now.names.now batches octets c.args.part.now text (g.W.Write.contents (inner_of c.args.writer.now))
-    self (record { kept = c.keep.new.kept; gathered = self.gathered; claims = self.claims }) h c.requires.part
+    takes_open_part c.args.gateway.now.names.now batches octets c.args.part.now text
+    (g.W.Write.contents (inner_of c.args.writer.now)) self
+    (record { kept = c.keep.new.kept; gathered = self.gathered; claims = self.claims }) h c.requires.part
     (sym c.ends_line.ensures ∙ c.if-not-ends_line.true) c.keep.ensures refl refl
 
 pub returns-clause-taken : goal.returns-clause-taken
