@@ -5,7 +5,7 @@ ghost use Rattle.gw_io.specs.Tries.{inner_of, has_failed};
 ghost use Rattle.gw_commands.specs.LogClaims.{AnswersLog, RefusesLog, TellsHolders, TellsHoldersNamed};
 
 use crate::answer::Answer;
-use crate::notes::{note_file, note_no_log, note_refused_lines};
+use crate::notes::{note_file, note_no_log, note_refused_lines, note_unopened};
 use crate::refusal::Refusal;
 use crate::responding::respond;
 use crate::segments::Segments;
@@ -53,7 +53,8 @@ pub fn claims_log_named<R: Files, W: Write, F: Write>(
             }
             respond(&found, output, faults)
         }
-        Err(_) => {
+        Err(why) => {
+            note_unopened(file, &why, faults);
             note_file(file, faults);
             respond(&Err(Refusal::ReadFault), output, faults)
         }

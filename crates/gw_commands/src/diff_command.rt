@@ -94,7 +94,7 @@ pub(crate) fn told_file<R: Files, F: Write>(
 ) -> Result<Vec<u8>, Refusal>
     ensures { IfErr result RefusesFile }
 {
-    match read_file(rt, alloc, file) {
+    match read_file(rt, alloc, file, faults) {
         Ok(text) => Ok(text),
         Err(refusal) => {
             note_file(file, faults);

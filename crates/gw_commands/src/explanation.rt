@@ -17,6 +17,10 @@ impl Display for Refusal {
             ),
             Refusal::Record(fault) => write!(f, "{fault}"),
             Refusal::Candump(why) => write!(f, "{why}"),
+            Refusal::RecordOnLine {
+                line,
+                fault: fault @ RecordFault::NoDigit { octet: b'(', .. },
+            } => write!(f, "line {line}: {fault}; `gw claims --log` reads a log"),
             Refusal::RecordOnLine { line, fault } => write!(f, "line {line}: {fault}"),
             Refusal::Listing(why) => write!(f, "{why}"),
             Refusal::Program {

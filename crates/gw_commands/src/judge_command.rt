@@ -95,7 +95,7 @@ pub fn judge_named<R: Files, I: Read, W: Write, F: Write>(
     ensures { JudgesNamed query (I.remaining (inner_of input.old)) (I.remaining (inner_of input.new)) (has_failed input.new)
         (W.contents (inner_of output.old)) (W.contents (inner_of output.new)) (has_failed output.new) result }
 {
-    match read_file(rt, alloc, file) {
+    match read_file(rt, alloc, file, faults) {
         Ok(text) => {
             let text = text.as_slice();
             judge_log(alloc, query, file, text, input, output, faults)

@@ -11,6 +11,7 @@ use gw_judge::{Head, NoFrame, NoLog, Tally};
 use gw_log::LogRefusal;
 use gw_table::Part;
 use std::alloc::Global;
+use std::io;
 use std::io::Write;
 
 /// Whether the identifier word has bits above the eleven of a standard frame and no flag of an extended one: mostly an
@@ -79,6 +80,11 @@ fn place_of(stated: &StatedTable, part: Part) -> Option<usize> {
         Part::Rule(number) => line_of_rule(stated.lines.as_slice(), number),
         Part::Default | Part::Other => None,
     }
+}
+
+/// Tells why a file cannot be opened.
+pub fn note_unopened<F: Write>(file: &str, why: &io::Error, faults: &mut Tried<F>) {
+    let _ = writeln!(faults, "gw: {file}: {why}");
 }
 
 /// Tells which file is refused, before its refusal.

@@ -105,7 +105,7 @@ pub fn answer_named<R: Files, W: Write, F: Write>(
     ensures { AnswersNamed query.entry (W.contents (inner_of output.old)) (W.contents (inner_of output.new))
         (has_failed output.new) result }
 {
-    match read_file(rt, alloc, file) {
+    match read_file(rt, alloc, file, faults) {
         Ok(octets) => answer_octets(alloc, query, file, octets, output, faults),
         Err(refusal) => {
             note_file(file, faults);

@@ -86,7 +86,7 @@ fn port_text<R: Files, F: Write>(
 ) -> Result<Vec<u8>, Refusal>
     ensures { IfErr result RefusesFile }
 {
-    let read = read_file(rt, alloc, path);
+    let read = read_file(rt, alloc, path, faults);
     if read.is_err() {
         let _ = writeln!(faults, "gw: the file of port {port}, {path}, is refused:");
     }

@@ -14,7 +14,7 @@ use crate::notes::note_input;
 use crate::observing::Observer;
 use crate::octets::read_trace;
 use crate::refusal::ForwardRefusal;
-use gw_commands::{PolicySource, Refusal, respond};
+use gw_commands::{PolicySource, Refusal, note_unopened, respond};
 use gw_io::Tried;
 use gw_ledger::Limits;
 use gw_policy::Batch;
@@ -121,8 +121,12 @@ fn read_port<'a, R: Files, F: Write>(
     let Some(file) = file else {
         return Ok(PortInput::Nothing);
     };
-    let Ok(opened) = fs::open(rt, file) else {
-        return Ok(PortInput::Unread(file));
+    let opened = match fs::open(rt, file) {
+        Ok(opened) => opened,
+        Err(why) => {
+            note_unopened(file, &why, faults);
+            return Ok(PortInput::Unread(file));
+        }
     };
     match read_trace(alloc, &mut Tried::new(opened)) {
         Ok(octets) => Ok(PortInput::Held(file, octets)),
