@@ -8,7 +8,8 @@ use Rattle.gw_table.specs.declared.table.Part.TheVariants.{Default, Other}
 use Rattle.gw_commands.specs.ClaimLines.{name_digits, holder_line}
 use Rattle.gw_commands.specs.declared.stated.StatedTable.{StatedTable}
 use Rattle.gw_commands.specs.Differences.{frames_line, side_text}
-use Rattle.gw_commands.specs.Shown.{groups_text, group_name, numbers_text}
+use Rattle.gw_commands.specs.GroupNames.{group_name}
+use Rattle.gw_commands.specs.Shown.{groups_text, numbers_text}
 use Rattle.gw_input.specs.Lines.{lines_of}
 use Rattle.gw_input.specs.RuleLines.{rule_lines, rule_name}
 

@@ -7,6 +7,7 @@ pub mod Commands
 pub mod Differences
 pub mod PortDifferences
 pub mod Frames
+pub mod GroupNames
 pub mod JsonCounts
 pub mod Judgings
 pub mod LogClaims

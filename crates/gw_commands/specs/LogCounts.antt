@@ -14,9 +14,12 @@ use Rattle.gw_table.specs.Table.{Meaning}
 use Rattle.gw_table.specs.TableText.{greatest, key_of}
 use Rattle.gw_policy.specs.Filter.{Filter}
 use Rattle.gw_input.specs.RuleLines.{rule_name}
+use Rattle.gw_judge.specs.declared.groups.Grouping.{Grouping}
+use Rattle.gw_judge.specs.declared.groups.Grouping.TheVariants as by
 use Rattle.gw_judge.specs.declared.groups.Verdicts.{Verdicts}
 use Rattle.gw_judge.specs.declared.tally.Tally.{Tally}
 use Rattle.gw_judge.specs.Grouped.{Grouped, other_group, no_verdicts}
+use Rattle.gw_commands.specs.GroupNames.{group_name}
 
 abbrev pub action_word : Action → List ℕ
 action_word Pass = codes "pass"
@@ -72,15 +75,21 @@ abbrev pub verdicts_text : Verdicts → List ℕ
 verdicts_text verdicts =
     codes " passed " ++ decimal verdicts.passed ++ codes " blocked " ++ decimal verdicts.blocked ++ codes "\n"
 
+-- what stands behind the number of a group: the name of a well-known parameter group
+abbrev pub name_in : Grouping → ℕ → List ℕ
+name_in by.Pgn group = group_name group
+name_in _ group = []
+
 -- the line of a group that has a frame
-abbrev pub group_text : List ℕ → ℕ → Verdicts → List ℕ
-group_text key group verdicts =
+abbrev pub group_text : List ℕ → ℕ → List ℕ → Verdicts → List ℕ
+group_text key group name verdicts =
     if (verdicts.passed == 0) && (verdicts.blocked == 0) then []
-    else key ++ codes " " ++ decimal group ++ verdicts_text verdicts
+    else key ++ codes " " ++ decimal group ++ name ++ verdicts_text verdicts
 
 -- a line for each group below a number that has a frame, in ascending order
 abbrev pub group_line : List ℕ → Grouped → ℕ → List ℕ
-group_line key groups group = group_text key group (slice_index_or groups.verdicts group no_verdicts)
+group_line key groups group =
+    group_text key group (name_in groups.grouping group) (slice_index_or groups.verdicts group no_verdicts)
 
 unfoldable pub group_lines : List ℕ → Grouped → ℕ → List ℕ
 group_lines key groups count = flat_map (group_line key groups) (range_with_len 0 count)

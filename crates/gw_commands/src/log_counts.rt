@@ -9,6 +9,7 @@ ghost use Rattle.gw_commands.specs.LogCounts.{
   group_counts,
   group_lines,
   group_text,
+  name_in,
   part_line,
   range_text,
   rule_count,
@@ -22,6 +23,7 @@ ghost use Rattle.gw_commands.specs.ToldCounts.{groups_told, policy_told, table_t
 ghost use Rattle.gw_commands.specs.declared.log_counts.CountForm.{CountForm};
 
 use crate::json_counts::{grouped_json, policy_json, table_json};
+use crate::show_command::group_name;
 use gw_input::line_of_rule;
 use gw_judge::{Decider, Grouping, Groups, Tally, Verdicts};
 use gw_policy::Policy;
@@ -184,7 +186,8 @@ fn push_groups(
     ensures { OnOk result (string_bytes text.new ≡ string_bytes text.old ++ group_lines key.now groups.now count) }
 {
     for group in 0..count {
-        push_group(text, key, group, groups.verdicts(group))?;
+        let name = name_in(groups.grouping(), group);
+        push_group(text, key, group, name, groups.verdicts(group))?;
     }
     Ok(())
 }
@@ -194,15 +197,26 @@ fn push_group(
     text: &mut String,
     key: &str,
     group: usize,
+    name: &str,
     verdicts: Verdicts,
 ) -> Result<(), AllocError>
-    ensures { OnOk result (string_bytes text.new ≡ string_bytes text.old ++ group_text key.now group verdicts) }
+    ensures { OnOk result (string_bytes text.new ≡ string_bytes text.old ++ group_text key.now group name.now verdicts) }
 {
     if verdicts.passed == 0 && verdicts.blocked == 0 {
         return Ok(());
     }
-    write!(text, "{key} {group}")?;
+    write!(text, "{key} {group}{name}")?;
     push_verdicts(text, verdicts)
+}
+
+/// What stands behind the number of a group: the name of a well-known parameter group.
+fn name_in(by: Grouping, group: usize) -> &'static str
+    ensures { result.now ≡ name_in by group }
+{
+    match by {
+        Grouping::Pgn => group_name(group),
+        _ => "",
+    }
 }
 
 /// How many frames of a group passed, and how many were blocked.

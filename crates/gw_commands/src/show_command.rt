@@ -1,11 +1,11 @@
 //! The command `table --show`: what the rules of a table say, in words.
 
 ghost use Rattle.std.specs.Prelude.{◌≡◌, ◌++◌, string_bytes, IfOk, IfErr, OnOk};
+ghost use Rattle.gw_commands.specs.GroupNames.{group_name};
 ghost use Rattle.gw_commands.specs.Shown.{
   AnswersShow,
   fields_text,
   group_count,
-  group_name,
   group_range,
   groups_text,
   holds_always,
@@ -148,7 +148,7 @@ pub(crate) fn push_groups(text: &mut String, range: Span) -> Result<(), AllocErr
         return push_group_range(text, range);
     }
     let group = range.low;
-    let name = group_name(group);
+    let name = group_name(group as usize);
     write!(text, ", pgn {group}{name}")
 }
 
@@ -158,7 +158,7 @@ fn push_group_range(text: &mut String, range: Span) -> Result<(), AllocError>
     ensures { OnOk result (string_bytes text.new ≡ string_bytes text.old ++ group_range range) }
 {
     let Span { low, high } = range;
-    let (first, last) = (group_name(low), group_name(high));
+    let (first, last) = (group_name(low as usize), group_name(high as usize));
     write!(text, ", pgns {low}{first} to {high}{last}")?;
     let count = group_count(range);
     write!(text, " (groups: {count})")
@@ -208,8 +208,8 @@ fn is_group(number: u64) -> bool
 }
 
 /// The name of a well-known parameter group.
-#[tactic(auto, unfolding(crate::specs::Shown::group_name))]
-fn group_name(number: u32) -> &'static str
+#[tactic(auto, unfolding(crate::specs::GroupNames::group_name))]
+pub(crate) fn group_name(number: usize) -> &'static str
     ensures { result.now ≡ group_name number }
 {
     match number {
