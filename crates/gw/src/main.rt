@@ -4,20 +4,26 @@
 use gw_cli::{command, diff_command, judge_command, run_command};
 use gw_io::Tried;
 use std::alloc::AllocError;
-use std::env;
+use std::io::{ErrorKind, Write};
 use std::process::ExitCode;
+use std::{env, io};
 
 fn main(rt: HostRuntime) -> ExitCode {
-    let Ok(arguments) = env::args(&rt) else {
-        return ExitCode::from(2);
+    let mut faults = Tried::new(rt.stderr());
+    let arguments = match env::args(&rt) {
+        Ok(arguments) => arguments,
+        Err(why) => {
+            let _ = writeln!(faults, "gw: {}", told(&why));
+            return ExitCode::from(2);
+        }
     };
     let words: Result<Vec<String>, AllocError> = arguments.skip(1).collect(rt.alloc());
     let Ok(words) = words else {
+        let _ = writeln!(faults, "gw: memory was refused");
         return ExitCode::from(2);
     };
     let mut input = Tried::new(rt.stdin());
     let mut output = Tried::new(rt.stdout());
-    let mut faults = Tried::new(rt.stderr());
     let alloc = rt.alloc();
     let status = match words.first() {
         Some(first) if first.as_str() == "run" => run_command(
@@ -42,4 +48,12 @@ fn main(rt: HostRuntime) -> ExitCode {
         _ => command(&rt, alloc, &words, &mut input, &mut output, &mut faults),
     };
     ExitCode::from(status)
+}
+
+/// Why the arguments cannot be read, as it is told.
+fn told(why: &io::Error) -> &'static str {
+    match why.kind() {
+        ErrorKind::OutOfMemory => "memory was refused",
+        _ => "an argument is no text: it is not UTF-8",
+    }
 }
