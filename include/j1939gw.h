@@ -120,7 +120,7 @@ enum jgw_refusal {
     JGW_NOT_UTF8 = 120,
     JGW_WRONG_HANDLE = 121, /* a handle of another kind, or one that holds nothing */
     JGW_NULL = 122,
-    JGW_NO_ROOM = 123,    /* fewer verdicts than frames */
+    JGW_NO_ROOM = 123,    /* fewer verdicts than frames, or room for fewer instructions */
     JGW_NOBODY = 124,     /* no NAME holds the address, or the NAME no address */
     JGW_NO_COPY = 125,    /* no copy waits for the port */
     JGW_COPIES_WAIT = 126 /* a copy waits: take the copies of all ports first */
@@ -203,6 +203,8 @@ uint32_t jgw_call_policy_share(struct jgw_handle *policy, struct jgw_handle *oth
 uint32_t jgw_call_verdict(struct jgw_handle *policy, const struct can_frame *frame, uint8_t port);
 uint32_t jgw_call_verdicts(struct jgw_handle *policy, const struct can_frame *frames, size_t count, uint8_t port,
                            uint32_t *verdicts, size_t room);
+uint32_t jgw_call_answer(struct jgw_handle *policy, const struct can_frame *frame, uint8_t port, uint32_t *answer);
+uint32_t jgw_call_policy_code(struct jgw_handle *policy, struct sock_filter *code, size_t room, uint32_t *count);
 uint32_t jgw_call_claims_new(struct jgw_handle *claims);
 uint32_t jgw_call_claims_hear(struct jgw_handle *claims, const struct can_frame *frame);
 uint32_t jgw_call_claims_holder(struct jgw_handle *claims, uint8_t address, uint64_t *name);
@@ -319,6 +321,25 @@ static inline uint32_t jgw_verdicts(struct jgw_handle *policy, const struct can_
     if (verdicts == NULL)
         verdicts = (uint32_t *)(void *)policy; /* of no room */
     return jgw_call_verdicts(policy, frames, count, port, verdicts, room);
+}
+
+/* FIXED. What the policy's program answers on a frame, as libpcap's bpf_filter does on its record: 0 blocks. A table has the
+ * program that it was compiled to. */
+static inline uint32_t jgw_answer(struct jgw_handle *policy, const struct can_frame *frame, uint8_t port, uint32_t *answer)
+{
+    return policy == NULL || frame == NULL || answer == NULL ? (uint32_t)JGW_NULL
+                                                             : jgw_call_answer(policy, frame, port, answer);
+}
+
+/* FIXED. The code of the policy's program, where there is room for it, and how many instructions it has. After JGW_NO_ROOM
+ * `count` says how many there must be room for. It is what jgw_policy_from_code takes, and a table's too. */
+static inline uint32_t jgw_policy_code(struct jgw_handle *policy, struct sock_filter *code, size_t room, uint32_t *count)
+{
+    if (policy == NULL || (code == NULL && room != 0) || count == NULL)
+        return JGW_NULL;
+    if (code == NULL)
+        code = (struct sock_filter *)(void *)policy; /* of no room */
+    return jgw_call_policy_code(policy, code, room, count);
 }
 
 /* ---- Address claims: which NAME holds which address of a segment, by the Address Claimed frames that were heard there ---- */

@@ -259,6 +259,52 @@ static void test_verdicts(void)
     EXPECT(jgw_verdict(&policy, frames, 0) == JGW_WRONG_HANDLE && !jgw_passes(&policy, frames, 0));
 }
 
+/* What stands in code is given back, and its answers are those of libpcap's bpf_filter: by hand, the second octet plus 1. */
+static void test_programs(void)
+{
+    struct jgw_handle policy = JGW_NOTHING;
+    struct sock_filter code[] = {{0x30, 0, 0, 1}, {0x15, 0, 1, 0xEF}, {0x06, 0, 0, 0}, {0x04, 0, 0, 1}, {0x16, 0, 0, 0}};
+    struct sock_filter back[6], empty = {7, 7, 7, 7};
+    struct can_frame passes = frame_of(0x8CF00400, ONES), blocked = frame_of(0x8CEF0400, ONES);
+    uint32_t answer = 7, count = 7;
+    for (int i = 0; i < 6; i++)
+        back[i] = empty;
+    EXPECT(jgw_answer(&policy, &passes, 0, &answer) == JGW_WRONG_HANDLE && answer == 7);
+    EXPECT(jgw_policy_code(&policy, back, 6, &count) == JGW_WRONG_HANDLE && count == 7);
+    EXPECT(jgw_policy_from_code(code, 5, &policy, NULL) == JGW_OK);
+    EXPECT(jgw_answer(&policy, &passes, 0, &answer) == JGW_OK && answer == 0xF1);
+    EXPECT(jgw_answer(&policy, &blocked, 0, &answer) == JGW_OK && answer == 0);
+    passes.len = 9;
+    answer = 7;
+    EXPECT(jgw_answer(&policy, &passes, 0, &answer) == JGW_BAD_LENGTH && answer == 7);
+    EXPECT(jgw_answer(NULL, &blocked, 0, &answer) == JGW_NULL && jgw_answer(&policy, NULL, 0, &answer) == JGW_NULL);
+    EXPECT(jgw_answer(&policy, &blocked, 0, NULL) == JGW_NULL);
+    EXPECT(jgw_policy_code(&policy, back, 4, &count) == JGW_NO_ROOM && count == 5 && back[0].code == 7);
+    EXPECT(jgw_policy_code(&policy, NULL, 0, &count) == JGW_NO_ROOM && count == 5);
+    EXPECT(jgw_policy_code(&policy, back, 6, &count) == JGW_OK && count == 5 && back[5].code == 7);
+    EXPECT(memcmp(back, code, sizeof code) == 0);
+    EXPECT(jgw_policy_code(NULL, back, 6, &count) == JGW_NULL && jgw_policy_code(&policy, NULL, 1, &count) == JGW_NULL);
+    EXPECT(jgw_policy_code(&policy, back, 6, NULL) == JGW_NULL);
+    jgw_free(&policy);
+}
+
+/* The program of a table, taken as code, passes what the table passes. */
+static void test_compiled(void)
+{
+    static struct sock_filter code[64];
+    struct jgw_handle policy = JGW_NOTHING, compiled = JGW_NOTHING;
+    struct can_frame engine = frame_of(0x8CF00400, ONES), tool = frame_of(0x98EA00F9, ONES);
+    uint32_t count = 0, answer = 7;
+    EXPECT(table(&policy, "[[rule]]\naction = \"pass\"\npgn = 61444\n", NULL) == JGW_OK);
+    EXPECT(jgw_policy_code(&policy, code, 64, &count) == JGW_OK && count > 0);
+    EXPECT(jgw_policy_from_code(code, count, &compiled, NULL) == JGW_OK);
+    EXPECT(jgw_verdict(&compiled, &engine, 0) == JGW_PASS && jgw_verdict(&compiled, &tool, 0) == JGW_BLOCK);
+    EXPECT(jgw_answer(&policy, &engine, 0, &answer) == JGW_OK && answer != 0);
+    EXPECT(jgw_answer(&policy, &tool, 0, &answer) == JGW_OK && answer == 0);
+    jgw_free(&policy);
+    jgw_free(&compiled);
+}
+
 static void test_handles(void)
 {
     struct jgw_handle policy = JGW_NOTHING, other = JGW_NOTHING, claims = JGW_NOTHING, moved;
@@ -333,6 +379,8 @@ int main(void)
     test_nesting();
     test_many_rules();
     test_verdicts();
+    test_programs();
+    test_compiled();
     test_handles();
     test_claims();
     printf("%u passed, %u failed\n", passed, failed);

@@ -4,6 +4,7 @@ pub mod Frames
 pub mod Held
 pub mod Faults
 pub mod Policies
+pub mod Programs
 pub mod Verdicts
 pub mod Hearing
 pub mod Gateways

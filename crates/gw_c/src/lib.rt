@@ -11,6 +11,7 @@ mod inner;
 mod offering;
 mod opening;
 mod policies;
+mod programs;
 mod renewing;
 mod sending;
 mod slot;
@@ -38,6 +39,7 @@ pub use policies::{
     SockFilter, jgw_call_policy_from_assembler, jgw_call_policy_from_code,
     jgw_call_policy_from_listing, jgw_call_policy_from_table, jgw_call_policy_share,
 };
+pub use programs::{jgw_call_answer, jgw_call_policy_code};
 pub use renewing::jgw_call_gateway_renew;
 pub use sending::{CCopy, jgw_call_gateway_next, jgw_call_gateway_peek};
 use std::alloc::Global;
