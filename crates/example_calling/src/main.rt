@@ -8,6 +8,7 @@
 mod every_order;
 mod fault;
 mod gateway;
+mod operator_thread;
 mod policies;
 mod replacing;
 mod threads;

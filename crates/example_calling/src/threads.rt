@@ -28,6 +28,7 @@ ghost use Rattle.example_calling.specs.Threads.{
 };
 
 use crate::fault::Fault;
+use crate::operator_thread::{OperatorPromise, replace_policies};
 use crate::replacing::publish;
 use j1939_gateway::{
     Batch, Frame, FrameCopy, Limits, Operator, Outcome, Parts, PortIn, PortOut, Report, close,
@@ -213,19 +214,6 @@ impl Promise<Drain> for DrainPromise {
     ghost kept_by = { λ p done. HasSent p.0.value done };
 }
 
-// What is known of a thread that published a batch.
-#[derive(Drop)]
-struct OperatorPromise(Snapshot<Operator>, Snapshot<Batch>);
-
-impl Promise<(Operator, Result<(), Fault>)> for OperatorPromise {
-    ghost use Rattle.std.specs.Prelude.{◌≡◌, MatchResult};
-    ghost use Rattle.example_calling.specs.Replacing.{IsNotPublished};
-    ghost use Rattle.example_calling.specs.Threads.{with_batch};
-
-    ghost kept_by = { λ p done.
-        MatchResult done.1 (λ u. done.0 ≡ with_batch p.0.value p.1.value) (IsNotPublished p.0.value p.1.value) };
-}
-
 /// Starts a thread for each end, and joins them. Copies are taken out until no frame is offered any more and none waits.
 fn run_ends<'s, E, R: Threads + Wait + Sync>(
     threads: &'s Scope<'s, E>,
@@ -306,19 +294,6 @@ fn put_together(
     published?;
     let feed = offered?;
     Ok((operator, feed))
-}
-
-/// Publishes the batch, and hands the operator back. It waits for ports that are reading.
-fn replace_policies<R: Wait>(
-    rt: &R,
-    operator: Operator,
-    batch: Batch,
-) -> (Operator, Result<(), Fault>)
-    ensures { MatchResult result.1 (λ done. result.0 ≡ with_batch operator batch) (IsNotPublished operator batch) }
-{
-    let mut held = operator;
-    let published = publish(rt, &mut held, batch);
-    (held, published)
 }
 
 /// Offers the frames in order, up to one that is refused.
