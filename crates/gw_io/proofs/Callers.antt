@@ -5,7 +5,7 @@ use Rattle.std.proofs.Common.{take, drop, Option, Some}
 use Rattle.std.proofs.Common.{None, Ok}
 use Rattle.std.proofs.Common.{sym, ap, ◌∙◌, subst, refl, true≢false}
 use Rattle.std.proofs.lemmas.Bool.{false≢true}
-use Rattle.std.proofs.Common.{append_assoc, append-nil, arith}
+use Rattle.std.proofs.Common.{append_assoc, arith}
 use Rattle.std.specs.Io.KnownBytes.{Appends, Consumes, IsAtEnd, Keeps}
 use Rattle.std.proofs.Math.Seq.{take-length}
 use Rattle.std.proofs.lemmas.List.{take_all}

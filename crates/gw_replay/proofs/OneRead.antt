@@ -15,7 +15,6 @@ use Rattle.gw_frame.specs.Record as frame
 use Rattle.gw_frame.specs.Record.{IsRecord, payload_length, refusal_of}
 use Rattle.gw_insn.specs.declared.insn.Insn.{Insn}
 use Rattle.gw_insn.specs.declared.reading.ListRefusal.{ListRefusal}
-use Rattle.gw_insn.specs.declared.reading.ListRefusal.TheVariants as list
 use Rattle.gw_insn.specs.Table.{insn_of}
 use Rattle.gw_insn.specs.Listing.{refusal_number}
 use Rattle.gw_insn.proofs.Callers.{listing_alone, only_memory}
