@@ -351,7 +351,7 @@ fn put_frame<W: Write>(
     put_untimed(said.frame(), interface, gathered, writer)
 }
 
-/// Puts the line of a frame at an interface, but for its time.
+/// Puts the line of a frame at an interface, without its time.
 fn put_untimed<W: Write>(
     frame: &Frame,
     interface: &str,
