@@ -1,5 +1,6 @@
 -- What is known of a reader or a writer that remembers its calls.
-use Rattle.std.specs.Prelude.{ℕ, Bool, not, ◌&&◌, if◌then◌else◌}
+use Rattle.std.specs.Prelude.{ℕ, Bool, not, ◌&&◌, if◌then◌else◌, Option}
+use Rattle.std.specs.declared.io.Error.{Error}
 use Rattle.gw_io.specs.declared.tried.Tried.{Tried}
 
 -- the reader or writer itself
@@ -9,6 +10,10 @@ inner_of t = t.inner
 -- a call failed, or a write of at least one octet took nothing
 abbrev pub has_failed : {T : Type 0} → Tried T → Bool
 has_failed t = t.failed
+
+-- the error by which a call failed last
+abbrev pub error_of : {T : Type 0} → Tried T → Option Error
+error_of t = t.error
 
 -- a read of at least one octet gave none
 abbrev pub has_ended : {T : Type 0} → Tried T → Bool
