@@ -188,10 +188,9 @@ unfolding line_of words_of is_blank is_marked frame_of digit
 of_no_frame_1 = (refl, refl, refl, refl, refl, refl, refl, refl, refl, refl)
 
 of_no_frame_2 : (line_of (codes "      0         0.000 DT  1 18FEF100 Rx -  8    01 02 03 04 05 06 07 08 \n") ≡ Err NoFrame)
-    × (line_of (codes "98FEF100080000000102030405060708\n") ≡ Err NoFrame)
     × (line_of (codes "t18FEF1001 01\n") ≡ Err NoFrame)
 unfolding line_of words_of is_blank is_marked frame_of digit
-of_no_frame_2 = (refl, refl, refl)
+of_no_frame_2 = (refl, refl)
 
 -- 104
 of_words_before : (line_of (codes "(1763800000.249713) can0 18FEF100 #01\n") ≡ Err WordsBefore)
@@ -273,3 +272,18 @@ of_bad_code = (refl, refl)
 longest : (line_of (replicate 65536 32) ≡ Ok None) × (line_of (replicate 65537 32) ≡ Err LongLine)
 unfolding line_of is_blank
 longest = (refl, refl)
+
+-- records in digits
+of_recorded : (line_of (codes "98FEF100080000000102030405060708\n")
+    ≡ says [] [] 0x98FEF100 (1 ∷ 2 ∷ 3 ∷ 4 ∷ 5 ∷ 6 ∷ 7 ∷ 8 ∷ []))
+    × (line_of (codes "  000007df03000000 02010C\n") ≡ Err NoFrame)
+    × (line_of (codes "000007df0300000002010C") ≡ says [] [] 0x7DF (2 ∷ 1 ∷ 12 ∷ []))
+    × (line_of (codes "(1.0) D8EA00F900000000 \r\n") ≡ says (codes "(1.0)") [] 0xD8EA00F9 [])
+    × (line_of (codes "can0 98FEF10000000000\n") ≡ Err NoFrame)
+    × (line_of (codes "98FEF100000000\n") ≡ Err NoFrame)
+    × (line_of (codes "98FEF100000000000\n") ≡ Err OddDigits)
+    × (line_of (codes "98FEF1000200000001\n") ≡ Err BadLength)
+    × (line_of (codes "98FEF1000900000001020304050607\n") ≡ Err BadLength)
+    × (line_of (codes "98FEF10008000000010203040506070809\n") ≡ Err BadLength)
+unfolding line_of words_of is_blank is_marked frame_of digit
+of_recorded = (refl, refl, refl, refl, refl, refl, refl, refl, refl, refl)

@@ -1,14 +1,16 @@
 -- The lines of a log: `(time) interface frame`, as `candump -l` writes them, a frame alone, and the display form of candump,
--- `can0  18FEF100   [2]  01 02`.
-use Rattle.std.specs.Prelude.{ℕ, ◌+◌, ◌-◌, Bool, true, false, not, ◌==◌, ◌&&◌, ◌||◌, nat_lt, nat_le, if◌then◌else◌}
+-- `can0  18FEF100   [2]  01 02`, and records in digits.
+use Rattle.std.specs.Prelude.{ℕ, ◌+◌, ◌-◌, ◌%◌, Bool, true, false, not, ◌==◌, ◌&&◌, ◌||◌, nat_lt, nat_le, if◌then◌else◌}
 use Rattle.std.specs.Prelude.{List, [], ◌∷◌, length, take, drop, slice_index, slice_index_or, codes, position}
 use Rattle.std.specs.Prelude.{Option, Some, None, Result, Ok, Err}
 use Rattle.std.specs.List.{list_any, list_all, filter, slice_split, flat_map, prefix_len}
 use Rattle.std.specs.Str.{bytes_eq}
 use Rattle.hex.specs.Hex.{is_hex_digit}
+use Rattle.gw_frame.specs.declared.refusal.FrameRefusal.{FrameRefusal}
+use Rattle.gw_frame.specs.Record.{refusal_of}
 use Rattle.gw_log.specs.declared.refusal.LogRefusal.{LogRefusal}
-use Rattle.gw_log.specs.declared.refusal.LogRefusal.TheVariants.{CanFd, OpenTime, NoFrame, WordsBefore, DigitsBehind, BadLength}
-use Rattle.gw_log.specs.declared.refusal.LogRefusal.TheVariants.{LongLine}
+use Rattle.gw_log.specs.declared.refusal.LogRefusal.TheVariants.{CanFd, OpenTime, NoFrame, WordsBefore, DigitsBehind, OddDigits}
+use Rattle.gw_log.specs.declared.refusal.LogRefusal.TheVariants.{BadLength, LongLine}
 use Rattle.gw_log.specs.LogFrames.{frame_of, identifier, pairs, with_word, remote_of}
 
 -- space, tab, CR and LF, so that a line means the same with its end and without it
@@ -114,14 +116,36 @@ shown time words index (Ok n) = shown_as time (named words index) words (index +
 abbrev pub displayed : List ℕ → List (List ℕ) → ℕ → Reading
 displayed time words index = shown time words index (bracketed (word_at words index))
 
+-- ---- a record in digits, alone or behind a time
+
+-- a record has 8 octets at least, of two digits each
+abbrev pub is_recorded : List ℕ → Bool
+is_recorded word = nat_le 16 (length word) && list_all is_hex_digit word
+
+abbrev pub record_in : List ℕ → Option FrameRefusal → Result (List ℕ) LogRefusal
+record_in octets None = Ok octets
+record_in octets (Some why) = Err BadLength
+
+-- and 16 at most
+abbrev pub recorded : List ℕ → Result (List ℕ) LogRefusal
+recorded word =
+    if length word % 2 == 1 then Err OddDigits
+    else if nat_lt 32 (length word) then Err BadLength
+    else record_in (pairs word) (refusal_of (pairs word))
+
+abbrev pub alone : List ℕ → List (List ℕ) → Reading
+alone time words =
+    if is_recorded (word_at words 0) && not (has_octets (word_at words 1)) then entry time [] (recorded (word_at words 0))
+    else Err NoFrame
+
 -- ---- a line
 
--- the first word that has a `#` or begins with `[` tells the form
+-- the first word that has a `#` or begins with `[` tells the form; where there is none, a record may stand
 unfoldable pub is_marked : List ℕ → Bool
 is_marked word = (slice_index word 0 == 91) || list_any (λ c. c == 35) word
 
 abbrev pub in_form : List ℕ → List (List ℕ) → Option ℕ → Reading
-in_form time words None = Err NoFrame
+in_form time words None = alone time words
 in_form time words (Some index) =
     if slice_index (word_at words index) 0 == 91 then displayed time words index else logged time words index
 

@@ -1,6 +1,6 @@
 //! Hexadecimal digits of either case.
 
-ghost use Rattle.std.specs.Prelude.{◌≡◌, ◌<◌, ◌≤◌, length, IfSome};
+ghost use Rattle.std.specs.Prelude.{◌≡◌, ◌<◌, ◌≤◌, ◌*◌, length, IfSome};
 ghost use Rattle.std.specs.List.{list_all};
 ghost use Rattle.hex.specs.Hex.{hex_digit_value, is_hex_digit};
 ghost use Rattle.gw_log.specs.LogFrames.{digit, pairs, spelled};
@@ -74,9 +74,9 @@ pub fn spelled(digits: &[u8]) -> u32
     n
 }
 
-/// The octets that at most sixteen digits spell, two an octet.
-pub fn octets(digits: &[u8]) -> ArrayVec<u8, 8>
-    requires { length digits.now ≤ 16 }
+/// The octets that digits spell, two an octet.
+pub fn octets<const N: usize>(digits: &[u8]) -> ArrayVec<u8, N>
+    requires { length digits.now ≤ 2 * N }
     ensures { result.items ≡ pairs digits.now }
 {
     let mut octets = ArrayVec::new();

@@ -7,6 +7,7 @@ mod law;
 mod line;
 mod payload;
 mod reading;
+mod recorded;
 mod refusal;
 mod words;
 mod writing;

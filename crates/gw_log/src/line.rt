@@ -5,6 +5,7 @@ ghost use Rattle.gw_log.specs.LogLines.{
   words_of,
   entry,
   is_torn,
+  alone,
   displayed,
   in_words,
   timed,
@@ -16,6 +17,7 @@ use crate::digits::are_digits;
 use crate::display;
 use crate::payload::position_of;
 use crate::reading::read_frame;
+use crate::recorded::{is_recorded, recorded};
 use crate::refusal::LogRefusal;
 use crate::words::{behind_blanks, find_marked, is_bracketed, word_at};
 use gw_frame::Frame;
@@ -65,8 +67,8 @@ impl<'a> LogLine<'a> {
 
 /// What a line of a log says, with its end or without it. None for blanks alone, and for a comment, which `#` begins.
 ///
-/// `(time) interface frame` and the display form of candump are read, and a frame alone too. 101 to 113 (`LogRefusal`) refuse
-/// any other line.
+/// `(time) interface frame` and the display form of candump are read, a frame alone too, and a record in digits. 101 to 113
+/// (`LogRefusal`) refuse any other line.
 #[tactic(auto, unfolding(crate::specs::LogLines::line_of))]
 pub fn read_line(line: &[u8]) -> Result<Option<LogLine<'_>>, LogRefusal>
     ensures { result ≡ line_of line.now }
@@ -104,7 +106,7 @@ fn in_words<'a>(time: &'a [u8], text: &'a [u8]) -> Result<Option<LogLine<'a>>, L
     ensures { result ≡ in_words time.now (words_of text.now) }
 {
     let Some(marked) = find_marked(text) else {
-        return Err(LogRefusal::NoFrame);
+        return alone(time, text);
     };
     if is_bracketed(marked.word) {
         return displayed(time, text, marked.index);
@@ -116,6 +118,18 @@ fn in_words<'a>(time: &'a [u8], text: &'a [u8]) -> Result<Option<LogLine<'a>>, L
         return Err(LogRefusal::DigitsBehind);
     }
     entry(time, marked.before, read_frame(marked.word))
+}
+
+/// What a line says without a frame in candump's form: a record in digits may stand alone.
+fn alone<'a>(time: &'a [u8], text: &'a [u8]) -> Result<Option<LogLine<'a>>, LogRefusal>
+    ensures { result ≡ alone time.now (words_of text.now) }
+{
+    let word = word_at(text, 0);
+    if is_recorded(word) && word_at(text, 1).is_empty() {
+        entry(time, &[], recorded(word))
+    } else {
+        Err(LogRefusal::NoFrame)
+    }
 }
 
 /// What a line of the display says.

@@ -17,7 +17,7 @@ pub enum LogRefusal {
     CanFd,
     /// 102: a time without its `)`.
     OpenTime,
-    /// 103: no `#`; in a line no word with one, and none of brackets behind an identifier.
+    /// 103: no `#`; in a line no word with one, none of brackets behind an identifier, and no record in digits alone.
     NoFrame,
     /// 104: more than an interface between the time and the frame.
     WordsBefore,
@@ -29,9 +29,9 @@ pub enum LogRefusal {
     BadDigits,
     /// 108: an identifier of 3 digits above 7FF, or of 8 above 3FFFFFFF.
     WideId,
-    /// 109: an octet of one digit, or a dot that does not stand between octets.
+    /// 109: an octet of one digit, also in a record, or a dot that does not stand between octets.
     OddDigits,
-    /// 110: more than 8 octets, or not as many octets as the brackets say.
+    /// 110: more than 8 octets, or not as many as the brackets or the record say.
     BadLength,
     /// 111: behind the `R` of a remote frame no length of 0 to 8; or a remote frame that is an error frame.
     BadRemote,
@@ -98,7 +98,9 @@ impl LogRefusal {
             }
             LogRefusal::OddDigits =>
                 "an octet has two digits, and a dot stands between octets alone",
-            LogRefusal::BadLength => "a payload has at most 8 octets",
+            LogRefusal::BadLength => {
+                "a payload has at most 8 octets, and as many as its line says"
+            }
             LogRefusal::BadRemote => {
                 "behind `R` stands a length of 0 to 8 or nothing, and no error frame is remote"
             }

@@ -300,7 +300,10 @@ const NO_FRAME: [(LogRefusal, &str); 13] = [
         LogRefusal::OddDigits,
         "an octet has two digits, and a dot stands between octets alone",
     ),
-    (LogRefusal::BadLength, "a payload has at most 8 octets"),
+    (
+        LogRefusal::BadLength,
+        "a payload has at most 8 octets, and as many as its line says",
+    ),
     (
         LogRefusal::BadRemote,
         "behind `R` stands a length of 0 to 8 or nothing, and no error frame is remote",
