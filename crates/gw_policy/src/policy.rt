@@ -1,6 +1,6 @@
 //! A policy: a program, or a table with the program that it was compiled to.
 
-ghost use Rattle.std.specs.Prelude.{◌≡◌, Some, None, IfOk, IfErr};
+ghost use Rattle.std.specs.Prelude.{◌≡◌, Some, None, IfOk, IfErr, option_copied};
 ghost use Rattle.gw_table.specs.Emission.{emission};
 
 use gw_frame::Frame;
@@ -61,6 +61,13 @@ impl Policy {
         ensures means { IsFilter self.now }
     {
         &self.program
+    }
+
+    /// The table, where the policy is one, with its index.
+    pub fn table(&self) -> Option<&IndexedTable>
+        ensures { option_copied result ≡ self.now.table }
+    {
+        self.table.as_ref()
     }
 
     /// Whether a frame that was taken at the port `from` passes. A table is judged by its index, which is faster than to run
