@@ -47,7 +47,16 @@ fn main(rt: HostRuntime) -> ExitCode {
         }
         _ => command(&rt, alloc, &words, &mut input, &mut output, &mut faults),
     };
+    tell_error("stdin", input.error(), &mut faults);
+    tell_error("stdout", output.error(), &mut faults);
     ExitCode::from(status)
+}
+
+/// Tells by which error a stream failed, if one did.
+fn tell_error<F: Write>(stream: &str, error: Option<io::Error>, faults: &mut Tried<F>) {
+    if let Some(error) = error {
+        let _ = writeln!(faults, "gw: {stream}: {error}");
+    }
 }
 
 /// Why the arguments cannot be read, as it is told.

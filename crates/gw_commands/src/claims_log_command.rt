@@ -5,7 +5,7 @@ ghost use Rattle.gw_io.specs.Tries.{inner_of, has_failed};
 ghost use Rattle.gw_commands.specs.LogClaims.{AnswersLog, RefusesLog, TellsHolders, TellsHoldersNamed};
 
 use crate::answer::Answer;
-use crate::notes::{note_file, note_no_log, note_refused_lines, note_unopened};
+use crate::notes::{note_file, note_no_log, note_refused_lines, note_unread};
 use crate::refusal::Refusal;
 use crate::responding::respond;
 use crate::segments::Segments;
@@ -47,14 +47,18 @@ pub fn claims_log_named<R: Files, W: Write, F: Write>(
 {
     match fs::open(rt, file) {
         Ok(opened) => {
-            let found = heard(alloc, &mut Tried::new(opened), faults);
+            let mut reader = Tried::new(opened);
+            let found = heard(alloc, &mut reader, faults);
+            if let Some(why) = reader.error() {
+                note_unread(file, &why, faults);
+            }
             if found.is_err() {
                 note_file(file, faults);
             }
             respond(&found, output, faults)
         }
         Err(why) => {
-            note_unopened(file, &why, faults);
+            note_unread(file, &why, faults);
             note_file(file, faults);
             respond(&Err(Refusal::ReadFault), output, faults)
         }

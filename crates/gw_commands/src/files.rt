@@ -3,7 +3,7 @@
 ghost use Rattle.std.specs.Prelude.{IfErr};
 ghost use Rattle.gw_commands.specs.Policies.{RefusesFile};
 
-use crate::notes::note_unopened;
+use crate::notes::note_unread;
 use crate::refusal::Refusal;
 use crate::streams::read_input;
 use gw_io::Tried;
@@ -13,7 +13,7 @@ use std::io::Write;
 use std::rt::Files;
 
 /// What a file holds: 96 where it cannot be opened or a read failed, 98 for more than 1048576 octets, 100 for want of memory. A
-/// person is told why it cannot be opened.
+/// person is told why it cannot be opened or read.
 pub fn read_file<R: Files, F: Write>(
     rt: &R,
     alloc: Global,
@@ -23,9 +23,16 @@ pub fn read_file<R: Files, F: Write>(
     ensures { IfErr result RefusesFile }
 {
     match fs::open(rt, path) {
-        Ok(file) => read_input(alloc, &mut Tried::new(file)),
+        Ok(file) => {
+            let mut reader = Tried::new(file);
+            let found = read_input(alloc, &mut reader);
+            if let Some(why) = reader.error() {
+                note_unread(path, &why, faults);
+            }
+            found
+        }
         Err(why) => {
-            note_unopened(path, &why, faults);
+            note_unread(path, &why, faults);
             Err(Refusal::ReadFault)
         }
     }

@@ -22,7 +22,7 @@ use crate::answer::Answer;
 use crate::capture_command::judge_frames;
 use crate::files::read_file;
 use crate::log_counts::{CountForm, TellsParts, told_text};
-use crate::notes::{note_file, note_no_log, note_refused_lines};
+use crate::notes::{note_file, note_no_log, note_port_form, note_refused_lines};
 use crate::refusal::Refusal;
 use crate::responding::{respond, write_refusal};
 use crate::stated::StatedTable;
@@ -101,6 +101,7 @@ pub fn judge_named<R: Files, I: Read, W: Write, F: Write>(
             judge_log(alloc, query, file, text, input, output, faults)
         }
         Err(unread) => {
+            note_port_form(file, faults);
             note_file(file, faults);
             respond(&Err(unread), output, faults)
         }

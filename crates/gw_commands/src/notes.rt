@@ -11,8 +11,9 @@ use gw_judge::{Head, NoFrame, NoLog, Tally};
 use gw_log::LogRefusal;
 use gw_table::Part;
 use std::alloc::Global;
-use std::io;
+use std::fmt::{Display, Formatter};
 use std::io::Write;
+use std::{fmt, io};
 
 /// Whether the identifier word has bits above the eleven of a standard frame and no flag of an extended one: mostly an
 /// identifier that was copied from a bus monitor without the flag.
@@ -82,9 +83,22 @@ fn place_of(stated: &StatedTable, part: Part) -> Option<usize> {
     }
 }
 
-/// Tells why a file cannot be opened.
-pub fn note_unopened<F: Write>(file: &str, why: &io::Error, faults: &mut Tried<F>) {
+/// Tells why a file cannot be opened or read.
+pub fn note_unread<F: Write>(file: &str, why: &io::Error, faults: &mut Tried<F>) {
     let _ = writeln!(faults, "gw: {file}: {why}");
+}
+
+/// Tells of a file's name that begins with a port, as where each port has a file.
+pub fn note_port_form<F: Write>(file: &str, faults: &mut Tried<F>) {
+    if let Some((port, _)) = file.split_once('=') {
+        if !port.is_empty() && port.bytes().all(|c| c.is_ascii_digit()) {
+            let _ = writeln!(
+                faults,
+                "gw: P=FILE names the file of port P for `gw run` and `gw judge --out`; one policy is --table FILE, and --port P \
+                is the ingress port"
+            );
+        }
+    }
 }
 
 /// Tells which file is refused, before its refusal.

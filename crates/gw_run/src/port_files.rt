@@ -14,7 +14,7 @@ use crate::notes::note_input;
 use crate::observing::Observer;
 use crate::octets::read_trace;
 use crate::refusal::ForwardRefusal;
-use gw_commands::{PolicySource, Refusal, note_unopened, respond};
+use gw_commands::{PolicySource, Refusal, note_unread, respond};
 use gw_io::Tried;
 use gw_ledger::Limits;
 use gw_policy::Batch;
@@ -124,11 +124,16 @@ fn read_port<'a, R: Files, F: Write>(
     let opened = match fs::open(rt, file) {
         Ok(opened) => opened,
         Err(why) => {
-            note_unopened(file, &why, faults);
+            note_unread(file, &why, faults);
             return Ok(PortInput::Unread(file));
         }
     };
-    match read_trace(alloc, &mut Tried::new(opened)) {
+    let mut reader = Tried::new(opened);
+    let read = read_trace(alloc, &mut reader);
+    if let Some(why) = reader.error() {
+        note_unread(file, &why, faults);
+    }
+    match read {
         Ok(octets) => Ok(PortInput::Held(file, octets)),
         Err(ForwardRefusal::Trace(_)) => Ok(PortInput::Unread(file)),
         Err(_) => {
