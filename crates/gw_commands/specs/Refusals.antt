@@ -22,7 +22,7 @@ number_of (Program refused path) = cause_number refused.why
 number_of (Explained refused path lines) = cause_number refused.why
 number_of (Assembler why text) = asm.refusal_number why
 number_of ReadFault = 96
-number_of (Table why line) = table.refusal_number why
+number_of (Table why place) = table.refusal_number why
 number_of TooMuchInput = 98
 number_of NotUtf8 = 98
 number_of refusal.OutOfMemory = 100
@@ -39,7 +39,7 @@ details_of (Listing why) = listing_details why
 details_of (Program refused path) = cause_details refused.why refused.place
 details_of (Explained refused path lines) = cause_details refused.why refused.place
 details_of (Assembler why text) = line_details (asm.refusal_line why)
-details_of (Table why line) = table_details why
+details_of (Table why place) = table_details why
 details_of _ = []
 
 abbrev pub refusal_line : Refusal → List ℕ

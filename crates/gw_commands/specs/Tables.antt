@@ -1,14 +1,12 @@
 -- What the command `table` answers and refuses.
-use Rattle.std.specs.Prelude.{◌≡◌, ℕ, ◌⊎◌, List, [], ◌∷◌, ◌++◌, map, Option, Some, None, slice_get, option_and_then}
+use Rattle.std.specs.Prelude.{◌≡◌, ℕ, ◌⊎◌, List, [], ◌∷◌, ◌++◌, map, Option, Some, None}
 use Rattle.std.specs.Str.{IsUtf8}
 use Rattle.gw_insn.specs.Table.{raw_of}
 use Rattle.gw_insn.specs.Spelling.{plain_listing}
-use Rattle.gw_table.specs.declared.refusal.TableRefusal.{TableRefusal}
 use Rattle.gw_table.specs.Table.{Meaning, table_passes}
 use Rattle.gw_table.specs.TableText.{IsTableRefusal}
 use Rattle.gw_table.specs.Emission.{emission}
-use Rattle.gw_input.specs.Refused.{refused_rule}
-use Rattle.gw_input.specs.RuleLines.{rule_lines}
+use Rattle.gw_input.specs.Places.{IsToldPlace}
 use Rattle.gw_input.specs.Tables.{IsTable}
 use Rattle.gw_commands.specs.declared.answer.Answer.{Answer}
 use Rattle.gw_commands.specs.declared.answer.Answer.TheVariants.{Passes, Text}
@@ -29,14 +27,10 @@ AnswersTable (Some word) port input (Passes passes) =
     × (passes ≡ table_passes table octets port)
 AnswersTable _ port input _ = ⊥
 
--- the line that is told: that at which the rule begins that a refusal names
-abbrev pub told_line : List ℕ → TableRefusal → Option ℕ
-told_line input why = option_and_then (slice_get (rule_lines input)) (refused_rule why)
-
 -- what refuses a table's text; memory may be wanting for the listing of a table
 abbrev pub RefusesText : List ℕ → Refusal → Type 0
 RefusesText input NotUtf8 = IsUtf8 input → ⊥
-RefusesText input (Table why line) = IsUtf8 input × IsTableRefusal input why × (line ≡ told_line input why)
+RefusesText input (Table why place) = IsUtf8 input × IsTableRefusal input why × IsToldPlace input why place
 RefusesText input OutOfMemory = (table : Meaning) × IsTable input table
 RefusesText input _ = ⊥
 

@@ -52,15 +52,16 @@ pub fn claims_log_named<R: Files, W: Write, F: Write>(
             if let Some(why) = reader.error() {
                 note_unread(file, &why, faults);
             }
-            if found.is_err() {
-                note_file(file, faults);
+            if let Err(refusal) = &found {
+                note_file(file, refusal, faults);
             }
             respond(&found, output, faults)
         }
         Err(why) => {
             note_unread(file, &why, faults);
-            note_file(file, faults);
-            respond(&Err(Refusal::ReadFault), output, faults)
+            let refusal = Refusal::ReadFault;
+            note_file(file, &refusal, faults);
+            respond(&Err(refusal), output, faults)
         }
     }
 }

@@ -97,7 +97,7 @@ pub(crate) fn told_file<R: Files, F: Write>(
     match read_file(rt, alloc, file, faults) {
         Ok(text) => Ok(text),
         Err(refusal) => {
-            note_file(file, faults);
+            note_file(file, &refusal, faults);
             Err(refusal)
         }
     }
@@ -116,7 +116,7 @@ pub(crate) fn told_stated<F: Write>(
     match StatedTable::read(alloc, text) {
         Ok(stated) => Ok(stated),
         Err(refusal) => {
-            note_file(file, faults);
+            note_file(file, &refusal, faults);
             note_program(alloc, text, faults);
             Err(refusal)
         }

@@ -1,9 +1,10 @@
 //! What a refusal says to a person.
 
 use crate::refusal::Refusal;
-use gw_input::RecordFault;
+use gw_input::{ExplainedCode, Place, RecordFault};
+use gw_table::TableRefusal;
 use gw_text::Explained;
-use gw_verify::{Cause, Path, Refused};
+use gw_verify::{Path, Refused};
 use std::error::Error;
 use std::fmt;
 use std::fmt::{Display, Formatter};
@@ -23,12 +24,8 @@ impl Display for Refusal {
             } => write!(f, "line {line}: {fault}; `gw claims --log` reads a log"),
             Refusal::RecordOnLine { line, fault } => write!(f, "line {line}: {fault}"),
             Refusal::Listing(why) => write!(f, "{why}"),
-            Refusal::Program {
-                refused,
-                path: Some(path),
-            }
-            | Refusal::Explained { refused, path, .. } => unset(f, refused, path),
-            Refusal::Program { refused, .. } => write!(f, "{refused}"),
+            Refusal::Explained { refused, path, .. } => explain(f, refused, Some(path)),
+            Refusal::Program { refused, path } => explain(f, refused, path.as_ref()),
             Refusal::Assembler { why, text } => match str::from_utf8(text.as_slice()) {
                 Ok(text) => {
                     let explained = Explained {
@@ -40,11 +37,16 @@ impl Display for Refusal {
                 Err(_) => write!(f, "{why}"),
             },
             Refusal::ReadFault => f.write_str("the input could not be read"),
+            // Where a text is no TOML, its error says so itself.
+            Refusal::Table {
+                why: why @ TableRefusal::BadToml(_),
+                ..
+            }
+            | Refusal::Table { why, place: None } => write!(f, "{why}"),
             Refusal::Table {
                 why,
-                line: Some(line),
-            } => write!(f, "line {line}: {why}"),
-            Refusal::Table { why, .. } => write!(f, "{why}"),
+                place: Some(Place { line, column }),
+            } => write!(f, "line {line}, column {column}: {why}"),
             Refusal::NotUtf8 => f.write_str("the input is no text: it is not UTF-8"),
             Refusal::TooMuchInput => f.write_str(
                 "the input has more than 1048576 octets, the most that are read",
@@ -56,14 +58,11 @@ impl Display for Refusal {
 
 impl Error for Refusal {}
 
-/// A refusal with a path that shows it.
-fn unset<W: fmt::Write>(f: &mut Formatter<W>, refused: &Refused, path: &Path) -> fmt::Result {
-    let place = refused.place;
-    match refused.why {
-        Cause::UnsetWord { word } => write!(
-            f,
-            "instruction {place} loads M[{word}], which the path {path} leaves unset"
-        ),
-        _ => write!(f, "{refused}"),
-    }
+/// A refusal of code, with a path that shows it where there is one.
+fn explain<W: fmt::Write>(
+    f: &mut Formatter<W>,
+    refused: &Refused,
+    path: Option<&Path>,
+) -> fmt::Result {
+    write!(f, "{}", ExplainedCode { refused, path })
 }

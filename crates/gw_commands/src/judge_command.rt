@@ -102,7 +102,7 @@ pub fn judge_named<R: Files, I: Read, W: Write, F: Write>(
         }
         Err(unread) => {
             note_port_form(file, faults);
-            note_file(file, faults);
+            note_file(file, &unread, faults);
             respond(&Err(unread), output, faults)
         }
     }
@@ -133,7 +133,7 @@ pub fn judge_log<I: Read, W: Write, F: Write>(
         PolicyKind::Table => match StatedTable::read(alloc, text) {
             Ok(stated) => judge_table(alloc, query, stated, input, output, faults),
             Err(refusal) => {
-                note_file(file, faults);
+                note_file(file, &refusal, faults);
                 respond(&Err(refusal), output, faults)
             }
         },
@@ -143,7 +143,7 @@ pub fn judge_log<I: Read, W: Write, F: Write>(
                 judge_by(alloc, query, &policy, &[], input, output, faults)
             }
             Err(refusal) => {
-                note_file(file, faults);
+                note_file(file, &refusal, faults);
                 respond(&Err(refusal), output, faults)
             }
         },

@@ -46,7 +46,7 @@ pub use gw_judge::Grouping;
 pub use judge_command::{LogQuery, PolicyKind, Shown, judge_log, judge_named};
 pub use log_counts::CountForm;
 pub use log_diff_command::{diff_log, diff_log_named};
-pub use notes::note_unread;
+pub use notes::{RefusedFile, note_unread};
 pub use policies::{PolicySource, policy};
 pub use query::{Query, answer_named, answer_query};
 pub use refusal::Refusal;

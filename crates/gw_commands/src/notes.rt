@@ -101,9 +101,34 @@ pub fn note_port_form<F: Write>(file: &str, faults: &mut Tried<F>) {
     }
 }
 
+/// A file's name, and behind it the line and the column where its text is refused, if they are known: `display.toml:12:3`.
+#[derive(Clone, Copy)]
+pub struct RefusedFile<'a> {
+    pub file: &'a str,
+    pub refusal: &'a Refusal,
+}
+
+impl<'a> Display for RefusedFile<'a> {
+    fn fmt<W: fmt::Write>(&self, f: &mut Formatter<W>) -> fmt::Result {
+        let file = self.file;
+        match self.refusal {
+            Refusal::Table {
+                place: Some(place),
+                ..
+            } => write!(f, "{file}:{place}"),
+            Refusal::Assembler { why, .. } => match why.line() {
+                Some(line) => write!(f, "{file}:{line}"),
+                None => f.write_str(file),
+            },
+            _ => f.write_str(file),
+        }
+    }
+}
+
 /// Tells which file is refused, before its refusal.
-pub fn note_file<F: Write>(file: &str, faults: &mut Tried<F>) {
-    let _ = writeln!(faults, "gw: the file {file} is refused:");
+pub fn note_file<F: Write>(file: &str, refusal: &Refusal, faults: &mut Tried<F>) {
+    let refused = RefusedFile { file, refusal };
+    let _ = writeln!(faults, "gw: the file {refused} is refused:");
 }
 
 /// Tells of a text that is to be a table, and lists a program.
@@ -121,7 +146,7 @@ pub fn note_program<F: Write>(alloc: Global, text: &[u8], faults: &mut Tried<F>)
 pub fn note_refused_file<F: Write>(file: &str, refusal: &Refusal, faults: &mut Tried<F>) {
     match refusal {
         Refusal::Record(_) | Refusal::Candump(_) => (),
-        _ => note_file(file, faults),
+        _ => note_file(file, refusal, faults),
     }
 }
 

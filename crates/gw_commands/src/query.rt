@@ -108,7 +108,7 @@ pub fn answer_named<R: Files, W: Write, F: Write>(
     match read_file(rt, alloc, file, faults) {
         Ok(octets) => answer_octets(alloc, query, file, octets, output, faults),
         Err(refusal) => {
-            note_file(file, faults);
+            note_file(file, &refusal, faults);
             respond(&Err(refusal), output, faults)
         }
     }

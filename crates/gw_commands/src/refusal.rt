@@ -5,7 +5,7 @@ ghost use Rattle.gw_input.specs.Refused.{refused_line};
 ghost use Rattle.gw_commands.specs.declared.refusal.Refusal.TheVariants as refusal;
 ghost use Rattle.gw_commands.specs.Refusals.{line_details};
 
-use gw_input::{Line, RecordFault, refused, refused_code};
+use gw_input::{Line, Place, RecordFault, refused, refused_code};
 use gw_insn::ListRefusal;
 use gw_io::ReadFault;
 use gw_log::LogRefusal;
@@ -47,11 +47,10 @@ pub enum Refusal {
         why: AsmRefusal,
         text: Vec<u8>,
     },
-    /// 50 to 55: a text that is no table, and the line at which the rule begins that is wrong, unless no line begins it or memory
-    /// was refused.
+    /// 50 to 55: a text that is no table, and where it is wrong, if that is known.
     Table {
         why: TableRefusal,
-        line: Option<usize>,
+        place: Option<Place>,
     },
     /// 98: an input of more than 1048576 octets.
     TooMuchInput,

@@ -2,7 +2,7 @@
 
 ghost use Rattle.std.specs.Prelude.{◌≡◌, IfOk, IfErr};
 ghost use Rattle.gw_commands.specs.Frames.{RefusesRecord};
-ghost use Rattle.gw_commands.specs.Tables.{RefusesText, told_line};
+ghost use Rattle.gw_commands.specs.Tables.{RefusesText};
 ghost use Rattle.gw_commands.specs.Verdicts.{IsProgramRefusal};
 ghost use Rattle.gw_input.specs.Programs.{NamesProgram};
 ghost use Rattle.gw_input.specs.Records.{NamesRecord};
@@ -11,9 +11,9 @@ ghost use Rattle.gw_input.specs.Tables.{IsTable};
 use crate::notes::note_standard_identifier;
 use crate::refusal::Refusal;
 use gw_frame::Frame;
-use gw_input::{ProgramFault, TableFault, record, refused_rule, rule_line};
+use gw_input::{ProgramFault, TableFault, record, refused_place};
 use gw_io::Tried;
-use gw_table::{Table, TableRefusal};
+use gw_table::Table;
 use gw_verify::Program;
 use std::alloc::Global;
 use std::io::Write;
@@ -56,16 +56,9 @@ pub fn read_table(alloc: Global, text: &[u8]) -> Result<Table, Refusal>
         Ok(table) => Ok(table),
         Err(TableFault::NotUtf8) => Err(Refusal::NotUtf8),
         Err(TableFault::Text(why)) => {
-            let line = told_line(text, &why);
-            Err(Refusal::Table { why, line })
+            let place = refused_place(text, &why);
+            Err(Refusal::Table { why, place })
         }
         Err(TableFault::OutOfMemory) => Err(Refusal::OutOfMemory),
     }
-}
-
-/// The line at which the rule begins that a refusal names, where one begins there.
-fn told_line(text: &[u8], why: &TableRefusal) -> Option<usize>
-    ensures { result ≡ told_line text.now why.now }
-{
-    rule_line(text, refused_rule(why)?)
 }

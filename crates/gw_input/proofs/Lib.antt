@@ -5,4 +5,5 @@ pub mod PortLists
 pub mod LineByLine
 pub mod NumberByNumber
 pub mod RulePlaces
+pub mod KeyLines
 pub mod FirstOctet

@@ -3,6 +3,7 @@ pub mod Bounds
 pub mod Lines
 pub mod Words
 pub mod RuleLines
+pub mod Places
 pub mod Records
 pub mod Programs
 pub mod Tables

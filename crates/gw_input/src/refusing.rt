@@ -6,7 +6,29 @@ ghost use Rattle.gw_input.specs.Refused.{refused_line, cause_details, refused_ru
 
 use crate::line::Line;
 use gw_table::{KeyLocation, Part, TableRefusal};
-use gw_verify::Cause;
+use gw_verify::{Cause, Path, Refused};
+use std::fmt;
+use std::fmt::{Display, Formatter};
+
+/// Why code is refused, as a person is told it: with a path that leaves a scratch word unset, where there is one.
+#[derive(Clone, Copy)]
+pub struct ExplainedCode<'a> {
+    pub refused: &'a Refused,
+    pub path: Option<&'a Path>,
+}
+
+impl<'a> Display for ExplainedCode<'a> {
+    fn fmt<W: fmt::Write>(&self, f: &mut Formatter<W>) -> fmt::Result {
+        let place = self.refused.place;
+        match (self.refused.why, self.path) {
+            (Cause::UnsetWord { word }, Some(path)) => write!(
+                f,
+                "instruction {place} loads M[{word}], which the path {path} leaves unset"
+            ),
+            _ => write!(f, "{}", self.refused),
+        }
+    }
+}
 
 /// Returns the line of a refusal: `refused`, its number and its details.
 pub fn refused(number: u32, details: &[u64]) -> Line

@@ -2,7 +2,7 @@
 
 ghost use Rattle.std.specs.Prelude.{◌≡◌, ◌≤◌, ◌++◌, not, length, slice_get, IfOk, OnOk};
 ghost use Rattle.std.specs.List.{position_or_len};
-ghost use Rattle.gw_input.specs.RuleLines.{begins_rule, is_blank, rule_lines, rule_number};
+ghost use Rattle.gw_input.specs.RuleLines.{begins_rule, behind_blanks, is_blank, rule_lines, rule_number};
 
 use crate::lines::first_line;
 use std::alloc::{AllocError, Global};
@@ -20,24 +20,6 @@ pub fn rule_lines(alloc: Global, text: &[u8]) -> Result<Vec<usize>, AllocError>
         push_rule(&mut lines, line, number)?;
     }
     Ok(lines)
-}
-
-/// The line at which a rule of a table's text stands: as `rule_lines` at the rule's number, without memory for the others.
-pub fn rule_line(text: &[u8], rule: usize) -> Option<usize>
-    ensures { result ≡ slice_get (rule_lines text.now) rule }
-{
-    let (mut rest, mut number, mut above) = (Some(text), 0, 0);
-    while let Some(left) = rest {
-        let (line, behind) = first_line(left);
-        (rest, number) = (behind, number + 1);
-        if begins_rule(line) {
-            if above == rule {
-                return Some(number);
-            }
-            above += 1;
-        }
-    }
-    None
 }
 
 /// The line at which a rule stands, where it is known. `lines` are those of the rules, in their order.
@@ -58,14 +40,21 @@ fn push_rule(lines: &mut Vec<usize>, line: &[u8], number: usize) -> Result<(), A
 }
 
 /// Whether a line begins a rule.
-fn begins_rule(line: &[u8]) -> bool
+pub(crate) fn begins_rule(line: &[u8]) -> bool
     ensures { result ≡ begins_rule line.now }
 {
-    line[indent(line)..].starts_with(b"[[rule]]")
+    behind_blanks(line).starts_with(b"[[rule]]")
+}
+
+/// What stands behind blanks.
+pub(crate) fn behind_blanks(line: &[u8]) -> &[u8]
+    ensures { result.now ≡ behind_blanks line.now }
+{
+    &line[indent(line)..]
 }
 
 /// How many spaces and tabs a line begins with.
-fn indent(line: &[u8]) -> usize
+pub(crate) fn indent(line: &[u8]) -> usize
     ensures blanks { result ≡ position_or_len (λ c. not (is_blank c)) line.now }
     ensures bound { result ≤ length line.now }
 {
