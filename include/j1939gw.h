@@ -80,7 +80,7 @@ enum jgw_refusal {
     JGW_CODE_JUMPS_OUT = 26,
     JGW_CODE_ANCILLARY = 27,
     JGW_CODE_NO_RETURN = 28,
-    JGW_CODE_UNSET_WORD = 29, /* error.word too */
+    JGW_CODE_UNSET_WORD = 29, /* error.word and error.path too */
     JGW_CODE_MEMORY = 30,
 
     /* Assembler texts: error.line is the line. */
@@ -95,8 +95,8 @@ enum jgw_refusal {
     JGW_ASSEMBLER_TOO_LONG = 48,
     JGW_ASSEMBLER_MEMORY = 49,
 
-    /* Tables: of 51 to 53 error.rule is the rule, where a rule is wrong. */
-    JGW_TABLE_TOML = 50, /* error.line */
+    /* Tables: error.line and error.column say where. Of 51 to 53 error.rule is the rule, where a rule is wrong. */
+    JGW_TABLE_TOML = 50,
     JGW_TABLE_KEY = 51,
     JGW_TABLE_ACTION = 52,
     JGW_TABLE_RANGE = 53,
@@ -126,7 +126,7 @@ enum jgw_refusal {
     JGW_COPIES_WAIT = 126 /* a copy waits: take the copies of all ports first */
 };
 
-/* Stands for a line, place, word or rule that a refusal does not name. */
+/* Stands for a line, column, place, word or rule that a refusal does not name. */
 #define JGW_NONE UINT32_MAX
 
 /* Why a call was refused. It is written on a refusal alone. */
@@ -210,9 +210,11 @@ uint32_t jgw_call_claims_hear(struct jgw_handle *claims, const struct can_frame 
 uint32_t jgw_call_claims_holder(struct jgw_handle *claims, uint8_t address, uint64_t *name);
 uint32_t jgw_call_claims_address(struct jgw_handle *claims, uint64_t name, uint8_t *address);
 uint32_t jgw_call_claims_local(struct jgw_handle *claims, const struct can_frame *frame);
+static_assert(sizeof(struct jgw_error) == 28 + 4 * JGW_PATH + JGW_MESSAGE, "as the library lays it out");
 uint32_t jgw_call_batch_new(struct jgw_handle *batch);
 uint32_t jgw_call_batch_add(struct jgw_handle *batch, uint8_t port, struct jgw_handle *policy);
 uint32_t jgw_call_gateway_open(uint32_t ports, uint32_t lane, uint32_t frames, uint32_t versions, struct jgw_handle *gateway);
+_Static_assert(sizeof(struct jgw_error) == 28 + 4 * JGW_PATH + JGW_MESSAGE, "as the library lays it out");
 uint32_t jgw_call_gateway_publish(struct jgw_handle *gateway, struct jgw_handle *batch, uint32_t *front);
 uint32_t jgw_call_gateway_offer(struct jgw_handle *gateway, uint8_t port, const struct can_frame *frame,
                                 struct jgw_outcome *outcome);
@@ -232,10 +234,10 @@ uint32_t jgw_call_gateway_step(struct jgw_handle *gateway, uint8_t port, struct 
 /* Of NULL. */
 static inline uint32_t jgw_null(struct jgw_error *error)
 {
-    if (error != NULL) {
-        error->number = JGW_NULL;
-        error->line = error->place = error->word = error->rule = JGW_NONE;
-    }
+    static const struct jgw_error said = {JGW_NULL, JGW_NONE, JGW_NONE, JGW_NONE, JGW_NONE,
+                                          JGW_NONE, 0,        {0},      "a pointer is NULL"};
+    if (error != NULL)
+        *error = said;
     return JGW_NULL;
 }
 

@@ -23,10 +23,7 @@ static bool read_policy(const char *path, struct jgw_handle *policy)
         return false;
     if (jgw_policy_from_table(text, length, policy, &error) == JGW_OK)
         return true;
-    fprintf(stderr, "%s: refused %u", path, (unsigned)error.number);
-    if (error.rule != JGW_NONE)
-        fprintf(stderr, ", rule %u", (unsigned)error.rule);
-    fputc('\n', stderr);
+    fprintf(stderr, "%s: refused %u: %s\n", path, (unsigned)error.number, error.message);
     return false;
 }
 

@@ -74,12 +74,10 @@ static bool read_table(const char *path, struct jgw_handle *policy)
         return false;
     if (jgw_policy_from_table(text, length, policy, &error) == JGW_OK)
         return true;
-    fprintf(stderr, "relay: %s: refused %" PRIu32, path, error.number);
+    fprintf(stderr, "relay: %s", path);
     if (error.line != JGW_NONE)
-        fprintf(stderr, " line %" PRIu32, error.line);
-    if (error.rule != JGW_NONE)
-        fprintf(stderr, " rule %" PRIu32, error.rule);
-    fputc('\n', stderr);
+        fprintf(stderr, ":%" PRIu32 ":%" PRIu32, error.line, error.column);
+    fprintf(stderr, ": refused %" PRIu32 ": %s\n", error.number, error.message);
     return false;
 }
 

@@ -340,3 +340,4 @@ int main(void)
     printf("%u passed, %u failed\n", passed, failed);
     return failed != 0;
 }
+    test_many();

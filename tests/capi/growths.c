@@ -1,7 +1,8 @@
 /*
  * Makes each thing that takes memory, and writes what each call answered, and what its policy then says of a frame. It takes no
- * memory itself: tests/run-capi refuses each growth of it in turn. Last comes a gateway, at which the policy of a table is
- * published and a frame is offered, and where copies of this wait.
+ * memory itself: tests/run-capi refuses each growth of it in turn. Then comes code with a word that is unset, and how many
+ * instructions its path has. Last comes a gateway, at which the policy of a table is published and a frame is offered, and where
+ * copies of this wait.
  */
 #include "j1939gw.h"
 
@@ -39,6 +40,15 @@ static void say_both(uint32_t made, struct jgw_handle *policy)
     say(jgw_verdict(policy, &frame, 0));
 }
 
+static void say_path(void)
+{
+    static const char unset[] = "4,21 0 1 0,2 0 0 3,96 0 0 3,22 0 0 0,";
+    struct jgw_handle policy = JGW_NOTHING;
+    struct jgw_error error;
+    say(jgw_policy_from_listing(unset, sizeof unset - 1, &policy, &error));
+    say(error.steps);
+}
+
 static void say_gateway(struct jgw_handle *policy)
 {
     struct jgw_handle gateway = JGW_NOTHING, batch = JGW_NOTHING;
@@ -66,6 +76,7 @@ int main(void)
     say_both(jgw_policy_from_table(table, sizeof table - 1, &policies[3], NULL), &policies[3]);
     say_both(jgw_policy_share(&policies[3], &policies[4]), &policies[4]);
     say(jgw_claims_new(&claims));
+    say_path();
     say_gateway(&policies[3]);
     for (int i = 0; i < 5; i++)
         jgw_free(&policies[i]);

@@ -187,10 +187,10 @@ static void try_tables(void)
     check("a frame is blocked", !crosses(0, 0x18FEF200));
     write_table(1, "[[rule]]\naction = \"pass\"\npgn = 70000000\n");
     signal_and_listen(SIGHUP);
-    check("a refused table is told", strstr(heard, "1.toml: refused 53 rule 0\n") != NULL);
+    check("a refused table is told", strstr(heard, "1.toml:3:1: refused 53: `pgn` of rule 0 ") != NULL);
     write_table(1, "rule = [\n");
     signal_and_listen(SIGHUP);
-    check("a text that is no TOML is told", strstr(heard, "1.toml: refused 50 line ") != NULL);
+    check("a text that is no TOML is told", strstr(heard, ": refused 50: the table is no TOML document: ") != NULL);
     write_table(1, "");
     signal_and_listen(SIGHUP);
     check("an empty file is told", strstr(heard, "1.toml: the file is empty\n") != NULL);

@@ -56,9 +56,11 @@ static uint32_t table(struct jgw_handle *policy, const char *text, struct jgw_er
     return jgw_policy_from_table(text, strlen(text), policy, error);
 }
 
-static bool says(const struct jgw_error *error, uint32_t number, uint32_t line, uint32_t place, uint32_t word, uint32_t rule)
+static bool says(const struct jgw_error *error, uint32_t number, uint32_t line, uint32_t column, uint32_t place, uint32_t word,
+                 uint32_t rule)
 {
-    return error->number == number && error->line == line && error->place == place && error->word == word && error->rule == rule;
+    return error->number == number && error->line == line && error->column == column && error->place == place
+           && error->word == word && error->rule == rule;
 }
 
 /* What a listing answers to a frame of port 0. */
@@ -91,11 +93,11 @@ static void test_listings(void)
     /* Octet 4 of the record is the length. */
     EXPECT(verdict_by("4,48 0 0 4,21 0 1 8,6 0 0 1,6 0 0 0,", counted) == JGW_PASS);
     /* Each refusal leaves the policy that was there. */
-    EXPECT(listing(&policy, "", &error) == 10 && says(&error, 10, JGW_NONE, JGW_NONE, JGW_NONE, JGW_NONE));
-    EXPECT(listing(&policy, "2,6 0 0 1,6 0 0,", &error) == 11 && says(&error, 11, JGW_NONE, 1, JGW_NONE, JGW_NONE));
-    EXPECT(listing(&policy, "1,6 0 0 1,x", &error) == 12 && says(&error, 12, JGW_NONE, JGW_NONE, JGW_NONE, JGW_NONE));
-    EXPECT(listing(&policy, "0,", &error) == 20 && says(&error, 20, JGW_NONE, 0, JGW_NONE, JGW_NONE));
-    EXPECT(listing(&policy, "1,14 0 0 0,", &error) == 22 && says(&error, 22, JGW_NONE, 0, JGW_NONE, JGW_NONE));
+    EXPECT(listing(&policy, "", &error) == 10 && says(&error, 10, JGW_NONE, JGW_NONE, JGW_NONE, JGW_NONE, JGW_NONE));
+    EXPECT(listing(&policy, "2,6 0 0 1,6 0 0,", &error) == 11 && says(&error, 11, JGW_NONE, JGW_NONE, 1, JGW_NONE, JGW_NONE));
+    EXPECT(listing(&policy, "1,6 0 0 1,x", &error) == 12 && says(&error, 12, JGW_NONE, JGW_NONE, JGW_NONE, JGW_NONE, JGW_NONE));
+    EXPECT(listing(&policy, "0,", &error) == 20 && says(&error, 20, JGW_NONE, JGW_NONE, 0, JGW_NONE, JGW_NONE));
+    EXPECT(listing(&policy, "1,14 0 0 0,", &error) == 22 && says(&error, 22, JGW_NONE, JGW_NONE, 0, JGW_NONE, JGW_NONE));
     EXPECT(listing(&policy, "2,52 0 0 0,6 0 0 0,", &error) == 23);
     EXPECT(listing(&policy, "2,100 0 0 32,6 0 0 0,", &error) == 24);
     EXPECT(listing(&policy, "2,2 0 0 16,6 0 0 0,", &error) == 25);
@@ -103,8 +105,9 @@ static void test_listings(void)
     EXPECT(listing(&policy, "2,32 0 0 4294963200,6 0 0 0,", &error) == 27);
     EXPECT(listing(&policy, "1,7 0 0 0,", &error) == 28);
     EXPECT(listing(&policy, "4,21 0 1 0,2 0 0 3,96 0 0 3,22 0 0 0,", &error) == 29);
-    EXPECT(says(&error, 29, JGW_NONE, 2, 3, JGW_NONE));
-    EXPECT(listing(&policy, "3,96 0 0 3,52 0 0 0,6 0 0 0,", &error) == 23 && says(&error, 23, JGW_NONE, 1, JGW_NONE, JGW_NONE));
+    EXPECT(says(&error, 29, JGW_NONE, JGW_NONE, 2, 3, JGW_NONE));
+    EXPECT(listing(&policy, "3,96 0 0 3,52 0 0 0,6 0 0 0,", &error) == 23);
+    EXPECT(says(&error, 23, JGW_NONE, JGW_NONE, 1, JGW_NONE, JGW_NONE));
     EXPECT(jgw_verdict(&policy, &eec1, 0) == JGW_PASS);
     EXPECT(jgw_policy_from_listing(NULL, 1, &policy, &error) == JGW_NULL && error.number == JGW_NULL);
     EXPECT(jgw_policy_from_listing(NULL, 0, &policy, NULL) == 10);
@@ -118,9 +121,9 @@ static void test_code(void)
     struct sock_filter second[] = {{0x30, 0, 0, 1}, {0x15, 0, 1, 240}, {0x06, 0, 0, 1}, {0x06, 0, 0, 0}};
     struct sock_filter unset[] = {{0x60, 0, 0, 15}, {0x16, 0, 0, 0}}, port[] = {{0x20, 0, 0, 0xFFFFF008}, {0x16, 0, 0, 0}};
     struct jgw_handle policy = JGW_NOTHING;
-    struct jgw_error error = {7, 7, 7, 7, 7};
+    struct jgw_error error = {7, 7, 7, 7, 7, 7, 7, {7}, "7"};
     struct can_frame eec1 = frame_of(0x8CF00400, ONES), pdu1 = frame_of(0x8CEF0400, ONES);
-    EXPECT(jgw_policy_from_code(second, 4, &policy, &error) == JGW_OK && says(&error, 7, 7, 7, 7, 7));
+    EXPECT(jgw_policy_from_code(second, 4, &policy, &error) == JGW_OK && says(&error, 7, 7, 7, 7, 7, 7));
     EXPECT(jgw_verdict(&policy, &eec1, 0) == JGW_PASS && jgw_verdict(&policy, &pdu1, 0) == JGW_BLOCK);
     EXPECT(jgw_policy_from_code(unset, 2, &policy, &error) == 29 && says(&error, 29, JGW_NONE, 0, 15, JGW_NONE));
     EXPECT(jgw_policy_from_code(NULL, 0, &policy, &error) == 20 && says(&error, 20, JGW_NONE, 0, JGW_NONE, JGW_NONE));
@@ -135,7 +138,7 @@ static void test_code(void)
     EXPECT(jgw_verdict(&policy, &eec1, 3) == JGW_PASS && jgw_verdict(&policy, &eec1, 255) == JGW_PASS);
     EXPECT(jgw_verdict(&policy, &eec1, 0) == JGW_BLOCK);
     EXPECT(jgw_policy_from_code(NULL, 1, &policy, &error) == JGW_NULL);
-    EXPECT(says(&error, 122, JGW_NONE, JGW_NONE, JGW_NONE, JGW_NONE));
+    EXPECT(says(&error, 122, JGW_NONE, JGW_NONE, JGW_NONE, JGW_NONE, JGW_NONE));
     EXPECT(jgw_policy_from_code(second, 4, NULL, NULL) == JGW_NULL);
     jgw_free(&policy);
 }
@@ -147,17 +150,18 @@ static void test_assembler(void)
     struct can_frame arp = frame_of(0x8CF00400, "\0\0\0\0\x08\x06\0\0"), other = frame_of(0x8CF00400, ONES);
     EXPECT(assembler(&policy, "ldh [12]\njne #0x806, drop\nret #-1\ndrop: ret #0\n", &error) == JGW_OK);
     EXPECT(jgw_verdict(&policy, &arp, 0) == JGW_PASS && jgw_verdict(&policy, &other, 0) == JGW_BLOCK);
-    EXPECT(assembler(&policy, "ld $4", &error) == 40 && says(&error, 40, 1, JGW_NONE, JGW_NONE, JGW_NONE));
-    EXPECT(assembler(&policy, "\nfoo", &error) == 41 && says(&error, 41, 2, JGW_NONE, JGW_NONE, JGW_NONE));
+    EXPECT(assembler(&policy, "ld $4", &error) == 40 && says(&error, 40, 1, JGW_NONE, JGW_NONE, JGW_NONE, JGW_NONE));
+    EXPECT(assembler(&policy, "\nfoo", &error) == 41 && says(&error, 41, 2, JGW_NONE, JGW_NONE, JGW_NONE, JGW_NONE));
     EXPECT(assembler(&policy, "ret x", &error) == 42 && error.line == 1);
     EXPECT(assembler(&policy, "a: ret #0\na: ret #0\n\n\nld #08\n", &error) == 43 && error.line == 5);
     EXPECT(assembler(&policy, "drop: ret #0\nld #1\ndrop: ret #1\n", &error) == 44 && error.line == 3);
     EXPECT(assembler(&policy, "jmp done", &error) == 45 && error.line == 1);
     EXPECT(assembler(&policy, "b: jmp b", &error) == 46 && error.line == 1);
-    EXPECT(assembler(&policy, "\xFF", &error) == JGW_NOT_UTF8 && says(&error, 120, JGW_NONE, JGW_NONE, JGW_NONE, JGW_NONE));
+    EXPECT(assembler(&policy, "\xFF", &error) == JGW_NOT_UTF8);
+    EXPECT(says(&error, 120, JGW_NONE, JGW_NONE, JGW_NONE, JGW_NONE, JGW_NONE));
     /* The text is right, and its code is refused. */
-    EXPECT(assembler(&policy, "ld #1", &error) == 28 && says(&error, 28, JGW_NONE, 0, JGW_NONE, JGW_NONE));
-    EXPECT(assembler(&policy, "ld M[3]\nret a", &error) == 29 && says(&error, 29, JGW_NONE, 0, 3, JGW_NONE));
+    EXPECT(assembler(&policy, "ld #1", &error) == 28 && says(&error, 28, JGW_NONE, JGW_NONE, 0, JGW_NONE, JGW_NONE));
+    EXPECT(assembler(&policy, "ld M[3]\nret a", &error) == 29 && says(&error, 29, JGW_NONE, JGW_NONE, 0, 3, JGW_NONE));
     EXPECT(assembler(&policy, "", &error) == 20 && error.place == 0);
     EXPECT(jgw_verdict(&policy, &arp, 0) == JGW_PASS);
     EXPECT(jgw_policy_from_assembler(NULL, 1, &policy, NULL) == JGW_NULL);
@@ -180,17 +184,17 @@ static void test_tables(void)
     /* 11-bit, remote and error frames are `other`. */
     EXPECT(jgw_verdict(&policy, &standard, 0) == JGW_PASS && jgw_verdict(&policy, &remote, 0) == JGW_PASS);
     EXPECT(jgw_verdict(&policy, &fault, 0) == JGW_PASS);
-    EXPECT(table(&policy, "default =", &error) == 50 && says(&error, 50, 1, JGW_NONE, JGW_NONE, JGW_NONE));
+    EXPECT(table(&policy, "default =", &error) == 50 && says(&error, 50, 1, 10, JGW_NONE, JGW_NONE, JGW_NONE));
     EXPECT(table(&policy, "default = \"pass\"\n\n[[rule]\naction = \"pass\"\n", &error) == 50);
-    EXPECT(says(&error, 50, 3, JGW_NONE, JGW_NONE, JGW_NONE));
+    EXPECT(says(&error, 50, 3, 8, JGW_NONE, JGW_NONE, JGW_NONE));
     EXPECT(table(&policy, "[[rule]]\naction = \"pass\"\npgn = 1 2\n", &error) == 50 && error.line == 3);
-    EXPECT(table(&policy, "defualt = \"pass\"", &error) == 51 && says(&error, 51, JGW_NONE, JGW_NONE, JGW_NONE, JGW_NONE));
+    EXPECT(table(&policy, "defualt = \"pass\"", &error) == 51 && says(&error, 51, 1, 1, JGW_NONE, JGW_NONE, JGW_NONE));
     EXPECT(table(&policy, "rule = 1", &error) == 51 && error.rule == JGW_NONE);
     EXPECT(table(&policy, "[[rule]]\naction = \"pass\"\n[[rule]]\nactoin = \"pass\"", &error) == 51 && error.rule == 1);
     EXPECT(table(&policy, "default = \"drop\"", &error) == 52 && error.rule == JGW_NONE);
     EXPECT(table(&policy, "[[rule]]\naction = \"pass\"\n[[rule]]\npgn = 1", &error) == 52 && error.rule == 1);
     EXPECT(table(&policy, "[[rule]]\naction = \"pass\"\nfrom = 256", &error) == 53);
-    EXPECT(says(&error, 53, JGW_NONE, JGW_NONE, JGW_NONE, 0));
+    EXPECT(says(&error, 53, 3, 1, JGW_NONE, JGW_NONE, 0));
     EXPECT(jgw_policy_from_table("\xC3(", 2, &policy, &error) == JGW_NOT_UTF8 && error.number == 120);
     EXPECT(jgw_verdict(&policy, &first, 1) == JGW_PASS);
     /* An empty text is a table, which blocks all. */
@@ -386,3 +390,5 @@ int main(void)
     printf("%u passed, %u failed\n", passed, failed);
     return failed != 0;
 }
+    test_rules();
+    test_decides();

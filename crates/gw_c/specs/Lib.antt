@@ -1,4 +1,4 @@
--- public meaning but for what a slot owns: frames, what a handle holds, faults, policies, verdicts, hearing, and gateways
+-- public meaning but for what a slot owns: frames, what a handle holds, faults, policies, verdicts, rules, hearing, and gateways
 pub mod Boxes
 pub mod Frames
 pub mod Held

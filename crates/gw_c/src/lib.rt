@@ -8,6 +8,7 @@ mod counting;
 mod fault;
 mod handle;
 mod inner;
+mod message;
 mod offering;
 mod opening;
 mod policies;
@@ -31,7 +32,7 @@ pub use counting::{
     CCountersIn, CCountersOut, jgw_call_gateway_counters_in, jgw_call_gateway_counters_out,
     jgw_call_gateway_waiting,
 };
-pub use fault::Told;
+pub use fault::{Names, Told};
 pub use handle::Handle;
 pub use offering::{COutcome, jgw_call_gateway_offer};
 pub use opening::jgw_call_gateway_open;

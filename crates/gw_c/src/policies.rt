@@ -1,17 +1,17 @@
 //! Policies by handle, made of texts and code.
 
-ghost use Rattle.std.specs.Prelude.{◌≡◌, ◌≢◌, ◌==◌, map, Some, MatchOption, IsSomeAnd, IfOk, IfErr, IsOkAnd, IsErrAnd};
-ghost use Rattle.std.specs.List.{count_by};
+ghost use Rattle.std.specs.Prelude.{◌≡◌, ◌≢◌, map, Some, MatchOption, IsSomeAnd, IfOk, IfErr, IsOkAnd, IsErrAnd};
+ghost use Rattle.gw_verify.specs.Flow.{forms_of};
 ghost use Rattle.gw_input.specs.Programs.{IsProgramPolicy};
 ghost use Rattle.gw_input.specs.Tables.{IsTablePolicy};
 ghost use Rattle.gw_c.specs.declared.fault.Fault.TheVariants as fault;
-ghost use Rattle.gw_c.specs.Faults.{told_of, IsTold};
+ghost use Rattle.gw_c.specs.Faults.{Tells, IsTold};
 ghost use Rattle.gw_c.specs.Held.{policy_in, HoldsPolicy};
 ghost use Rattle.gw_c.specs.Policies.{
   raw_in,
   IsCodePolicy,
   IsAssembledPolicy,
-  IsLineOf,
+  IsShown,
   RefusesCode,
   RefusesFilters,
   RefusesListing,
@@ -22,12 +22,11 @@ ghost use Rattle.gw_c.specs.Policies.{
 use crate::fault::{Fault, Told};
 use crate::handle::Handle;
 use crate::inner::Inner;
-use gw_input::{ProgramFault, TableFault, program_policy, table_policy};
+use gw_input::{ProgramFault, TableFault, program_policy, refused_place, table_policy};
 use gw_insn::Raw;
 use gw_policy::Policy;
-use gw_table::TableRefusal;
 use gw_text::assemble;
-use gw_verify::Program;
+use gw_verify::{Path, Program, Refused};
 use std::alloc::{AllocError, Global};
 use std::sync::Arc;
 
@@ -52,11 +51,11 @@ pub extern "C" fn jgw_call_policy_from_code(
 ) -> u32
     ensures made { result ≡ 0 → HoldsPolicy (IsCodePolicy (map raw_in code.now)) policy.new.slot.value }
     ensures told { result ≢ 0 → IsTold (RefusesFilters code.now) error.new }
-    ensures number { result ≢ 0 → error.new.number ≡ result }
+    ensures number { result ≢ 0 → error.new.names.number ≡ result }
     ensures untold { result ≡ 0 → error.new ≡ error.old }
     ensures kept { result ≢ 0 → policy.new.slot.value ≡ policy.old.slot.value }
 {
-    fill(of_filters(alloc, code), policy, error)
+    fill(of_filters(alloc, code), &[], policy, error)
 }
 
 /// Makes the policy of a listing, as `jgw_call_policy_from_code` does.
@@ -69,11 +68,11 @@ pub extern "C" fn jgw_call_policy_from_listing(
 ) -> u32
     ensures made { result ≡ 0 → HoldsPolicy (IsProgramPolicy text.now) policy.new.slot.value }
     ensures told { result ≢ 0 → IsTold (RefusesListing text.now) error.new }
-    ensures number { result ≢ 0 → error.new.number ≡ result }
+    ensures number { result ≢ 0 → error.new.names.number ≡ result }
     ensures untold { result ≡ 0 → error.new ≡ error.old }
     ensures kept { result ≢ 0 → policy.new.slot.value ≡ policy.old.slot.value }
 {
-    fill(of_listing(alloc, text), policy, error)
+    fill(of_listing(alloc, text), text, policy, error)
 }
 
 /// Makes the policy of an assembler text, as `jgw_call_policy_from_code` does.
@@ -86,11 +85,11 @@ pub extern "C" fn jgw_call_policy_from_assembler(
 ) -> u32
     ensures made { result ≡ 0 → HoldsPolicy (IsAssembledPolicy text.now) policy.new.slot.value }
     ensures told { result ≢ 0 → IsTold (RefusesAssembler text.now) error.new }
-    ensures number { result ≢ 0 → error.new.number ≡ result }
+    ensures number { result ≢ 0 → error.new.names.number ≡ result }
     ensures untold { result ≡ 0 → error.new ≡ error.old }
     ensures kept { result ≢ 0 → policy.new.slot.value ≡ policy.old.slot.value }
 {
-    fill(of_assembler(alloc, text), policy, error)
+    fill(of_assembler(alloc, text), text, policy, error)
 }
 
 /// Makes the policy of a table's text, as `jgw_call_policy_from_code` does.
@@ -103,11 +102,11 @@ pub extern "C" fn jgw_call_policy_from_table(
 ) -> u32
     ensures made { result ≡ 0 → HoldsPolicy (IsTablePolicy text.now) policy.new.slot.value }
     ensures told { result ≢ 0 → IsTold (RefusesTable text.now) error.new }
-    ensures number { result ≢ 0 → error.new.number ≡ result }
+    ensures number { result ≢ 0 → error.new.names.number ≡ result }
     ensures untold { result ≡ 0 → error.new ≡ error.old }
     ensures kept { result ≢ 0 → policy.new.slot.value ≡ policy.old.slot.value }
 {
-    fill(of_table(alloc, text), policy, error)
+    fill(of_table(alloc, text), text, policy, error)
 }
 
 /// Lets a second handle hold the same policy, for another thread. 100: memory was refused. 121: `policy` holds no policy.
@@ -155,11 +154,11 @@ fn share(alloc: Global, held: &Inner) -> Result<Box<Inner>, u32>
     }
 }
 
-/// Puts what was made into a handle, or tells why nothing was.
-fn fill(made: Result<Box<Inner>, Fault>, policy: &mut Handle, error: &mut Told) -> u32
+/// Puts what was made of a text into a handle, or tells why nothing was.
+fn fill(made: Result<Box<Inner>, Fault>, text: &[u8], policy: &mut Handle, error: &mut Told) -> u32
     ensures made { result ≡ 0 → IsOkAnd made (λ held. policy.new.slot.value ≡ Some held.value) }
-    ensures told { result ≢ 0 → IsErrAnd made (λ why. error.new ≡ told_of why) }
-    ensures number { result ≢ 0 → error.new.number ≡ result }
+    ensures told { result ≢ 0 → IsErrAnd made (λ why. Tells why error.new) }
+    ensures number { result ≢ 0 → error.new.names.number ≡ result }
     ensures untold { result ≡ 0 → error.new ≡ error.old }
     ensures kept { result ≢ 0 → policy.new.slot.value ≡ policy.old.slot.value }
 {
@@ -169,8 +168,8 @@ fn fill(made: Result<Box<Inner>, Fault>, policy: &mut Handle, error: &mut Told) 
             0
         }
         Err(why) => {
-            *error = why.told();
-            error.number
+            *error = why.told(text);
+            error.names.number
         }
     }
 }
@@ -208,9 +207,19 @@ fn of_code(alloc: Global, code: Vec<Raw>) -> Result<Box<Inner>, Fault>
     match Program::check(alloc, code) {
         Ok(program) => hold(alloc, Policy::from_program(program)),
         Err(refused) => Err(Fault::Code {
-            why: refused.why,
-            place: refused.place,
+            path: path_of(alloc, &refused),
+            refused,
         }),
+    }
+}
+
+/// A path that leaves the scratch word unset, where one does and there is memory for it.
+fn path_of(alloc: Global, refused: &Refused) -> Option<Path>
+    ensures { IsShown (forms_of refused.now.code.items) refused.now.why refused.now.place result }
+{
+    match refused.explain(alloc) {
+        Ok(path) => path,
+        Err(_) => None,
     }
 }
 
@@ -222,8 +231,8 @@ fn of_listing(alloc: Global, text: &[u8]) -> Result<Box<Inner>, Fault>
         Ok(policy) => hold(alloc, policy),
         Err(ProgramFault::Listing(why)) => Err(Fault::Listing(why)),
         Err(ProgramFault::Code(refused)) => Err(Fault::Code {
-            why: refused.why,
-            place: refused.place,
+            path: path_of(alloc, &refused),
+            refused,
         }),
     }
 }
@@ -248,33 +257,12 @@ fn of_table(alloc: Global, text: &[u8]) -> Result<Box<Inner>, Fault>
     match table_policy(alloc, text) {
         Ok(policy) => hold(alloc, policy),
         Err(TableFault::NotUtf8) => Err(Fault::NotUtf8),
-        Err(TableFault::Text(TableRefusal::BadToml(error))) => Err(Fault::Toml {
-            line: line_of(text, &error),
+        Err(TableFault::Text(why)) => Err(Fault::Table {
+            place: refused_place(text, &why),
+            why,
         }),
-        Err(TableFault::Text(why)) => Err(Fault::Table(why)),
         Err(TableFault::OutOfMemory) => Err(Fault::OutOfMemory),
     }
-}
-
-/// The line at which an error of a text begins.
-#[tactic(auto, using(crate::proofs::Lines::feeds_before))]
-fn line_of(text: &[u8], error: &toml::de::Error) -> usize
-    ensures { IsLineOf text.now result }
-{
-    let place = match error.span() {
-        Some(span) => span.start,
-        None => 0,
-    };
-    match text.get(..place) {
-        Some(before) => 1 + line_feeds(before),
-        None => 1,
-    }
-}
-
-fn line_feeds(text: &[u8]) -> usize
-    ensures { result ≡ count_by (λ octet. octet == 10) text.now }
-{
-    text.iter().filter(|octet| **octet == b'\n').count()
 }
 
 /// A policy as a handle holds it.
