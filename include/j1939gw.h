@@ -123,7 +123,9 @@ enum jgw_refusal {
     JGW_NO_ROOM = 123,    /* fewer verdicts than frames, or room for fewer instructions */
     JGW_NOBODY = 124,     /* no NAME holds the address, or the NAME no address */
     JGW_NO_COPY = 125,    /* no copy waits for the port */
-    JGW_COPIES_WAIT = 126 /* a copy waits: take the copies of all ports first */
+    JGW_COPIES_WAIT = 126, /* a copy waits: take the copies of all ports first */
+    JGW_NO_TABLE = 127,    /* the policy is a program, and has no rules */
+    JGW_NO_RULE = 128      /* the table has no rule of this number */
 };
 
 /* Stands for a line, column, place, word or rule that a refusal does not name. */
@@ -131,17 +133,34 @@ enum jgw_refusal {
 
 /* Why a call was refused. It is written on a refusal alone. */
 struct jgw_error {
-    uint32_t number; /* enum jgw_refusal */
-    uint32_t line;   /* of a text, from 1 */
-    uint32_t place;  /* an instruction, from 0 */
-    uint32_t word;   /* a scratch word */
-    uint32_t rule;   /* of a table, from 0 */
+    uint32_t number;           /* enum jgw_refusal */
+    uint32_t line;             /* of a text, from 1 */
+    uint32_t column;           /* of a table's text, in octets of the line, from 1 */
+    uint32_t place;            /* an instruction, from 0 */
+    uint32_t word;             /* a scratch word */
+    uint32_t rule;             /* of a table, from 0 */
+    uint32_t steps;            /* how many instructions a path has that leaves the word unset, to the place. 0: none is told */
+    uint32_t path[JGW_PATH];   /* the first of them, from 0, and 0 behind the last */
+    char message[JGW_MESSAGE]; /* what is wrong, as `gw` says it: UTF-8, cut where it is long, and ended by an octet 0 */
+};
+
+/* Why a rule of a table can never decide, whatever the frame and the port. JGW_DECIDES: no such cause is known. */
+enum jgw_never {
+    JGW_DECIDES = 0,
+    JGW_NO_GROUP = 1,       /* no identifier's parameter group lies in its range */
+    JGW_NO_PORT = 2,        /* no port does */
+    JGW_NO_DESTINATION = 3, /* no group of its range has a destination in its range */
+    JGW_COVERED = 4         /* an earlier rule holds of every frame of which it holds */
 };
 
 /* What became of a frame that was offered. Bit p of a mask is port p. */
 struct jgw_outcome {
     uint32_t number;  /* of the frame at its port, from 0 */
     uint32_t front;   /* how many batches were published before it was taken */
+/* The parts of a table that are no rules. */
+#define JGW_DEFAULT 0xFFFFFFFEU /* `default`: no rule holds of the frame */
+#define JGW_OTHER 0xFFFFFFFDU   /* `other`: the frame is no extended data frame */
+
     uint32_t local;   /* 1: it stays on its segment, and was offered to no port. Else 0 */
     uint32_t allowed; /* the ports whose policies pass it */
     uint32_t placed;  /* those of them for which a copy waits now: the lanes to the others were full */
@@ -191,9 +210,11 @@ static_assert(sizeof(struct jgw_copy) == 24 && sizeof(struct jgw_outcome) == 20,
 _Static_assert(sizeof(struct can_frame) == 16 && sizeof(struct sock_filter) == 8, "as Linux lays them out");
 _Static_assert(sizeof(struct jgw_copy) == 24 && sizeof(struct jgw_outcome) == 20, "as the library lays them out");
 #endif
+static_assert(sizeof(struct jgw_error) == 28 + 4 * JGW_PATH + JGW_MESSAGE, "as the library lays it out");
 
 /* What the library exports. No pointer here may be NULL. Call the functions below. */
 void jgw_call_free(struct jgw_handle *handle);
+_Static_assert(sizeof(struct jgw_error) == 28 + 4 * JGW_PATH + JGW_MESSAGE, "as the library lays it out");
 uint32_t jgw_call_policy_from_code(const struct sock_filter *code, size_t length, struct jgw_handle *policy,
                                    struct jgw_error *error);
 uint32_t jgw_call_policy_from_listing(const char *text, size_t length, struct jgw_handle *policy, struct jgw_error *error);
@@ -209,12 +230,13 @@ uint32_t jgw_call_claims_new(struct jgw_handle *claims);
 uint32_t jgw_call_claims_hear(struct jgw_handle *claims, const struct can_frame *frame);
 uint32_t jgw_call_claims_holder(struct jgw_handle *claims, uint8_t address, uint64_t *name);
 uint32_t jgw_call_claims_address(struct jgw_handle *claims, uint64_t name, uint8_t *address);
+uint32_t jgw_call_policy_rules(struct jgw_handle *policy, uint32_t *count);
+uint32_t jgw_call_policy_rule_never(struct jgw_handle *policy, uint32_t rule, uint32_t *why, uint32_t *by);
+uint32_t jgw_call_decides(struct jgw_handle *policy, const struct can_frame *frame, uint8_t port, uint32_t *part);
 uint32_t jgw_call_claims_local(struct jgw_handle *claims, const struct can_frame *frame);
-static_assert(sizeof(struct jgw_error) == 28 + 4 * JGW_PATH + JGW_MESSAGE, "as the library lays it out");
 uint32_t jgw_call_batch_new(struct jgw_handle *batch);
 uint32_t jgw_call_batch_add(struct jgw_handle *batch, uint8_t port, struct jgw_handle *policy);
 uint32_t jgw_call_gateway_open(uint32_t ports, uint32_t lane, uint32_t frames, uint32_t versions, struct jgw_handle *gateway);
-_Static_assert(sizeof(struct jgw_error) == 28 + 4 * JGW_PATH + JGW_MESSAGE, "as the library lays it out");
 uint32_t jgw_call_gateway_publish(struct jgw_handle *gateway, struct jgw_handle *batch, uint32_t *front);
 uint32_t jgw_call_gateway_offer(struct jgw_handle *gateway, uint8_t port, const struct can_frame *frame,
                                 struct jgw_outcome *outcome);
@@ -350,6 +372,29 @@ static inline uint32_t jgw_policy_code(struct jgw_handle *policy, struct sock_fi
 static inline uint32_t jgw_claims_new(struct jgw_handle *claims)
 {
     return claims == NULL ? (uint32_t)JGW_NULL : jgw_call_claims_new(claims);
+/* FIXED. How many rules the policy's table has. A program is JGW_NO_TABLE. */
+static inline uint32_t jgw_policy_rules(struct jgw_handle *policy, uint32_t *count)
+{
+    return policy == NULL || count == NULL ? (uint32_t)JGW_NULL : jgw_call_policy_rules(policy, count);
+}
+
+/* FIXED. Why a rule, by its number from 0, can never decide: enum jgw_never, the first cause in its order. Of JGW_COVERED `by` is
+ * the first earlier rule that covers it, else JGW_NONE. `by` may be NULL. */
+static inline uint32_t jgw_policy_rule_never(struct jgw_handle *policy, uint32_t rule, uint32_t *why, uint32_t *by)
+{
+    uint32_t unread;
+    if (policy == NULL || why == NULL)
+        return JGW_NULL;
+    return jgw_call_policy_rule_never(policy, rule, why, by != NULL ? by : &unread);
+}
+
+/* FIXED. Which part of the policy's table decides a frame that was taken at a port: the number of a rule, from 0, JGW_DEFAULT or
+ * JGW_OTHER. */
+static inline uint32_t jgw_decides(struct jgw_handle *policy, const struct can_frame *frame, uint8_t port, uint32_t *part)
+{
+    return policy == NULL || frame == NULL || part == NULL ? (uint32_t)JGW_NULL : jgw_call_decides(policy, frame, port, part);
+}
+
 }
 
 /* FIXED. Hears a frame of the segment. */

@@ -125,8 +125,8 @@ static void test_code(void)
     struct can_frame eec1 = frame_of(0x8CF00400, ONES), pdu1 = frame_of(0x8CEF0400, ONES);
     EXPECT(jgw_policy_from_code(second, 4, &policy, &error) == JGW_OK && says(&error, 7, 7, 7, 7, 7, 7));
     EXPECT(jgw_verdict(&policy, &eec1, 0) == JGW_PASS && jgw_verdict(&policy, &pdu1, 0) == JGW_BLOCK);
-    EXPECT(jgw_policy_from_code(unset, 2, &policy, &error) == 29 && says(&error, 29, JGW_NONE, 0, 15, JGW_NONE));
-    EXPECT(jgw_policy_from_code(NULL, 0, &policy, &error) == 20 && says(&error, 20, JGW_NONE, 0, JGW_NONE, JGW_NONE));
+    EXPECT(jgw_policy_from_code(unset, 2, &policy, &error) == 29 && says(&error, 29, JGW_NONE, JGW_NONE, 0, 15, JGW_NONE));
+    EXPECT(jgw_policy_from_code(NULL, 0, &policy, &error) == 20 && says(&error, 20, JGW_NONE, JGW_NONE, 0, JGW_NONE, JGW_NONE));
     long_code[4096].code = 6;
     EXPECT(jgw_policy_from_code(long_code, 4097, &policy, &error) == 21 && error.place == 4096);
     EXPECT(jgw_verdict(&policy, &eec1, 0) == JGW_PASS);
@@ -309,6 +309,66 @@ static void test_compiled(void)
     jgw_free(&compiled);
 }
 
+/* Rules that never decide, worked by hand: below PDU format 240 the last octet of a PGN is 0, ports are 0 to 15, a PDU2 group
+ * goes to 255, and rule 3 holds of all that was taken at port 15. */
+static const char NEVER[] = "[[rule]]\naction = \"pass\"\npgn = [61185, 61439]\n"
+                            "[[rule]]\naction = \"pass\"\npgn = [61185, 61440]\n"
+                            "[[rule]]\naction = \"pass\"\nfrom = 16\n"
+                            "[[rule]]\naction = \"pass\"\nfrom = [15, 255]\n"
+                            "[[rule]]\naction = \"pass\"\npgn = [65280, 65535]\ndestination = [0, 254]\n"
+                            "[[rule]]\naction = \"block\"\nfrom = 15\npgn = 65260\n";
+
+static bool tells(struct jgw_handle *policy, uint32_t rule, uint32_t refusal, uint32_t cause, uint32_t earlier)
+{
+    uint32_t why = 7, by = 7;
+    return jgw_policy_rule_never(policy, rule, &why, &by) == refusal && why == cause && by == earlier;
+}
+
+static void test_rules(void)
+{
+    struct jgw_handle policy = JGW_NOTHING, program = JGW_NOTHING;
+    uint32_t count = 7, why = 7, by = 7;
+    EXPECT(jgw_policy_rules(&policy, &count) == JGW_WRONG_HANDLE && count == 7 && tells(&policy, 0, JGW_WRONG_HANDLE, 7, 7));
+    EXPECT(listing(&program, "1,6 0 0 1,", NULL) == JGW_OK && jgw_policy_rules(&program, &count) == JGW_NO_TABLE && count == 7);
+    EXPECT(tells(&program, 0, JGW_NO_TABLE, 7, 7));
+    EXPECT(table(&policy, "", NULL) == JGW_OK && jgw_policy_rules(&policy, &count) == JGW_OK && count == 0);
+    EXPECT(tells(&policy, 0, JGW_NO_RULE, 7, 7) && tells(&policy, UINT32_MAX, JGW_NO_RULE, 7, 7));
+    EXPECT(table(&policy, NEVER, NULL) == JGW_OK && jgw_policy_rules(&policy, &count) == JGW_OK && count == 6);
+    EXPECT(tells(&policy, 0, JGW_OK, JGW_NO_GROUP, JGW_NONE) && tells(&policy, 1, JGW_OK, JGW_DECIDES, JGW_NONE));
+    EXPECT(tells(&policy, 2, JGW_OK, JGW_NO_PORT, JGW_NONE) && tells(&policy, 3, JGW_OK, JGW_DECIDES, JGW_NONE));
+    EXPECT(tells(&policy, 4, JGW_OK, JGW_NO_DESTINATION, JGW_NONE) && tells(&policy, 5, JGW_OK, JGW_COVERED, 3));
+    EXPECT(tells(&policy, 6, JGW_NO_RULE, 7, 7));
+    EXPECT(jgw_policy_rule_never(&policy, 5, &why, NULL) == JGW_OK && why == JGW_COVERED);
+    EXPECT(jgw_policy_rules(NULL, &count) == JGW_NULL && jgw_policy_rules(&policy, NULL) == JGW_NULL);
+    EXPECT(jgw_policy_rule_never(NULL, 0, &why, &by) == JGW_NULL && jgw_policy_rule_never(&policy, 0, NULL, &by) == JGW_NULL);
+    jgw_free(&policy);
+    jgw_free(&program);
+}
+
+/* The first rule that holds decides: the group 61184 from source 1, and from any other. */
+static void test_decides(void)
+{
+    static const char RULES[] = "[[rule]]\naction = \"pass\"\npgn = 61184\nsource = 1\n"
+                                "[[rule]]\naction = \"block\"\npgn = 61184\nfrom = 2\n";
+    struct jgw_handle policy = JGW_NOTHING, program = JGW_NOTHING;
+    struct can_frame one = frame_of(0x98EF1201, ONES), two = frame_of(0x98EF1202, ONES), standard = frame_of(0x123, ONES);
+    uint32_t part = 7;
+    EXPECT(jgw_decides(&policy, &one, 0, &part) == JGW_WRONG_HANDLE && part == 7);
+    EXPECT(listing(&program, "1,6 0 0 1,", NULL) == JGW_OK && jgw_decides(&program, &one, 0, &part) == JGW_NO_TABLE && part == 7);
+    EXPECT(table(&policy, RULES, NULL) == JGW_OK);
+    EXPECT(jgw_decides(&policy, &one, 2, &part) == JGW_OK && part == 0);
+    EXPECT(jgw_decides(&policy, &two, 2, &part) == JGW_OK && part == 1);
+    EXPECT(jgw_decides(&policy, &two, 3, &part) == JGW_OK && part == JGW_DEFAULT);
+    EXPECT(jgw_decides(&policy, &standard, 2, &part) == JGW_OK && part == JGW_OTHER);
+    part = 7;
+    one.len = 9;
+    EXPECT(jgw_decides(&policy, &one, 2, &part) == JGW_BAD_LENGTH && part == 7);
+    EXPECT(jgw_decides(NULL, &two, 2, &part) == JGW_NULL && jgw_decides(&policy, NULL, 2, &part) == JGW_NULL);
+    EXPECT(jgw_decides(&policy, &two, 2, NULL) == JGW_NULL && part == 7);
+    jgw_free(&policy);
+    jgw_free(&program);
+}
+
 static void test_handles(void)
 {
     struct jgw_handle policy = JGW_NOTHING, other = JGW_NOTHING, claims = JGW_NOTHING, moved;
@@ -385,10 +445,10 @@ int main(void)
     test_verdicts();
     test_programs();
     test_compiled();
+    test_rules();
+    test_decides();
     test_handles();
     test_claims();
     printf("%u passed, %u failed\n", passed, failed);
     return failed != 0;
 }
-    test_rules();
-    test_decides();

@@ -9,6 +9,7 @@ pub mod Verdicts
 pub mod Hearing
 pub mod Gateways
 pub mod Offers
+pub mod Rules
 pub mod Sendings
 pub mod Counts
 pub mod Steps

@@ -14,6 +14,7 @@ mod opening;
 mod policies;
 mod programs;
 mod renewing;
+mod rules;
 mod sending;
 mod slot;
 mod stepping;
