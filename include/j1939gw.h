@@ -20,7 +20,7 @@
  * verdict too. Another thread may use it next, behind a lock, a thread's start or its join. Give each thread a handle of its
  * own: jgw_policy_share. No call belongs in a signal handler.
  *
- * CHECKED: NULL, the kind of a handle, the length of a frame, room for verdicts, UTF-8, limits, ports.
+ * CHECKED: NULL, the kind of a handle, the length of a frame, room for verdicts, UTF-8, limits, ports, rules.
  * NOT CHECKED, and C's to keep: a pointer leads to as many elements as the count says. No two pointers of a call overlap.
  * A handle is not used by two calls at once, nor through a copy, nor written by C. A text is at most PTRDIFF_MAX octets long.
  */
@@ -131,6 +131,10 @@ enum jgw_refusal {
 /* Stands for a line, column, place, word or rule that a refusal does not name. */
 #define JGW_NONE UINT32_MAX
 
+/* How many places of a path, and octets of a message, there is room for. */
+#define JGW_PATH 32
+#define JGW_MESSAGE 256
+
 /* Why a call was refused. It is written on a refusal alone. */
 struct jgw_error {
     uint32_t number;           /* enum jgw_refusal */
@@ -153,14 +157,14 @@ enum jgw_never {
     JGW_COVERED = 4         /* an earlier rule holds of every frame of which it holds */
 };
 
-/* What became of a frame that was offered. Bit p of a mask is port p. */
-struct jgw_outcome {
-    uint32_t number;  /* of the frame at its port, from 0 */
-    uint32_t front;   /* how many batches were published before it was taken */
 /* The parts of a table that are no rules. */
 #define JGW_DEFAULT 0xFFFFFFFEU /* `default`: no rule holds of the frame */
 #define JGW_OTHER 0xFFFFFFFDU   /* `other`: the frame is no extended data frame */
 
+/* What became of a frame that was offered. Bit p of a mask is port p. */
+struct jgw_outcome {
+    uint32_t number;  /* of the frame at its port, from 0 */
+    uint32_t front;   /* how many batches were published before it was taken */
     uint32_t local;   /* 1: it stays on its segment, and was offered to no port. Else 0 */
     uint32_t allowed; /* the ports whose policies pass it */
     uint32_t placed;  /* those of them for which a copy waits now: the lanes to the others were full */
@@ -206,15 +210,15 @@ struct jgw_handle {
 #ifdef __cplusplus
 static_assert(sizeof(struct can_frame) == 16 && sizeof(struct sock_filter) == 8, "as Linux lays them out");
 static_assert(sizeof(struct jgw_copy) == 24 && sizeof(struct jgw_outcome) == 20, "as the library lays them out");
+static_assert(sizeof(struct jgw_error) == 28 + 4 * JGW_PATH + JGW_MESSAGE, "as the library lays it out");
 #else
 _Static_assert(sizeof(struct can_frame) == 16 && sizeof(struct sock_filter) == 8, "as Linux lays them out");
 _Static_assert(sizeof(struct jgw_copy) == 24 && sizeof(struct jgw_outcome) == 20, "as the library lays them out");
+_Static_assert(sizeof(struct jgw_error) == 28 + 4 * JGW_PATH + JGW_MESSAGE, "as the library lays it out");
 #endif
-static_assert(sizeof(struct jgw_error) == 28 + 4 * JGW_PATH + JGW_MESSAGE, "as the library lays it out");
 
 /* What the library exports. No pointer here may be NULL. Call the functions below. */
 void jgw_call_free(struct jgw_handle *handle);
-_Static_assert(sizeof(struct jgw_error) == 28 + 4 * JGW_PATH + JGW_MESSAGE, "as the library lays it out");
 uint32_t jgw_call_policy_from_code(const struct sock_filter *code, size_t length, struct jgw_handle *policy,
                                    struct jgw_error *error);
 uint32_t jgw_call_policy_from_listing(const char *text, size_t length, struct jgw_handle *policy, struct jgw_error *error);
@@ -226,13 +230,13 @@ uint32_t jgw_call_verdicts(struct jgw_handle *policy, const struct can_frame *fr
                            uint32_t *verdicts, size_t room);
 uint32_t jgw_call_answer(struct jgw_handle *policy, const struct can_frame *frame, uint8_t port, uint32_t *answer);
 uint32_t jgw_call_policy_code(struct jgw_handle *policy, struct sock_filter *code, size_t room, uint32_t *count);
+uint32_t jgw_call_policy_rules(struct jgw_handle *policy, uint32_t *count);
+uint32_t jgw_call_policy_rule_never(struct jgw_handle *policy, uint32_t rule, uint32_t *why, uint32_t *by);
+uint32_t jgw_call_decides(struct jgw_handle *policy, const struct can_frame *frame, uint8_t port, uint32_t *part);
 uint32_t jgw_call_claims_new(struct jgw_handle *claims);
 uint32_t jgw_call_claims_hear(struct jgw_handle *claims, const struct can_frame *frame);
 uint32_t jgw_call_claims_holder(struct jgw_handle *claims, uint8_t address, uint64_t *name);
 uint32_t jgw_call_claims_address(struct jgw_handle *claims, uint64_t name, uint8_t *address);
-uint32_t jgw_call_policy_rules(struct jgw_handle *policy, uint32_t *count);
-uint32_t jgw_call_policy_rule_never(struct jgw_handle *policy, uint32_t rule, uint32_t *why, uint32_t *by);
-uint32_t jgw_call_decides(struct jgw_handle *policy, const struct can_frame *frame, uint8_t port, uint32_t *part);
 uint32_t jgw_call_claims_local(struct jgw_handle *claims, const struct can_frame *frame);
 uint32_t jgw_call_batch_new(struct jgw_handle *batch);
 uint32_t jgw_call_batch_add(struct jgw_handle *batch, uint8_t port, struct jgw_handle *policy);
@@ -241,6 +245,8 @@ uint32_t jgw_call_gateway_publish(struct jgw_handle *gateway, struct jgw_handle 
 uint32_t jgw_call_gateway_offer(struct jgw_handle *gateway, uint8_t port, const struct can_frame *frame,
                                 struct jgw_outcome *outcome);
 uint32_t jgw_call_gateway_next(struct jgw_handle *gateway, uint8_t to, struct jgw_copy *copy);
+uint32_t jgw_call_gateway_next_many(struct jgw_handle *gateway, uint8_t to, struct jgw_copy *copies, size_t room,
+                                    uint32_t *count);
 uint32_t jgw_call_gateway_peek(struct jgw_handle *gateway, uint8_t to, struct jgw_copy *copy);
 uint32_t jgw_call_gateway_waiting(struct jgw_handle *gateway, uint8_t from, uint8_t to, uint64_t *count);
 uint32_t jgw_call_gateway_counters_in(struct jgw_handle *gateway, uint8_t port, struct jgw_counters_in *counters);
@@ -366,12 +372,6 @@ static inline uint32_t jgw_policy_code(struct jgw_handle *policy, struct sock_fi
     return jgw_call_policy_code(policy, code, room, count);
 }
 
-/* ---- Address claims: which NAME holds which address of a segment, by the Address Claimed frames that were heard there ---- */
-
-/* Nothing was heard yet. What `claims` held is freed. */
-static inline uint32_t jgw_claims_new(struct jgw_handle *claims)
-{
-    return claims == NULL ? (uint32_t)JGW_NULL : jgw_call_claims_new(claims);
 /* FIXED. How many rules the policy's table has. A program is JGW_NO_TABLE. */
 static inline uint32_t jgw_policy_rules(struct jgw_handle *policy, uint32_t *count)
 {
@@ -395,6 +395,12 @@ static inline uint32_t jgw_decides(struct jgw_handle *policy, const struct can_f
     return policy == NULL || frame == NULL || part == NULL ? (uint32_t)JGW_NULL : jgw_call_decides(policy, frame, port, part);
 }
 
+/* ---- Address claims: which NAME holds which address of a segment, by the Address Claimed frames that were heard there ---- */
+
+/* Nothing was heard yet. What `claims` held is freed. */
+static inline uint32_t jgw_claims_new(struct jgw_handle *claims)
+{
+    return claims == NULL ? (uint32_t)JGW_NULL : jgw_call_claims_new(claims);
 }
 
 /* FIXED. Hears a frame of the segment. */
@@ -473,6 +479,18 @@ static inline uint32_t jgw_offer(struct jgw_handle *gateway, uint8_t port, const
 static inline uint32_t jgw_next(struct jgw_handle *gateway, uint8_t to, struct jgw_copy *copy)
 {
     return gateway == NULL || copy == NULL ? (uint32_t)JGW_NULL : jgw_call_gateway_next(gateway, to, copy);
+}
+
+/* FIXED. Takes copies off the lanes of a port, as jgw_next does one by one, until none waits or there is no room for more.
+ * `count` says how many, and is 0 where none waited. The room behind them is left. */
+static inline uint32_t jgw_next_many(struct jgw_handle *gateway, uint8_t to, struct jgw_copy *copies, size_t room,
+                                     uint32_t *count)
+{
+    if (gateway == NULL || (copies == NULL && room != 0) || count == NULL)
+        return JGW_NULL;
+    if (copies == NULL)
+        copies = (struct jgw_copy *)(void *)gateway; /* of no room */
+    return jgw_call_gateway_next_many(gateway, to, copies, room, count);
 }
 
 /* FIXED. The copy that jgw_next would take, which goes on waiting: write it to the bus, and take it once that has succeeded. */

@@ -251,6 +251,40 @@ static void test_circle(void)
     jgw_free(&gateway);
 }
 
+/* The same copies, as many as there is room for, and the room behind them is left. */
+static void test_many(void)
+{
+    static const uint8_t turns[] = {0, 1, 2, 0, 2};
+    struct jgw_handle gateway = JGW_NOTHING, batch = JGW_NOTHING, policy = JGW_NOTHING;
+    struct can_frame frame = frame_of(0x8CF00400, 9);
+    struct jgw_copy untouched = {frame, 7, 7}, copies[6], copy;
+    uint32_t count = 7;
+    for (unsigned i = 0; i < 6; i++)
+        copies[i] = untouched;
+    EXPECT(jgw_next_many(&gateway, 3, copies, 6, &count) == JGW_WRONG_HANDLE && count == 7 && copies[0].number == 7);
+    EXPECT(make_table(&policy, "default = \"pass\"") == JGW_OK && jgw_batch_new(&batch) == JGW_OK);
+    EXPECT(jgw_next_many(&policy, 3, copies, 6, &count) == JGW_WRONG_HANDLE && count == 7 && copies[0].number == 7);
+    EXPECT(jgw_batch_add(&batch, 3, &policy) == JGW_OK && jgw_gateway_open(4, 8, 100, 1, &gateway) == JGW_OK);
+    EXPECT(jgw_gateway_publish(&gateway, &batch, NULL) == JGW_OK);
+    EXPECT(jgw_next_many(&gateway, 4, copies, 6, &count) == JGW_NO_SUCH_PORT && count == 7 && copies[0].number == 7);
+    EXPECT(jgw_next_many(&gateway, 3, copies, 6, &count) == JGW_OK && count == 0 && copies[0].number == 7);
+    for (unsigned i = 0; i < 2; i++) {
+        EXPECT(jgw_offer(&gateway, 2, &frame, NULL) == JGW_OK && jgw_offer(&gateway, 0, &frame, NULL) == JGW_OK);
+        EXPECT(i > 0 || jgw_offer(&gateway, 1, &frame, NULL) == JGW_OK);
+    }
+    count = 7;
+    EXPECT(jgw_next_many(&gateway, 3, NULL, 0, &count) == JGW_OK && count == 0);
+    EXPECT(jgw_next_many(&gateway, 3, copies, 2, &count) == JGW_OK && count == 2 && copies[2].number == 7);
+    EXPECT(jgw_next_many(&gateway, 3, copies + 2, 4, &count) == JGW_OK && count == 3 && copies[5].number == 7);
+    for (unsigned i = 0; i < 5; i++)
+        EXPECT(copies[i].from == turns[i] && copies[i].number == (i < 3 ? 0u : 1u) && is_frame(&copies[i], &frame));
+    EXPECT(jgw_next(&gateway, 3, &copy) == JGW_NO_COPY && jgw_gateway_renew(&gateway) == JGW_OK);
+    EXPECT(jgw_next_many(NULL, 3, copies, 6, &count) == JGW_NULL && jgw_next_many(&gateway, 3, NULL, 1, &count) == JGW_NULL);
+    EXPECT(jgw_next_many(&gateway, 3, copies, 6, NULL) == JGW_NULL && count == 3);
+    jgw_free(&policy);
+    jgw_free(&gateway);
+}
+
 /* A gateway of one version and three frames begins anew: its policies and claims stay, and it counts from 0. */
 static void test_renewal(void)
 {
@@ -335,9 +369,9 @@ int main(void)
     test_steps();
     test_local();
     test_circle();
+    test_many();
     test_renewal();
     test_handles();
     printf("%u passed, %u failed\n", passed, failed);
     return failed != 0;
 }
-    test_many();

@@ -1,4 +1,4 @@
-pub mod Lines
+pub mod InTurn
 pub mod Masks
 pub mod Octets
 pub mod Slots

@@ -43,7 +43,10 @@ pub use policies::{
 };
 pub use programs::{jgw_call_answer, jgw_call_policy_code};
 pub use renewing::jgw_call_gateway_renew;
-pub use sending::{CCopy, jgw_call_gateway_next, jgw_call_gateway_peek};
+pub use rules::{jgw_call_decides, jgw_call_policy_rule_never, jgw_call_policy_rules};
+pub use sending::{
+    CCopy, jgw_call_gateway_next, jgw_call_gateway_next_many, jgw_call_gateway_peek,
+};
 use std::alloc::Global;
 pub use stepping::{CStep, CTaken, jgw_call_gateway_step, jgw_call_gateway_take};
 pub use verdict::jgw_call_verdict;

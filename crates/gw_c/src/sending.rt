@@ -1,13 +1,15 @@
 //! Copies that a port of a gateway sends, by handle.
 
-ghost use Rattle.std.specs.Prelude.{◌≡◌, ◌≢◌, List, None, IsSomeAnd};
+ghost use Rattle.std.specs.Prelude.{◌≡◌, ◌≢◌, ◌<◌, List, None, MatchOption, IsSomeAnd};
 ghost use Rattle.gw_core.specs.Start.{Heard};
 ghost use Rattle.gw_core.specs.Gateway.{Stands};
 ghost use Rattle.gw_core.specs.declared.event.Event.{Event};
 ghost use Rattle.gw_c.specs.Gateways.{gateway_in, StandsIn, Changes};
-ghost use Rattle.gw_c.specs.Sendings.{IsCopyTold, SendsTold, PeeksTold};
+ghost use Rattle.gw_c.specs.Counts.{port_answer};
+ghost use Rattle.gw_c.specs.Sendings.{IsCopyTold, SendsTold, SendsAllTold, SendsOneOrNone, PeeksTold};
 
 use crate::can::{CanFrame, can_of};
+use crate::fault::counted;
 use crate::handle::Handle;
 use crate::inner::Inner;
 use gw_core::Core;
@@ -65,6 +67,80 @@ fn next(core: &mut Core, to: u8, copy: &mut CCopy) -> u32
         Ok(None) => 125,
         Err(why) => why.number(),
     }
+}
+
+/// Sends as many of the copies that wait for a port as there is room for, in the order of `jgw_call_gateway_next`, and at most
+/// 4294967295. 0: `count` says how many, and `copies` tells them. The room behind them is left. 72: there is no such port. 121:
+/// the handle holds no gateway.
+#[unsafe(no_mangle)]
+pub extern "C" fn jgw_call_gateway_next_many(
+    alloc: Global,
+    gateway: &mut Handle,
+    to: u8,
+    copies: &mut [CCopy],
+    count: &mut u32,
+) -> u32
+    ensures answer { MatchOption (gateway_in gateway.old.slot.value) (result ≡ 121)
+        (λ core. result ≡ port_answer core.limits to) }
+    ensures sends { (known : Heard) (history : List Event) → StandsIn known history gateway.old.slot.value → result ≡ 0
+        → Changes (SendsAllTold known history to count.new copies.old copies.new) gateway.old.slot.value gateway.new.slot.value }
+    ensures refused { result ≢ 0 → gateway.new.slot.value ≡ gateway.old.slot.value }
+    ensures unwritten { result ≢ 0 → copies.new ≡ copies.old }
+    ensures uncounted { result ≢ 0 → count.new ≡ count.old }
+{
+    let Some(mut held) = gateway.take(alloc) else {
+        return 121;
+    };
+    let done = match &mut *held {
+        Inner::Gateway(core) => next_many(core, to, copies, count),
+        _ => 121,
+    };
+    gateway.put(held);
+    done
+}
+
+fn next_many(core: &mut Core, to: u8, copies: &mut [CCopy], count: &mut u32) -> u32
+    ensures answer { result ≡ port_answer core.old.limits to }
+    ensures sends { (known : Heard) (history : List Event) → Stands core.old known history → result ≡ 0
+        → SendsAllTold known history to count.new copies.old copies.new core.old core.new }
+    ensures refused { result ≢ 0 → core.new ≡ core.old }
+    ensures unwritten { result ≢ 0 → copies.new ≡ copies.old }
+    ensures uncounted { result ≢ 0 → count.new ≡ count.old }
+{
+    if u32::from(to) >= core.limits().ports() {
+        return 72;
+    }
+    *count = send_each(core, to, copies);
+    0
+}
+
+/// Sends copies until there is no room for more or none waits, and says how many it sent.
+fn send_each(core: &mut Core, to: u8, copies: &mut [CCopy]) -> u32
+    requires { to < core.old.limits.ports }
+    ensures { (known : Heard) (history : List Event) → Stands core.old known history
+        → SendsAllTold known history to result copies.old copies.new core.old core.new }
+{
+    let room = counted(copies.len());
+    for count in 0..room {
+        let Some(copy) = send_next(core, to) else {
+            return count;
+        };
+        copies[count as usize] = copy;
+    }
+    room
+}
+
+/// Sends the next copy, where one waits.
+fn send_next(core: &mut Core, to: u8) -> Option<CCopy>
+    requires { to < core.old.limits.ports }
+    ensures sends { (known : Heard) (history : List Event) → Stands core.old known history
+        → SendsOneOrNone known to result core.old history core.new }
+    ensures limits { core.new.limits ≡ core.old.limits }
+{
+    let Ok(sent) = core.next(to) else {
+        return None;
+    };
+    Some(told(&sent?))
 }
 
 /// Tells the copy that `jgw_call_gateway_next` would send, which stays where it waits, and answers as that does.
