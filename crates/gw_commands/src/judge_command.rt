@@ -22,7 +22,7 @@ use crate::answer::Answer;
 use crate::capture_command::judge_frames;
 use crate::files::read_file;
 use crate::log_counts::{CountForm, TellsParts, told_text};
-use crate::notes::{note_file, note_no_log, note_port_form, note_refused_lines};
+use crate::notes::{note_file, note_no_log, note_port_form, note_refused_lines, note_unasked_port};
 use crate::refusal::Refusal;
 use crate::responding::{respond, write_refusal};
 use crate::stated::StatedTable;
@@ -168,6 +168,7 @@ fn judge_table<I: Read, W: Write, F: Write>(
 {
     let StatedTable { table, lines } = stated;
     let rule_lines = lines.as_slice();
+    note_unasked_port(table.rules(), query.port, faults);
     match IndexedTable::new(alloc, table) {
         Ok(indexed) => judge_by(alloc, query, &indexed, rule_lines, input, output, faults),
         Err(table) => judge_by(alloc, query, &table, rule_lines, input, output, faults),

@@ -9,7 +9,7 @@ use gw_insn::read_listing;
 use gw_io::Tried;
 use gw_judge::{Head, NoFrame, NoLog, Tally};
 use gw_log::LogRefusal;
-use gw_table::Part;
+use gw_table::{Part, Rule};
 use std::alloc::Global;
 use std::fmt::{Display, Formatter};
 use std::io::Write;
@@ -98,6 +98,16 @@ pub fn note_port_form<F: Write>(file: &str, faults: &mut Tried<F>) {
                 is the ingress port"
             );
         }
+    }
+}
+
+/// Tells of rules that all ask for another ingress port than 0, where a log is judged as heard there: mostly `--port` is missing.
+pub fn note_unasked_port<F: Write>(rules: &[Rule], port: u8, faults: &mut Tried<F>) {
+    if port == 0 && !rules.is_empty() && rules.iter().all(|rule| rule.from.low > 0) {
+        let _ = writeln!(
+            faults,
+            "gw: the frames are judged as taken at port 0, which no rule has in its `from`; --port P names another"
+        );
     }
 }
 
