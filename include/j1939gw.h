@@ -6,7 +6,7 @@
  *
  * FRAMES are `struct can_frame` and instructions `struct sock_filter`, as Linux has them. On another system, or where
  * J1939GW_OWN_TYPES is defined, this header declares both. The identifier word is in the machine's byte order, with the flags
- * CAN_EFF_FLAG, CAN_RTR_FLAG and CAN_ERR_FLAG. A program loads it big-endian from octets 0 to 3, as from a pcap record.
+ * CAN_EFF_FLAG, CAN_RTR_FLAG and CAN_ERR_FLAG. A program sees the frame's 16 octets, with that word big-endian in 0 to 3.
  *
  * RESULTS. A call answers 0, or the number of a refusal (below). A refused call has changed nothing but its error.
  * jgw_verdict and jgw_claims_local answer 0 or 1, or the number of a refusal, which is neither.
@@ -35,6 +35,11 @@
 #include <linux/can.h>
 #include <linux/filter.h>
 #else
+/* The flags of an identifier word. */
+#define CAN_EFF_FLAG 0x80000000U /* extended: an identifier of 29 bits, as all of SAE J1939 */
+#define CAN_RTR_FLAG 0x40000000U /* a remote frame */
+#define CAN_ERR_FLAG 0x20000000U /* an error message */
+
 struct can_frame {
     uint32_t can_id;
     uint8_t len;
@@ -148,14 +153,17 @@ struct jgw_error {
     char message[JGW_MESSAGE]; /* what is wrong, as `gw` says it: UTF-8, cut where it is long, and ended by an octet 0 */
 };
 
-/* Why a rule of a table can never decide, whatever the frame and the port. JGW_DECIDES: no such cause is known. */
+/* Why a rule of a table can never decide, whatever the frame and the port. JGW_MAY_DECIDE: no such cause is known. */
 enum jgw_never {
-    JGW_DECIDES = 0,
+    JGW_MAY_DECIDE = 0,
     JGW_NO_GROUP = 1,       /* no identifier's parameter group lies in its range */
     JGW_NO_PORT = 2,        /* no port does */
     JGW_NO_DESTINATION = 3, /* no group of its range has a destination in its range */
     JGW_COVERED = 4         /* an earlier rule holds of every frame of which it holds */
 };
+
+/* What a program loads the ingress port from: `ld ifidx` of the assembler. */
+#define JGW_INGRESS 0xFFFFF008U
 
 /* The parts of a table that are no rules. */
 #define JGW_DEFAULT 0xFFFFFFFEU /* `default`: no rule holds of the frame */
@@ -199,8 +207,8 @@ struct jgw_step {
     struct jgw_outcome outcome;
 };
 
-/* Holds a policy, claims, a batch or a gateway, or nothing. C reads no field and writes none, but for a handle that begins as
- * JGW_NOTHING. */
+/* Holds a policy, claims, a batch or a gateway, or nothing. C reads no field and writes none. A handle begins as JGW_NOTHING, its
+ * initializer, or is static. */
 struct jgw_handle {
     bool there;
     void *at;
@@ -276,7 +284,8 @@ static inline void jgw_free(struct jgw_handle *handle)
         jgw_call_free(handle);
 }
 
-/* ---- Policies: what may leave at a port. What `policy` held is freed once the new policy is made. `error` may be NULL. ---- */
+/* ---- Policies: what may leave at a port. What `policy` held is freed once the new policy is made. `error` may be NULL. The
+ * length of a text counts no 0 at its end. ---- */
 
 /* The policy of code that is accepted. It passes the frames on which the program does not answer 0. */
 static inline uint32_t jgw_policy_from_code(const struct sock_filter *code, size_t length, struct jgw_handle *policy,
@@ -482,7 +491,8 @@ static inline uint32_t jgw_next(struct jgw_handle *gateway, uint8_t to, struct j
 }
 
 /* FIXED. Takes copies off the lanes of a port, as jgw_next does one by one, until none waits or there is no room for more.
- * `count` says how many, and is 0 where none waited. The room behind them is left. */
+ * `count` says how many, and is 0 where none waited. The room behind them is left. What was taken is the caller's to send: give
+ * as much room as the driver has. */
 static inline uint32_t jgw_next_many(struct jgw_handle *gateway, uint8_t to, struct jgw_copy *copies, size_t room,
                                      uint32_t *count)
 {
@@ -499,8 +509,9 @@ static inline uint32_t jgw_peek(struct jgw_handle *gateway, uint8_t to, struct j
     return gateway == NULL || copy == NULL ? (uint32_t)JGW_NULL : jgw_call_gateway_peek(gateway, to, copy);
 }
 
-/* FIXED. Begins anew, so that frames, batches and counters count from 0 again. The policies in force are the first batch, and the
- * address claims stay. JGW_BUSY: a frame that was taken is unfinished. JGW_COPIES_WAIT: take the copies of all ports first. */
+/* FIXED. Begins anew, so that frames and counters count from 0 again. The policies in force are the first of the batches, so open
+ * it for two or more. The address claims stay. JGW_BUSY: a frame that was taken is unfinished. JGW_COPIES_WAIT: take the copies
+ * of all ports first. */
 static inline uint32_t jgw_gateway_renew(struct jgw_handle *gateway)
 {
     return gateway == NULL ? (uint32_t)JGW_NULL : jgw_call_gateway_renew(gateway);

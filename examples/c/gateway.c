@@ -59,7 +59,7 @@ int main(int count, char **words)
     char line[256], time[32];
     uint8_t port;
     if (count != 3 || jgw_batch_new(&batch) != JGW_OK || !join(&batch, 0, words[1]) || !join(&batch, 1, words[2])
-        || jgw_gateway_open(2, 64, UINT32_MAX, 1, &gateway) != JGW_OK || jgw_gateway_publish(&gateway, &batch, NULL) != JGW_OK)
+        || jgw_gateway_open(2, 64, UINT32_MAX, 2, &gateway) != JGW_OK || jgw_gateway_publish(&gateway, &batch, NULL) != JGW_OK)
         return 2;
     while (fgets(line, sizeof line, stdin) != NULL) {
         if (!read_line(line, time, &port, &frame) || jgw_offer(&gateway, port, &frame, NULL) != JGW_OK)

@@ -334,8 +334,8 @@ static void test_rules(void)
     EXPECT(table(&policy, "", NULL) == JGW_OK && jgw_policy_rules(&policy, &count) == JGW_OK && count == 0);
     EXPECT(tells(&policy, 0, JGW_NO_RULE, 7, 7) && tells(&policy, UINT32_MAX, JGW_NO_RULE, 7, 7));
     EXPECT(table(&policy, NEVER, NULL) == JGW_OK && jgw_policy_rules(&policy, &count) == JGW_OK && count == 6);
-    EXPECT(tells(&policy, 0, JGW_OK, JGW_NO_GROUP, JGW_NONE) && tells(&policy, 1, JGW_OK, JGW_DECIDES, JGW_NONE));
-    EXPECT(tells(&policy, 2, JGW_OK, JGW_NO_PORT, JGW_NONE) && tells(&policy, 3, JGW_OK, JGW_DECIDES, JGW_NONE));
+    EXPECT(tells(&policy, 0, JGW_OK, JGW_NO_GROUP, JGW_NONE) && tells(&policy, 1, JGW_OK, JGW_MAY_DECIDE, JGW_NONE));
+    EXPECT(tells(&policy, 2, JGW_OK, JGW_NO_PORT, JGW_NONE) && tells(&policy, 3, JGW_OK, JGW_MAY_DECIDE, JGW_NONE));
     EXPECT(tells(&policy, 4, JGW_OK, JGW_NO_DESTINATION, JGW_NONE) && tells(&policy, 5, JGW_OK, JGW_COVERED, 3));
     EXPECT(tells(&policy, 6, JGW_NO_RULE, 7, 7));
     EXPECT(jgw_policy_rule_never(&policy, 5, &why, NULL) == JGW_OK && why == JGW_COVERED);
