@@ -2,24 +2,11 @@
  * Each call of a gateway by libj1939gw, right and wrong. What a call must answer is worked by hand from docs/FORMATS.md: which
  * ports a frame is offered to, and what the commands of scripts answer. The last line is `N passed, M failed`.
  */
+#include "expect.h"
 #include "j1939gw.h"
 
 #include <stdio.h>
 #include <string.h>
-
-static unsigned passed, failed;
-
-#define EXPECT(holds) expect((holds), #holds, __LINE__)
-
-static void expect(bool holds, const char *what, int line)
-{
-    if (holds) {
-        passed++;
-    } else {
-        failed++;
-        printf("tests/capi/gateway.c:%d: %s\n", line, what);
-    }
-}
 
 /* A frame of eight octets with this identifier word, the first octets of which are a number. */
 static struct can_frame frame_of(uint32_t word, uint32_t number)

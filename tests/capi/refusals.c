@@ -2,24 +2,11 @@
  * Why libj1939gw makes no policy: what each refusal names, where it is, the path that leaves a scratch word unset, and the words.
  * These are what `gw` says of the same texts, as the rows of tests have it. The last line is `N passed, M failed`.
  */
+#include "expect.h"
 #include "j1939gw.h"
 
 #include <stdio.h>
 #include <string.h>
-
-static unsigned passed, failed;
-
-#define EXPECT(holds) expect((holds), #holds, __LINE__)
-
-static void expect(bool holds, const char *what, int line)
-{
-    if (holds) {
-        passed++;
-    } else {
-        failed++;
-        printf("tests/capi/refusals.c:%d: %s\n", line, what);
-    }
-}
 
 typedef uint32_t make(const char *text, size_t length, struct jgw_handle *policy, struct jgw_error *error);
 

@@ -3,30 +3,11 @@
  * a record's word is big-endian, the first rule that holds decides, and a program passes what it does not answer 0 to.
  * The last line is `N passed, M failed`.
  */
+#include "expect.h"
 #include "j1939gw.h"
 
 #include <stdio.h>
 #include <string.h>
-
-#ifdef J1939GW_OWN_TYPES
-#define CAN_EFF_FLAG 0x80000000U
-#define CAN_RTR_FLAG 0x40000000U
-#define CAN_ERR_FLAG 0x20000000U
-#endif
-
-static unsigned passed, failed;
-
-#define EXPECT(holds) expect((holds), #holds, __LINE__)
-
-static void expect(bool holds, const char *what, int line)
-{
-    if (holds) {
-        passed++;
-    } else {
-        failed++;
-        printf("tests/capi/test.c:%d: %s\n", line, what);
-    }
-}
 
 /* A frame with this identifier word, and eight octets of data. */
 static struct can_frame frame_of(uint32_t word, const char *octets)
