@@ -5,3 +5,4 @@ pub mod Unique
 pub mod Effects
 pub mod Totals
 pub mod Steps
+pub mod Advanced
