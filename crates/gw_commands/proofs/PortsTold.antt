@@ -7,18 +7,14 @@ use Rattle.std.proofs.lemmas.Slice.Zip.{AllZip-long}
 use Rattle.gw_table.specs.declared.crossing.Change.{Change}
 use Rattle.gw_table.specs.declared.crossing.Crossing.{Crossing}
 use Rattle.gw_table.specs.Crossings.{AreAlikeEverywhere, AreCrossings}
-use Rattle.gw_input.specs.Tables.{IsTable}
 use Rattle.gw_commands.specs.declared.diff_ports_command.PortTexts.{PortTexts}
-use Rattle.gw_commands.specs.declared.diff_ports_command.StatedChange.{StatedChange}
+use Rattle.gw_commands.specs.declared.stated.StatedChange.{StatedChange}
 use Rattle.gw_commands.specs.declared.refusal.Refusal.{Refusal}
 use Rattle.gw_commands.specs.declared.refusal.Refusal.TheVariants.{OutOfMemory}
-use Rattle.gw_commands.specs.declared.stated.StatedTable.{StatedTable}
 use Rattle.gw_commands.specs.Commands.{Writes}
 use Rattle.gw_commands.specs.Differences.{Appends, IsDifferenceLine, WritesOne, found_status}
 use Rattle.gw_commands.specs.PortDifferences.{AreChanges, AreStated, IsChange, IsCrossingLine, IsCrossingsText}
 use Rattle.gw_commands.specs.PortDifferences.{IsStatedChange, RefusesEitherText, RefusesFirst, TellsCrossings, port_text}
-use Rattle.gw_commands.specs.Stated.{IsStated}
-use Rattle.gw_commands.specs.Tables.{RefusesText}
 use Rattle.gw_commands.proofs.DifferenceStatus.{tells_alike}
 use Rattle.gw_commands.proofs.PlaceByPlace.{all_left}
 
@@ -63,16 +59,6 @@ told_crossings stated changes found items before after failed status same tables
       alike = tells_alike (AreAlikeEverywhere changes) (IsCrossingsText stated items) items before after failed status alike told;
     })
 told_crossings stated changes found items before after failed status same tables crossings alike (inr wanting) = inr wanting
-
--- a port's new text is refused behind an old one that is a table
-pub refuses_new : (texts : PortTexts) (old new : List ℕ) (stated : StatedTable) (refusal : Refusal) → old ≡ texts.old.items
-    → new ≡ texts.new.items → IsStated old stated → RefusesText new refusal → RefusesEitherText texts refusal
-refuses_new texts old new stated refusal is_old is_new known refused =
-    inr (
-      stated.table,
-      subst (λ text. IsTable text stated.table) is_old known.table,
-      subst (λ text. RefusesText text refusal) is_new refused,
-    )
 
 -- a port's text is refused where the texts of the ports before are tables
 pub refuses_first : (texts : List PortTexts) (port : ℕ) (own : PortTexts) (stated : List StatedChange) (refusal : Refusal)

@@ -15,6 +15,7 @@ use Rattle.gw_input.specs.Tables.{IsTable}
 use Rattle.gw_commands.specs.declared.refusal.Refusal.{Refusal}
 use Rattle.gw_commands.specs.declared.refusal.Refusal.TheVariants.{OutOfMemory}
 use Rattle.gw_commands.specs.Commands.{Writes, WritesText}
+use Rattle.gw_commands.specs.declared.stated.StatedChange.{StatedChange}
 use Rattle.gw_commands.specs.declared.stated.StatedTable.{StatedTable}
 use Rattle.gw_commands.specs.Policies.{RefusesFile}
 use Rattle.gw_commands.specs.Shown.{asked_line}
@@ -96,6 +97,11 @@ TellsDifferences old new before after failed status =
 -- the first refusal of two texts: that of the old table's, or behind an old table that of the new one's
 abbrev pub RefusesEither : List ℕ → List ℕ → Refusal → Type 0
 RefusesEither old new refusal = RefusesText old refusal ⊎ ((table : Meaning) × IsTable old table × RefusesText new refusal)
+
+-- the tables of two texts
+pub record AreTablesOf (old_text new_text : List ℕ) (tables : StatedChange) : Type 0 where
+  pub old : IsStated old_text tables.old
+  pub new : IsStated new_text tables.new
 
 -- the tables of two texts were compared; or a text was refused
 abbrev pub ComparesTexts : List ℕ → List ℕ → Option (List ℕ) → Option (List ℕ) → Bool → ℕ → Type 0

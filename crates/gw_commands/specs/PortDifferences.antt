@@ -7,13 +7,12 @@ use Rattle.gw_table.specs.declared.crossing.Crossing.{Crossing}
 use Rattle.gw_table.specs.Crossings.{AreAlikeEverywhere, AreCrossings}
 use Rattle.gw_commands.specs.declared.diff_ports_command.PortFiles.{PortFiles}
 use Rattle.gw_commands.specs.declared.diff_ports_command.PortTexts.{PortTexts}
-use Rattle.gw_commands.specs.declared.diff_ports_command.StatedChange.{StatedChange}
+use Rattle.gw_commands.specs.declared.stated.StatedChange.{StatedChange}
 use Rattle.gw_commands.specs.declared.refusal.Refusal.{Refusal}
 use Rattle.gw_commands.specs.declared.refusal.Refusal.TheVariants.{OutOfMemory}
 use Rattle.gw_commands.specs.Commands.{Writes}
-use Rattle.gw_commands.specs.Differences.{IsDifferenceLine, IsTextOf, RefusesEither, WritesOne, found_status}
+use Rattle.gw_commands.specs.Differences.{AreTablesOf, IsDifferenceLine, IsTextOf, RefusesEither, WritesOne, found_status}
 use Rattle.gw_commands.specs.Policies.{RefusesFile}
-use Rattle.gw_commands.specs.Stated.{IsStated}
 
 -- the port at which a frame leaves, in front of what is told of it
 abbrev pub port_text : ℕ → List ℕ
@@ -56,9 +55,8 @@ TellsCrossings stated before after failed status =
     TellsEachCrossing stated before after failed status ⊎ Writes (Err OutOfMemory) status before after failed
 
 -- the tables of a port's texts
-pub record IsStatedChange (texts : PortTexts) (change : StatedChange) : Type 0 where
-  pub old : IsStated texts.old.items change.old
-  pub new : IsStated texts.new.items change.new
+abbrev pub IsStatedChange : PortTexts → StatedChange → Type 0
+IsStatedChange texts change = AreTablesOf texts.old.items texts.new.items change
 
 abbrev pub RefusesEitherText : PortTexts → Refusal → Type 0
 RefusesEitherText texts refusal = RefusesEither texts.old.items texts.new.items refusal

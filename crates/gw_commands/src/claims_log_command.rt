@@ -7,7 +7,7 @@ ghost use Rattle.gw_commands.specs.LogClaims.{AnswersLog, RefusesLog, TellsHolde
 use crate::answer::Answer;
 use crate::notes::{note_file, note_no_log, note_refused_lines, note_unread};
 use crate::refusal::Refusal;
-use crate::responding::respond;
+use crate::responding::{refuse_file, respond};
 use crate::segments::Segments;
 use gw_io::Tried;
 use gw_judge::{Head, ListenFault, listen};
@@ -48,22 +48,37 @@ pub fn claims_log_named<R: Files, W: Write, F: Write>(
     match fs::open(rt, file) {
         Ok(opened) => {
             let mut reader = Tried::new(opened);
-            let found = heard(alloc, &mut reader, faults);
-            if let Some(why) = reader.error() {
-                note_unread(file, &why, faults);
-            }
-            if let Err(refusal) = &found {
-                note_file(file, refusal, faults);
-            }
+            let found = heard_named(alloc, file, &mut reader, faults);
             respond(&found, output, faults)
         }
         Err(why) => {
             note_unread(file, &why, faults);
-            let refusal = Refusal::ReadFault;
-            note_file(file, &refusal, faults);
-            respond(&Err(refusal), output, faults)
+            refuse_file(file, &Refusal::ReadFault, output, faults)
         }
     }
+}
+
+/// The lines of the holders of a file's log, or its refusal. A person is told which file is refused.
+fn heard_named<I: Read, F: Write>(
+    alloc: Global,
+    file: &str,
+    input: &mut Tried<I>,
+    faults: &mut Tried<F>,
+) -> Result<Answer, Refusal>
+    requires { has_failed input.old ≡ false }
+    ensures answered { IfOk result (AnswersLog (I.remaining (inner_of input.old)) (I.remaining (inner_of input.new))
+        (has_failed input.new)) }
+    ensures refused { IfErr result (RefusesLog (I.remaining (inner_of input.old)) (I.remaining (inner_of input.new))
+        (has_failed input.new)) }
+{
+    let found = heard(alloc, input, faults);
+    if let Some(why) = input.error() {
+        note_unread(file, &why, faults);
+    }
+    if let Err(refusal) = &found {
+        note_file(file, refusal, faults);
+    }
+    found
 }
 
 /// The lines of the holders of a log, or its refusal.

@@ -4,8 +4,8 @@ ghost use Rattle.std.specs.Prelude.{◌≡◌, ◌<◌, ◌++◌, All, length, I
 ghost use Rattle.gw_commands.specs.Differences.{Appends, IsTextOf};
 ghost use Rattle.gw_commands.specs.PortDifferences.{IsCrossingLine, IsCrossingsText, port_text};
 
-use crate::diff_ports_command::StatedChange;
 use crate::difference_lines::push_difference;
+use crate::stated::StatedChange;
 use gw_input::Line;
 use gw_table::Crossing;
 use std::alloc::{AllocError, Global};

@@ -4,9 +4,11 @@ ghost use Rattle.std.specs.Prelude.{◌≡◌, ◌⊎◌, false, Err, IfOk, IfEr
 ghost use Rattle.gw_io.specs.Tries.{inner_of, has_failed};
 ghost use Rattle.gw_commands.specs.Commands.{Writes, WritesText};
 ghost use Rattle.gw_commands.specs.Differences.{
+  AreTablesOf,
   ComparesNamed,
   ComparesTexts,
   IsDifferencesText,
+  RefusesEither,
   WritesOne,
   TellsDifferences,
   found_status,
@@ -20,8 +22,8 @@ use crate::difference_lines::differences_text;
 use crate::files::read_file;
 use crate::notes::{note_file, note_program};
 use crate::refusal::Refusal;
-use crate::responding::{respond, write_text};
-use crate::stated::StatedTable;
+use crate::responding::{refuse, write_text};
+use crate::stated::{StatedChange, StatedTable};
 use gw_io::Tried;
 use gw_table::Difference;
 use std::alloc::{AllocError, Global};
@@ -33,6 +35,13 @@ use std::rt::Files;
 pub struct TableFiles<'a> {
     pub old: &'a str,
     pub new: &'a str,
+}
+
+/// What the files of two tables hold.
+#[derive(Drop)]
+pub(crate) struct TableTexts {
+    pub(crate) old: Vec<u8>,
+    pub(crate) new: Vec<u8>,
 }
 
 /// Reads the files of two tables, and tells what they differ in: see `diff_texts`. A file that cannot be read is 96, and one of
@@ -48,15 +57,13 @@ pub fn diff_named<R: Files, W: Write, F: Write>(
     ensures { ComparesNamed (W.contents (inner_of output.old)) (W.contents (inner_of output.new)) (has_failed output.new)
         result }
 {
-    let old = match told_file(rt, alloc, files.old, faults) {
-        Ok(text) => text,
-        Err(refusal) => return respond(&Err(refusal), output, faults),
-    };
-    let new = match told_file(rt, alloc, files.new, faults) {
-        Ok(text) => text,
-        Err(refusal) => return respond(&Err(refusal), output, faults),
-    };
-    diff_texts(alloc, files, old.as_slice(), new.as_slice(), output, faults)
+    match told_texts(rt, alloc, files, faults) {
+        Ok(texts) => {
+            let (old, new) = (texts.old.as_slice(), texts.new.as_slice());
+            diff_texts(alloc, files, old, new, output, faults)
+        }
+        Err(refusal) => refuse(&refusal, output, faults),
+    }
 }
 
 /// Tells what the tables of two texts differ in: `alike` with status 0, or with status 1 a line for each pair of parts that
@@ -74,15 +81,50 @@ pub fn diff_texts<W: Write, F: Write>(
     ensures { ComparesTexts old.now new.now (W.contents (inner_of output.old)) (W.contents (inner_of output.new))
         (has_failed output.new) result }
 {
+    match told_tables(alloc, files, old, new, faults) {
+        Ok(tables) => tell_differences(alloc, &tables.old, &tables.new, output, faults),
+        Err(refusal) => refuse(&refusal, output, faults),
+    }
+}
+
+/// What the files of two tables hold. A person is told which file is refused.
+pub(crate) fn told_texts<R: Files, F: Write>(
+    rt: &R,
+    alloc: Global,
+    files: TableFiles,
+    faults: &mut Tried<F>,
+) -> Result<TableTexts, Refusal>
+    ensures { IfErr result RefusesFile }
+{
+    let old = match told_file(rt, alloc, files.old, faults) {
+        Ok(text) => text,
+        Err(refusal) => return Err(refusal),
+    };
+    match told_file(rt, alloc, files.new, faults) {
+        Ok(new) => Ok(TableTexts { old, new }),
+        Err(refusal) => Err(refusal),
+    }
+}
+
+/// The tables of two texts, and where their rules stand. A person is told which file is refused.
+pub(crate) fn told_tables<F: Write>(
+    alloc: Global,
+    files: TableFiles,
+    old: &[u8],
+    new: &[u8],
+    faults: &mut Tried<F>,
+) -> Result<StatedChange, Refusal>
+    ensures tables { IfOk result (AreTablesOf old.now new.now) }
+    ensures refused { IfErr result (RefusesEither old.now new.now) }
+{
     let old = match told_stated(alloc, files.old, old, faults) {
         Ok(stated) => stated,
-        Err(refusal) => return respond(&Err(refusal), output, faults),
+        Err(refusal) => return Err(refusal),
     };
-    let new = match told_stated(alloc, files.new, new, faults) {
-        Ok(stated) => stated,
-        Err(refusal) => return respond(&Err(refusal), output, faults),
-    };
-    tell_differences(alloc, &old, &new, output, faults)
+    match told_stated(alloc, files.new, new, faults) {
+        Ok(new) => Ok(StatedChange { old, new }),
+        Err(refusal) => Err(refusal),
+    }
 }
 
 /// What a file holds. A person is told which file is refused.
@@ -104,7 +146,7 @@ pub(crate) fn told_file<R: Files, F: Write>(
 }
 
 /// The table of a file's text, and where its rules stand. A person is told which file is refused.
-pub(crate) fn told_stated<F: Write>(
+fn told_stated<F: Write>(
     alloc: Global,
     file: &str,
     text: &[u8],
@@ -137,7 +179,7 @@ fn tell_differences<W: Write, F: Write>(
 {
     match old.table.differences(alloc, &new.table) {
         Ok(found) => tell_found(alloc, old, new, found.as_slice(), output, faults),
-        Err(AllocError) => respond(&Err(Refusal::OutOfMemory), output, faults),
+        Err(AllocError) => refuse(&Refusal::OutOfMemory, output, faults),
     }
 }
 
@@ -159,6 +201,6 @@ fn tell_found<W: Write, F: Write>(
     let status = if found.is_empty() { 0 } else { 1 };
     match differences_text(alloc, old, new, found) {
         Ok(text) => write_text(text.as_slice(), status, output, faults),
-        Err(AllocError) => respond(&Err(Refusal::OutOfMemory), output, faults),
+        Err(AllocError) => refuse(&Refusal::OutOfMemory, output, faults),
     }
 }

@@ -23,10 +23,10 @@ ghost use Rattle.gw_commands.specs.PortDifferences.{
 ghost use Rattle.gw_commands.specs.declared.refusal.Refusal.TheVariants.{OutOfMemory};
 
 use crate::crossing_lines::crossings_text;
-use crate::diff_command::{told_file, told_stated};
+use crate::diff_command::{TableFiles, told_file, told_tables};
 use crate::refusal::Refusal;
-use crate::responding::{respond, write_text};
-use crate::stated::StatedTable;
+use crate::responding::{refuse, write_text};
+use crate::stated::StatedChange;
 use gw_io::Tried;
 use gw_table::{Change, Crossing, crossings};
 use std::alloc::{AllocError, Global};
@@ -48,13 +48,6 @@ pub struct PortTexts {
     pub new: Vec<u8>,
 }
 
-/// The tables of an egress port: before a change, and after it.
-#[derive(Drop)]
-pub struct StatedChange {
-    pub old: StatedTable,
-    pub new: StatedTable,
-}
-
 /// Reads the files of the tables of a gateway's ports, and tells what may leave at them otherwise: see `diff_ports`. The index of
 /// a port's files is its number. A file that cannot be read is 96, and one of more than 1048576 octets 98, before the tables' own
 /// refusals.
@@ -71,7 +64,7 @@ pub fn diff_ports_named<R: Files, W: Write, F: Write>(
 {
     match read_texts(rt, alloc, files, faults) {
         Ok(texts) => diff_ports(alloc, files, texts.as_slice(), output, faults),
-        Err(refusal) => respond(&Err(refusal), output, faults),
+        Err(refusal) => refuse(&refusal, output, faults),
     }
 }
 
@@ -92,7 +85,7 @@ pub fn diff_ports<W: Write, F: Write>(
 {
     match stated_changes(alloc, files, texts, faults) {
         Ok(stated) => tell_crossings(alloc, stated.as_slice(), output, faults),
-        Err(refusal) => respond(&Err(refusal), output, faults),
+        Err(refusal) => refuse(&refusal, output, faults),
     }
 }
 
@@ -194,15 +187,9 @@ fn stated_change<F: Write>(
         Some(files) => (files.old.unwrap_or(""), files.new.unwrap_or("")),
         None => ("", ""),
     };
-    let old = match told_stated(alloc, old, texts.old.as_slice(), faults) {
-        Ok(stated) => stated,
-        Err(refusal) => return Err(refusal),
-    };
-    let new = match told_stated(alloc, new, texts.new.as_slice(), faults) {
-        Ok(stated) => stated,
-        Err(refusal) => return Err(refusal),
-    };
-    Ok(StatedChange { old, new })
+    let files = TableFiles { old, new };
+    let (old, new) = (texts.old.as_slice(), texts.new.as_slice());
+    told_tables(alloc, files, old, new, faults)
 }
 
 /// Tells what the tables of the ports differ in.
@@ -217,11 +204,11 @@ fn tell_crossings<W: Write, F: Write>(
         (has_failed output.new) result }
 {
     let Ok(changes) = changes_of(alloc, stated) else {
-        return respond(&Err(Refusal::OutOfMemory), output, faults);
+        return refuse(&Refusal::OutOfMemory, output, faults);
     };
     match crossings(alloc, changes.as_slice()) {
         Ok(found) => tell_found_crossings(alloc, stated, found.as_slice(), output, faults),
-        Err(AllocError) => respond(&Err(Refusal::OutOfMemory), output, faults),
+        Err(AllocError) => refuse(&Refusal::OutOfMemory, output, faults),
     }
 }
 
@@ -257,6 +244,6 @@ fn tell_found_crossings<W: Write, F: Write>(
     let status = if found.is_empty() { 0 } else { 1 };
     match crossings_text(alloc, stated, found) {
         Ok(text) => write_text(text.as_slice(), status, output, faults),
-        Err(AllocError) => respond(&Err(Refusal::OutOfMemory), output, faults),
+        Err(AllocError) => refuse(&Refusal::OutOfMemory, output, faults),
     }
 }

@@ -18,13 +18,12 @@ ghost use Rattle.gw_commands.specs.Judgings.{
   wanted_of,
 };
 
-use crate::answer::Answer;
 use crate::capture_command::judge_frames;
 use crate::files::read_file;
 use crate::log_counts::{CountForm, TellsParts, told_text};
-use crate::notes::{note_file, note_no_log, note_port_form, note_refused_lines, note_unasked_port};
+use crate::notes::{note_no_log, note_port_form, note_refused_lines, note_unasked_port};
 use crate::refusal::Refusal;
-use crate::responding::{respond, write_refusal};
+use crate::responding::{refuse, refuse_file, write_refusal, write_text};
 use crate::stated::StatedTable;
 use crate::texts::program;
 use gw_input::{Line, refused};
@@ -102,8 +101,7 @@ pub fn judge_named<R: Files, I: Read, W: Write, F: Write>(
         }
         Err(unread) => {
             note_port_form(file, faults);
-            note_file(file, &unread, faults);
-            respond(&Err(unread), output, faults)
+            refuse_file(file, &unread, output, faults)
         }
     }
 }
@@ -132,20 +130,14 @@ pub fn judge_log<I: Read, W: Write, F: Write>(
     match query.kind {
         PolicyKind::Table => match StatedTable::read(alloc, text) {
             Ok(stated) => judge_table(alloc, query, stated, input, output, faults),
-            Err(refusal) => {
-                note_file(file, &refusal, faults);
-                respond(&Err(refusal), output, faults)
-            }
+            Err(refusal) => refuse_file(file, &refusal, output, faults),
         },
         PolicyKind::Listing => match program(alloc, text) {
             Ok(program) => {
                 let policy = Policy::from_program(program);
                 judge_by(alloc, query, &policy, &[], input, output, faults)
             }
-            Err(refusal) => {
-                note_file(file, &refusal, faults);
-                respond(&Err(refusal), output, faults)
-            }
+            Err(refusal) => refuse_file(file, &refusal, output, faults),
         },
     }
 }
@@ -199,7 +191,7 @@ fn judge_by<D: TellsParts, I: Read, W: Write, F: Write>(
     };
     match Groups::new(alloc, query.by) {
         Ok(groups) => judge_grouped(alloc, query, policy, groups, input, output, faults),
-        Err(AllocError) => respond(&Err(Refusal::OutOfMemory), output, faults),
+        Err(AllocError) => refuse(&Refusal::OutOfMemory, output, faults),
     }
 }
 
@@ -266,16 +258,14 @@ fn judge_lines<D: TellsParts, I: Read, W: Write, F: Write>(
         strict: query.strict,
     };
     let mut head = Head::new();
-    match judge_opened(&asked, groups, first, &mut head, input, output) {
+    let judged = judge_opened(&asked, groups, first, &mut head, input, output);
+    note_no_log(&head, faults);
+    match judged {
         Ok(tally) => {
-            note_no_log(&head, faults);
             note_refused_lines(&tally, faults);
             tell_counts(alloc, query, policy, &tally, output, faults)
         }
-        Err(fault) => {
-            note_no_log(&head, faults);
-            tell_end(query.shown, fault, output, faults)
-        }
+        Err(fault) => tell_end(query.shown, fault, output, faults),
     }
 }
 
@@ -318,8 +308,8 @@ pub(crate) fn tell_counts<D: TellsParts, W: Write, F: Write>(
         policy.rule_lines,
         tally,
     ) {
-        Ok(text) => respond(&Ok(Answer::Text(text.into_bytes())), output, faults),
-        Err(AllocError) => respond(&Err(Refusal::OutOfMemory), output, faults),
+        Ok(text) => write_text(text.as_bytes(), 0, output, faults),
+        Err(AllocError) => refuse(&Refusal::OutOfMemory, output, faults),
     }
 }
 

@@ -7,10 +7,10 @@ ghost use Rattle.gw_judge.specs.Grouped.{no_groups};
 ghost use Rattle.gw_judge.specs.declared.groups.Grouping.TheVariants.{Nothing};
 ghost use Rattle.gw_commands.specs.LogDifferences.{ChangesLog, DiffsLog, DiffsNamed, changed_status};
 
-use crate::diff_command::{TableFiles, told_file, told_stated};
+use crate::diff_command::{TableFiles, told_tables, told_texts};
 use crate::judge_command::{Shown, tell_end};
 use crate::notes::{note_no_log, note_refused_lines};
-use crate::responding::respond;
+use crate::responding::refuse;
 use gw_io::Tried;
 use gw_judge::{Asked, Changed, Grouping, Groups, Head, Named, Tally, Wanted, judge};
 use std::alloc::Global;
@@ -33,16 +33,13 @@ pub fn diff_log_named<R: Files, I: Read, W: Write, F: Write>(
     ensures { DiffsNamed port (I.remaining (inner_of input.old)) (I.remaining (inner_of input.new)) (has_failed input.new)
         (W.contents (inner_of output.old)) (W.contents (inner_of output.new)) (has_failed output.new) result }
 {
-    let old = match told_file(rt, alloc, files.old, faults) {
-        Ok(text) => text,
-        Err(refusal) => return respond(&Err(refusal), output, faults),
-    };
-    let new = match told_file(rt, alloc, files.new, faults) {
-        Ok(text) => text,
-        Err(refusal) => return respond(&Err(refusal), output, faults),
-    };
-    let (old, new) = (old.as_slice(), new.as_slice());
-    diff_log(alloc, files, port, old, new, input, output, faults)
+    match told_texts(rt, alloc, files, faults) {
+        Ok(texts) => {
+            let (old, new) = (texts.old.as_slice(), texts.new.as_slice());
+            diff_log(alloc, files, port, old, new, input, output, faults)
+        }
+        Err(refusal) => refuse(&refusal, output, faults),
+    }
 }
 
 /// Writes the lines of a log whose frame the tables of two texts treat unlike when it is taken at the port, each behind the new
@@ -64,20 +61,17 @@ pub fn diff_log<I: Read, W: Write, F: Write>(
         (has_failed input.new)
         (W.contents (inner_of output.old)) (W.contents (inner_of output.new)) (has_failed output.new) result }
 {
-    let old = match told_stated(alloc, files.old, old, faults) {
-        Ok(stated) => stated,
-        Err(refusal) => return respond(&Err(refusal), output, faults),
-    };
-    let new = match told_stated(alloc, files.new, new, faults) {
-        Ok(stated) => stated,
-        Err(refusal) => return respond(&Err(refusal), output, faults),
-    };
-    let changed = Changed {
-        old: &old.table,
-        new: &new.table,
-    };
-    let lines = new.lines.as_slice();
-    write_changed(alloc, &changed, lines, port, input, output, faults)
+    match told_tables(alloc, files, old, new, faults) {
+        Ok(tables) => {
+            let changed = Changed {
+                old: &tables.old.table,
+                new: &tables.new.table,
+            };
+            let lines = tables.new.lines.as_slice();
+            write_changed(alloc, &changed, lines, port, input, output, faults)
+        }
+        Err(refusal) => refuse(&refusal, output, faults),
+    }
 }
 
 /// Writes the lines of a log whose frame two tables treat unlike. `rule_lines` are those of the new table's rules.

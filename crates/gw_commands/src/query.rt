@@ -13,9 +13,9 @@ use crate::claims_command::claims;
 use crate::files::read_file;
 use crate::frames::FrameWord;
 use crate::list_command::list;
-use crate::notes::{note_file, note_refused_file};
+use crate::notes::note_refused_file;
 use crate::refusal::Refusal;
-use crate::responding::{respond, respond_telling};
+use crate::responding::{refuse_file, respond_telling};
 use crate::show_command::show;
 use crate::streams::read_input;
 use crate::table_command::table;
@@ -107,10 +107,7 @@ pub fn answer_named<R: Files, W: Write, F: Write>(
 {
     match read_file(rt, alloc, file, faults) {
         Ok(octets) => answer_octets(alloc, query, file, octets, output, faults),
-        Err(refusal) => {
-            note_file(file, &refusal, faults);
-            respond(&Err(refusal), output, faults)
-        }
+        Err(refusal) => refuse_file(file, &refusal, output, faults),
     }
 }
 

@@ -6,6 +6,7 @@ ghost use Rattle.gw_commands.specs.Commands.{Writes, WritesFound, WritesText};
 ghost use Rattle.gw_commands.specs.Refusals.{refusal_text};
 
 use crate::answer::Answer;
+use crate::notes::note_file;
 use crate::refusal::Refusal;
 use gw_io::{Tried, WriteFault, write_all};
 use std::fmt::Display;
@@ -46,8 +47,27 @@ pub(crate) fn respond_telling<W: Write, F: Write>(
     }
 }
 
+/// Writes the refusal of a file, tells a person of it and which file it is, and gives the status 1.
+pub(crate) fn refuse_file<W: Write, F: Write>(
+    file: &str,
+    refusal: &Refusal,
+    output: &mut Tried<W>,
+    faults: &mut Tried<F>,
+) -> u8
+    requires { has_failed output.old ≡ false }
+    ensures { WritesText (refusal_text refusal.now) 1 result
+        (W.contents (inner_of output.old)) (W.contents (inner_of output.new)) (has_failed output.new) }
+{
+    note_file(file, refusal, faults);
+    refuse(refusal, output, faults)
+}
+
 /// Writes a refusal, tells a person of it, and gives the status 1.
-fn refuse<W: Write, F: Write>(refusal: &Refusal, output: &mut Tried<W>, faults: &mut Tried<F>) -> u8
+pub(crate) fn refuse<W: Write, F: Write>(
+    refusal: &Refusal,
+    output: &mut Tried<W>,
+    faults: &mut Tried<F>,
+) -> u8
     requires { has_failed output.old ≡ false }
     ensures { WritesText (refusal_text refusal.now) 1 result
         (W.contents (inner_of output.old)) (W.contents (inner_of output.new)) (has_failed output.new) }

@@ -17,6 +17,13 @@ pub struct StatedTable {
     pub lines: Vec<usize>,
 }
 
+/// Two tables: before a change, and after it.
+#[derive(Drop)]
+pub struct StatedChange {
+    pub old: StatedTable,
+    pub new: StatedTable,
+}
+
 impl StatedTable {
     ghost use Rattle.std.specs.Prelude.{◌≡◌, IfOk, IfErr};
     ghost use Rattle.gw_commands.specs.Stated.{IsStated};

@@ -10,8 +10,8 @@ returns-in-Ok g c before opened =
     inl (
       ended (fate_of (g.D.Decider.fate_by c.args.policy.decider.now c.args.query.port)) c.args.policy.rule_lines.now
           (g.D.TellsParts.counts_by c.args.policy.decider.now c.args.policy.rule_lines.now)
-          c.args.query.by c.args.query.shown c.args.query.strict before (g.I.Read.remaining (inner_of c.judge_opened.new.reader))
-          (g.W.Write.contents (inner_of c.args.output.now)) (g.W.Write.contents (inner_of c.judge_opened.new.writer))
+          c.args.query.by c.args.query.shown c.args.query.strict before (g.I.Read.remaining (inner_of c.judge_opened-judged.new.reader))
+          (g.W.Write.contents (inner_of c.args.output.now)) (g.W.Write.contents (inner_of c.judge_opened-judged.new.writer))
           (g.W.Write.contents (inner_of c.tell_counts.new.output)) (has_failed c.tell_counts.new.output) c.tell_counts.result
           c.in-Ok.tally c.wanted.result c.wanted.ensures (c.in-Ok.ensures.judged before opened)
           (c.in-Ok.ensures.grouping ∙ ap (λ (groups : Grouped). groups.grouping) c.requires.groups) c.tell_counts.ensures,
@@ -21,10 +21,10 @@ returns-in-Ok g c before opened =
 pub returns-in-Err : goal.returns-in-Err
 returns-in-Err g c before opened =
     inr (ended_early (fate_of (g.D.Decider.fate_by c.args.policy.decider.now c.args.query.port)) c.args.policy.rule_lines.now
-    c.args.query.shown c.args.query.strict before (g.I.Read.remaining (inner_of c.judge_opened.new.reader))
-    (has_failed c.judge_opened.new.reader)
-    (g.W.Write.contents (inner_of c.args.output.now)) (g.W.Write.contents (inner_of c.judge_opened.new.writer))
-    (g.W.Write.contents (inner_of c.tell_end.new.output)) (has_failed c.judge_opened.new.writer)
+    c.args.query.shown c.args.query.strict before (g.I.Read.remaining (inner_of c.judge_opened-judged.new.reader))
+    (has_failed c.judge_opened-judged.new.reader)
+    (g.W.Write.contents (inner_of c.args.output.now)) (g.W.Write.contents (inner_of c.judge_opened-judged.new.writer))
+    (g.W.Write.contents (inner_of c.tell_end.new.output)) (has_failed c.judge_opened-judged.new.writer)
     (has_failed c.tell_end.new.output)
     c.tell_end.result c.in-Err.fault c.wanted.result c.wanted.ensures (c.in-Err.ensures.part before opened)
     c.tell_end.ensures.failed c.tell_end.ensures.told)
