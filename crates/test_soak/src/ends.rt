@@ -4,12 +4,14 @@ use crate::fault::Fault;
 use crate::frames::Drawn;
 use crate::sendings::Sendings;
 use crate::takings::Takings;
+use gw_board::Operator;
 use gw_frame::Frame;
 use gw_ledger::{FrameCopy, Limits, Outcome};
 use gw_policy::Batch;
 use gw_ports::{LaneLeft, OfferRefusal, Parts, PortIn, PortOut, Report, RunReport, gateway};
 use std::alloc::Global;
 use std::marker::Sync;
+use std::mem::replace;
 use std::sync::Wait;
 use std::thread::{Threads, for_each_mut, yield_now};
 
@@ -106,8 +108,14 @@ pub fn open<R: Wait>(rt: &R, alloc: Global, limits: Limits, first: Batch) -> Res
     let Ok(mut parts) = gateway(alloc, limits) else {
         return Err(Fault::Unprepared);
     };
-    match parts.operator.replace(rt, first) {
-        Ok(_) => Ok(parts),
+    publish(rt, &mut parts.operator, first)?;
+    Ok(parts)
+}
+
+/// Publishes a batch.
+pub fn publish<R: Wait>(rt: &R, operator: &mut Operator, batch: Batch) -> Result<(), Fault> {
+    match operator.replace(rt, batch) {
+        Ok(_) => Ok(()),
         Err(_) => Err(Fault::Unprepared),
     }
 }
@@ -126,10 +134,23 @@ pub fn run_ends<R: Threads + Wait + Sync>(
         outs,
     } = open(rt, alloc, limits, first)?;
     let front = operator.tell().len() as u32;
+    let ended = worked(rt, alloc, ins, outs, takings);
+    operator.end(rt);
+    let mut ends = ended?;
+    reported(alloc, &mut ends, front)
+}
+
+/// The ends after all their threads have ended.
+fn worked<R: Threads + Wait + Sync>(
+    rt: &R,
+    alloc: Global,
+    ins: Vec<PortIn>,
+    outs: Vec<PortOut>,
+    takings: &Takings,
+) -> Result<Vec<End>, Fault> {
     let mut ends = ends_of(alloc, ins, outs)?;
     work_all(rt, &mut ends, takings);
-    operator.end(rt);
-    reported(alloc, ends, front)
+    Ok(ends)
 }
 
 fn work_all<R: Threads + Wait + Sync>(rt: &R, ends: &mut [End], takings: &Takings) {
@@ -171,9 +192,16 @@ fn add_drains(alloc: Global, ports: Vec<PortOut>, ends: &mut Vec<End>) -> Result
     Ok(())
 }
 
-/// What the ends did, as a run reports it.
-fn reported(alloc: Global, ends: Vec<End>, front: u32) -> Result<RunReport, Fault> {
-    let mut ran = RunReport {
+/// What the ends did, as a run reports it. They are left empty.
+fn reported(alloc: Global, ends: &mut [End], front: u32) -> Result<RunReport, Fault> {
+    let mut ran = empty_report(alloc, front);
+    report_on(alloc, ends, &mut ran)?;
+    Ok(ran)
+}
+
+/// The report of a run of no ports.
+fn empty_report(alloc: Global, front: u32) -> RunReport {
+    RunReport {
         outcomes: Vec::new(alloc),
         stops: Vec::new(alloc),
         fronts: Vec::new(alloc),
@@ -185,27 +213,32 @@ fn reported(alloc: Global, ends: Vec<End>, front: u32) -> Result<RunReport, Faul
             lanes: Vec::new(alloc),
             front,
         },
-    };
-    add_lanes(alloc, &mut ran.report.lanes)?;
-    for end in ends {
-        match end {
-            End::In(feed) => add_feed(feed, &mut ran)?,
-            End::Out(drain) => add_drain(drain, &mut ran)?,
-        }
     }
-    Ok(ran)
 }
 
-fn add_feed(feed: Feed, ran: &mut RunReport) -> Result<(), Fault> {
-    ran.report.ins.push(*feed.port.ledger())?;
-    ran.outcomes.push(feed.outcomes)?;
-    ran.stops.push(feed.stop)?;
+/// Moves what the ends did to a report.
+fn report_on(alloc: Global, ends: &mut [End], ran: &mut RunReport) -> Result<(), Fault> {
+    add_lanes(alloc, &mut ran.report.lanes)?;
+    for end in ends.iter_mut() {
+        match end {
+            End::In(feed) => add_feed(alloc, feed, ran)?,
+            End::Out(drain) => add_drain(alloc, drain, ran)?,
+        }
+    }
     Ok(())
 }
 
-fn add_drain(drain: Drain, ran: &mut RunReport) -> Result<(), Fault> {
+fn add_feed(alloc: Global, feed: &mut Feed, ran: &mut RunReport) -> Result<(), Fault> {
+    ran.report.ins.push(*feed.port.ledger())?;
+    ran.stops.push(feed.stop)?;
+    ran.outcomes
+        .push(replace(&mut feed.outcomes, Vec::new(alloc)))?;
+    Ok(())
+}
+
+fn add_drain(alloc: Global, drain: &mut Drain, ran: &mut RunReport) -> Result<(), Fault> {
     ran.report.outs.push(*drain.port.ledger())?;
-    ran.out.push(drain.out)?;
+    ran.out.push(replace(&mut drain.out, Vec::new(alloc)))?;
     Ok(())
 }
 

@@ -1,7 +1,6 @@
 //! The copies of a lane beside the outcomes of its source.
 
-ghost use Rattle.std.specs.Iterator.{IsFinite};
-
+use crate::frames::Drawn;
 use gw_frame::Frame;
 use gw_ledger::{FrameCopy, Outcome};
 
@@ -16,22 +15,25 @@ pub struct LaneCopies<'a> {
 
 impl LaneCopies<'_> {
     /// Whether these are the copies that the source placed on the lane, each once and in order.
-    pub fn are_placed<I: Iterator<Item = Frame>>(&self, frames: I, outcomes: &[Outcome]) -> bool
-        requires { I.can_next frames × IsFinite (I.remaining frames) }
-    {
+    pub fn are_placed(&self, frames: Drawn, outcomes: &[Outcome]) -> bool {
         let from = self.from;
         let taken = self.out.iter().filter(|copy| copy.from == from);
         let mut copies = taken.chain(self.left.iter());
         for (frame, outcome) in frames.zip(outcomes.iter()) {
-            if outcome.placed.has(self.to) {
-                let Some(copy) = copies.next() else {
-                    return false;
-                };
-                if copy.from != from || copy.number != outcome.number || copy.frame != frame {
-                    return false;
-                }
+            if outcome.placed.has(self.to) && !self.is_of(copies.next(), &frame, outcome.number) {
+                return false;
             }
         }
         copies.next().is_none()
+    }
+
+    /// Whether there is a copy, and it is that of the source's frame of a number.
+    fn is_of(&self, copy: Option<&FrameCopy>, frame: &Frame, number: u32) -> bool {
+        match copy {
+            Some(copy) => {
+                copy.from == self.from && copy.number == number && copy.frame == *frame
+            }
+            None => false,
+        }
     }
 }

@@ -74,8 +74,22 @@ fn soak_all<R: Threads + Wait + Sync>(
     every: u32,
 ) -> Result<bool, Fault> {
     let material = Material::new(rt.alloc())?;
-    let agrees = soak_whole(rt, threads, &material, each, every)?;
-    Ok(soak_parts(rt, threads, &material, each.min(MOST_AT_ENDS))? && agrees)
+    soak_each(rt, threads, &material, each, every)
+}
+
+/// Soaks a gateway in threads of its own, and then two whose ends are in threads of the soak's.
+fn soak_each<R: Threads + Wait + Sync>(
+    rt: &HostRuntime,
+    threads: &R,
+    material: &Material,
+    each: u32,
+    every: u32,
+) -> Result<bool, Fault> {
+    let whole = soak_whole(rt, threads, material, each, every)?;
+    let at_ends = each.min(MOST_AT_ENDS);
+    let filled = soak_parts(rt, threads, material, at_ends, false)?;
+    let held = soak_parts(rt, threads, material, at_ends, true)?;
+    Ok(whole && filled && held)
 }
 
 /// Soaks a gateway in threads of its own, and answers whether all agrees.
@@ -94,51 +108,39 @@ fn soak_whole<R: Threads + Wait + Sync>(
     Ok(found.agrees())
 }
 
-/// Soaks two gateways whose ends are in threads of the soak's, and answers whether all agrees.
+/// Soaks a gateway whose ends are in threads of the soak's, and answers whether all agrees.
 fn soak_parts<R: Threads + Wait + Sync>(
     rt: &HostRuntime,
     threads: &R,
     material: &Material,
     each: u32,
+    holds_offers: bool,
 ) -> Result<bool, Fault> {
-    let filled = soak_ends(threads, rt.alloc(), material, each, false)?;
-    tell_ends(
-        "nothing taken out",
-        &filled,
-        filled.placed,
-        "placed",
-        &mut rt.stdout(),
-    )?;
-    let held = soak_ends(threads, rt.alloc(), material, each, true)?;
-    tell_ends(
-        "offers held back",
-        &held,
-        held.lost,
-        "lost",
-        &mut rt.stdout(),
-    )?;
-    Ok(filled.agrees() && held.agrees())
+    let found = soak_ends(threads, rt.alloc(), material, each, holds_offers)?;
+    tell_ends(&found, holds_offers, &mut rt.stdout())?;
+    Ok(found.agrees())
 }
 
 fn words(rt: &HostRuntime) -> Result<Request, Fault> {
     let mut words = env::args(rt)?.skip(1);
-    let Some(first) = words.next() else {
-        return Err(Fault::WrongWords);
-    };
-    let Some(second) = words.next() else {
-        return if first.as_str() == "times" {
-            Ok(Request::Times)
-        } else {
-            Err(Fault::WrongWords)
-        };
-    };
+    let (first, second) = (words.next(), words.next());
     if words.next().is_some() {
-        return Err(Fault::WrongWords);
+        Err(Fault::WrongWords)
+    } else {
+        asked(first.as_deref(), second.as_deref())
     }
-    Ok(Request::Soak {
-        each: number(first.as_str())?,
-        every: number(second.as_str())?,
-    })
+}
+
+/// What at most two words ask for.
+fn asked(first: Option<&str>, second: Option<&str>) -> Result<Request, Fault> {
+    match (first, second) {
+        (Some(each), Some(every)) => Ok(Request::Soak {
+            each: number(each)?,
+            every: number(every)?,
+        }),
+        (Some(word), None) if word == "times" => Ok(Request::Times),
+        _ => Err(Fault::WrongWords),
+    }
 }
 
 /// The number that a word spells, but for 0.
@@ -151,69 +153,68 @@ fn number(word: &str) -> Result<u32, Fault> {
 
 /// Writes what is the same whatever the schedule, where all agrees.
 fn tell<W: Write>(found: &Found, output: &mut W) -> Result<(), Fault> {
-    let Found {
-        offers,
-        replacements,
-        taken,
-        local,
-        published,
-        current,
-        differing,
-        lanes,
-        disordered,
-        left,
-        ..
-    } = *found;
-    writeln!(
+    tell_numbers(
+        &[
+            (found.taken as u64, " of "),
+            (found.offers as u64, " frames taken, "),
+            (found.local, " of them local\n"),
+            (found.published as u64, " of "),
+            (found.replacements as u64, " replacements published, "),
+            (found.current as u64, " of 4 ports know the last\n"),
+            (found.taken as u64, " outcomes judged again, "),
+            (found.differing as u64, " differ\n"),
+            (found.lanes as u64, " lanes, "),
+            (found.disordered as u64, " out of order, "),
+            (found.left, " copies left\n"),
+        ],
         output,
-        "{taken} of {offers} frames taken, {local} of them local"
-    )?;
-    writeln!(
-        output,
-        "{published} of {replacements} replacements published, {current} of 4 ports know the last"
-    )?;
-    writeln!(output, "{taken} outcomes judged again, {differing} differ")?;
-    writeln!(
-        output,
-        "{lanes} lanes, {disordered} out of order, {left} copies left"
     )?;
     let balance = if found.is_balanced {
-        "balance"
+        "the ledgers balance"
     } else {
-        "do not balance"
+        "the ledgers do not balance"
     };
-    writeln!(output, "the ledgers {balance}")?;
+    writeln!(output, "{balance}")?;
+    Ok(())
+}
+
+/// Writes numbers, each with the text behind it.
+fn tell_numbers<W: Write>(numbers: &[(u64, &str)], output: &mut W) -> Result<(), Fault> {
+    for (number, text) in numbers {
+        write!(output, "{number}{text}")?;
+    }
     Ok(())
 }
 
 /// Writes what was found of a gateway whose ends are in threads of the soak's, and how many copies had one fate.
-fn tell_ends<W: Write>(
-    name: &str,
-    found: &Found,
-    copies: u64,
-    fate: &str,
-    output: &mut W,
-) -> Result<(), Fault> {
-    let (taken, offers, differing) = (found.taken, found.offers, found.differing);
-    writeln!(
+fn tell_ends<W: Write>(found: &Found, holds_offers: bool, output: &mut W) -> Result<(), Fault> {
+    let (name, copies, fate) = if holds_offers {
+        ("offers held back", found.lost, " copies lost\n")
+    } else {
+        ("nothing taken out", found.placed, " copies placed\n")
+    };
+    write!(output, "{name}: ")?;
+    tell_numbers(
+        &[
+            (found.taken as u64, " of "),
+            (found.offers as u64, " frames taken, "),
+            (found.differing as u64, " outcomes differ, "),
+            (copies, fate),
+        ],
         output,
-        "{name}: {taken} of {offers} frames taken, {differing} outcomes differ, {copies} copies {fate}"
-    )?;
-    Ok(())
+    )
 }
 
 /// Writes how many copies there were, and the time.
 fn tell_copies<W: Write>(found: &Found, time: Duration, faults: &mut W) -> Result<(), Fault> {
-    let Found {
-        allowed,
-        placed,
-        lost,
-        ..
-    } = *found;
-    let seconds = time.as_secs();
-    writeln!(
+    tell_numbers(
+        &[
+            (found.allowed, " copies allowed, "),
+            (found.placed, " placed, "),
+            (found.lost, " lost; "),
+            (time.as_secs(), " s\n"),
+        ],
         faults,
-        "{allowed} copies allowed, {placed} placed, {lost} lost; {seconds} s"
     )?;
     if !found.is_whole {
         writeln!(

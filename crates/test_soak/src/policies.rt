@@ -35,34 +35,39 @@ pub struct Policies {
 impl Policies {
     pub fn new(alloc: Global) -> Result<Policies, Fault> {
         Ok(Policies {
+            table: sixteen_rules(alloc)?,
             odd: program(alloc, ODD)?,
             not_from_0: program(alloc, NOT_FROM_0)?,
             requests: program(alloc, REQUESTS)?,
             block: program(alloc, BLOCK)?,
-            table: table(alloc, table_text(alloc)?.as_str())?,
         })
     }
 
     /// The batch of an index, counted from 0: four take turns, of which the first names each of four ports.
     pub fn batch(&self, index: usize) -> Result<Batch, Fault> {
         let mut batch = Batch::new();
+        self.fill(index, &mut batch)?;
+        Ok(batch)
+    }
+
+    /// Adds what an empty batch of an index has.
+    fn fill(&self, index: usize, batch: &mut Batch) -> Result<(), Fault> {
         match index % 4 {
-            0 => return for_ports(4, &self.odd),
+            0 => add_to_first(batch, 4, &self.odd),
             1 => {
-                add(&mut batch, 1, &self.table)?;
-                add(&mut batch, 2, &self.not_from_0)?;
+                add(batch, 1, &self.table)?;
+                add(batch, 2, &self.not_from_0)
             }
             2 => {
-                add(&mut batch, 0, &self.block)?;
-                add(&mut batch, 3, &self.requests)?;
+                add(batch, 0, &self.block)?;
+                add(batch, 3, &self.requests)
             }
             _ => {
-                add(&mut batch, 0, &self.table)?;
-                add(&mut batch, 1, &self.not_from_0)?;
-                add(&mut batch, 3, &self.table)?;
+                add(batch, 0, &self.table)?;
+                add(batch, 1, &self.not_from_0)?;
+                add(batch, 3, &self.table)
             }
         }
-        Ok(batch)
     }
 
     /// So many batches behind the first.
@@ -78,10 +83,16 @@ impl Policies {
 /// A batch with one policy for each of so many ports.
 pub fn for_ports(ports: u8, policy: &Arc<Policy>) -> Result<Batch, Fault> {
     let mut batch = Batch::new();
-    for port in 0..ports {
-        add(&mut batch, port, policy)?;
-    }
+    add_to_first(&mut batch, ports, policy)?;
     Ok(batch)
+}
+
+/// Adds a policy for each of so many ports.
+fn add_to_first(batch: &mut Batch, ports: u8, policy: &Arc<Policy>) -> Result<(), Fault> {
+    for port in 0..ports {
+        add(batch, port, policy)?;
+    }
+    Ok(())
 }
 
 fn add(batch: &mut Batch, port: u8, policy: &Arc<Policy>) -> Result<(), Fault> {
@@ -117,6 +128,12 @@ pub fn table(alloc: Global, text: &str) -> Result<Arc<Policy>, Fault> {
         Ok(policy) => shared(alloc, policy),
         Err(_) => Err(Fault::Unprepared),
     }
+}
+
+/// The policy of the table of sixteen rules.
+fn sixteen_rules(alloc: Global) -> Result<Arc<Policy>, Fault> {
+    let text = table_text(alloc)?;
+    table(alloc, text.as_str())
 }
 
 /// A table of sixteen rules, so many that it is judged by its index: it passes frames of even source addresses.

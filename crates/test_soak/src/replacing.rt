@@ -1,5 +1,6 @@
 //! Offers while policies are replaced each millisecond, and the same offers alone.
 
+use crate::ends::publish;
 use crate::fault::Fault;
 use crate::policies::for_ports;
 use crate::rounds::{drain, opened};
@@ -29,6 +30,13 @@ pub struct Offers {
 }
 
 impl Offers {
+    /// The greatest times, of no replacements.
+    pub const MOST: Offers = Offers {
+        all: u64::MAX,
+        slowest: u64::MAX,
+        replacements: 0,
+    };
+
     /// The lesser times of two runs.
     pub fn least(self, other: Offers) -> Offers {
         Offers {
@@ -49,10 +57,33 @@ pub fn time_replacing<R: Threads + Wait + Clock + Sync>(
 ) -> Result<Offers, Fault> {
     let Parts {
         mut operator,
-        ins,
-        outs,
+        mut ins,
+        mut outs,
     } = opened(rt, alloc, 2, policy)?;
-    let (Some(port), Some(out)) = (ins.into_iter().next(), outs.into_iter().nth(1)) else {
+    let offers = time_ends(
+        rt,
+        &mut operator,
+        &mut ins,
+        &mut outs,
+        policy,
+        frames,
+        is_replacing,
+    );
+    operator.end(rt);
+    offers
+}
+
+/// Offers frames at the first port in a thread of its own, while this one replaces policies, or only sleeps.
+fn time_ends<R: Threads + Wait + Clock + Sync>(
+    rt: &R,
+    operator: &mut Operator,
+    ins: &mut [PortIn],
+    outs: &mut [PortOut],
+    policy: &Arc<Policy>,
+    frames: &[Frame],
+    is_replacing: bool,
+) -> Result<Offers, Fault> {
+    let (Some(port), Some(out)) = (ins.first_mut(), outs.last_mut()) else {
         return Err(Fault::Unprepared);
     };
     let is_over = AtomicBool::new(false);
@@ -60,9 +91,8 @@ pub fn time_replacing<R: Threads + Wait + Clock + Sync>(
     let (offers, replacements) = join(
         rt,
         move || offer_until_over(rt, port, out, frames, over),
-        || replace_until_over(rt, &mut operator, policy, is_replacing, over),
+        move || replace_until_over(rt, operator, policy, is_replacing, over),
     );
-    operator.end(rt);
     let (all, slowest) = offers?;
     Ok(Offers {
         all,
@@ -73,21 +103,29 @@ pub fn time_replacing<R: Threads + Wait + Clock + Sync>(
 
 fn offer_until_over<R: Clock>(
     rt: &R,
-    mut port: PortIn,
-    mut out: PortOut,
+    port: &mut PortIn,
+    out: &mut PortOut,
     frames: &[Frame],
     is_over: &AtomicBool,
 ) -> Result<(u64, u64), Fault> {
-    let mut times = Ok((0, 0));
-    for _ in 0..ROUNDS {
-        times = match times {
-            Ok(before) => offer_all(rt, &mut port, frames, before),
-            Err(why) => Err(why),
-        };
-        drain(&mut out);
-    }
+    let times = offer_rounds(rt, port, out, frames);
     is_over.store(true, Ordering::SeqCst);
     times
+}
+
+/// Offers each frame in each round, and takes the copies out behind it.
+fn offer_rounds<R: Clock>(
+    rt: &R,
+    port: &mut PortIn,
+    out: &mut PortOut,
+    frames: &[Frame],
+) -> Result<(u64, u64), Fault> {
+    let mut times = (0, 0);
+    for _ in 0..ROUNDS {
+        times = offer_all(rt, port, frames, times)?;
+        drain(out);
+    }
+    Ok(times)
 }
 
 /// Offers each frame. Adds the time to that of those before, and keeps the longest.
@@ -127,9 +165,7 @@ fn replace_until_over<R: Wait + Clock>(
         }
         sleep(rt, Duration::from_millis(1));
         if is_replacing {
-            if operator.replace(rt, for_ports(2, policy)?).is_err() {
-                return Err(Fault::Unprepared);
-            }
+            publish(rt, operator, for_ports(2, policy)?)?;
             replacements = replacements.saturating_add(1);
         }
     }

@@ -1,9 +1,9 @@
 //! Rounds of one call, timed. Each answer is the least time of many rounds, in tenths of a nanosecond a call.
 
-use crate::ends::open;
+use crate::ends::{open, publish};
 use crate::fault::Fault;
 use crate::policies::for_ports;
-use gw_board::board;
+use gw_board::{Watch, board};
 use gw_frame::Frame;
 use gw_ledger::Limits;
 use gw_policy::{Policy, PolicySet};
@@ -47,6 +47,20 @@ pub fn drain(port: &mut PortOut) -> u64 {
     copies
 }
 
+/// Takes all copies out at each port.
+fn drain_all(ports: &mut [PortOut]) {
+    for port in ports.iter_mut() {
+        drain(port);
+    }
+}
+
+/// The time of a `next` where all copies are taken out.
+fn time_drain<R: Clock>(rt: &R, port: &mut PortOut) -> Result<u64, Fault> {
+    let start = Instant::now(rt)?;
+    let copies = drain(port);
+    tenths_since(rt, start, copies)
+}
+
 /// An offer at one port, and the verdicts of its frame for all others.
 pub fn time_offers<R: Wait + Clock>(
     rt: &R,
@@ -55,28 +69,40 @@ pub fn time_offers<R: Wait + Clock>(
     policy: &Arc<Policy>,
     frames: &[Frame],
 ) -> Result<(u64, u64), Fault> {
-    let Parts {
-        operator: _operator,
-        ins,
-        mut outs,
-    } = opened(rt, alloc, ports, policy)?;
-    let Some(mut port) = ins.into_iter().next() else {
-        return Err(Fault::Unprepared);
-    };
+    let set = set_for(ports, policy)?;
+    let mut parts = opened(rt, alloc, ports, policy)?;
+    offer_rounds(rt, &mut parts.ins, &mut parts.outs, &set, ports, frames)
+}
+
+/// The policies in force where each of so many ports has the policy.
+fn set_for(ports: u8, policy: &Arc<Policy>) -> Result<PolicySet, Fault> {
     let mut set = PolicySet::new();
     set.absorb(&for_ports(ports, policy)?)?;
+    Ok(set)
+}
+
+/// The least times of an offer at the first port, and of the verdicts of a set for the others.
+fn offer_rounds<R: Clock>(
+    rt: &R,
+    ins: &mut [PortIn],
+    outs: &mut [PortOut],
+    set: &PolicySet,
+    ports: u8,
+    frames: &[Frame],
+) -> Result<(u64, u64), Fault> {
+    let Some(port) = ins.first_mut() else {
+        return Err(Fault::Unprepared);
+    };
     let (mut offers, mut verdicts) = (u64::MAX, u64::MAX);
     for _ in 0..ROUNDS {
-        let (offering, allowed) = offer_round(rt, &mut port, frames)?;
-        let (judging, passed) = judge_round(rt, &set, ports, frames)?;
+        let (offering, allowed) = offer_round(rt, port, frames)?;
+        let (judging, passed) = judge_round(rt, set, ports, frames)?;
         if allowed > passed {
             return Err(Fault::Disagrees);
         }
         offers = offers.min(offering);
         verdicts = verdicts.min(judging);
-        for out in outs.iter_mut() {
-            drain(out);
-        }
+        drain_all(outs);
     }
     Ok((offers, verdicts))
 }
@@ -125,24 +151,26 @@ pub fn time_sendings<R: Wait + Clock>(
     policy: &Arc<Policy>,
     frames: &[Frame],
 ) -> Result<u64, Fault> {
-    let Parts {
-        operator: _operator,
-        mut ins,
-        mut outs,
-    } = opened(rt, alloc, ports, policy)?;
+    let mut parts = opened(rt, alloc, ports, policy)?;
+    send_rounds(rt, &mut parts.ins, &mut parts.outs, frames)
+}
+
+/// The least time of a `next` at the first port.
+fn send_rounds<R: Clock>(
+    rt: &R,
+    ins: &mut [PortIn],
+    outs: &mut [PortOut],
+    frames: &[Frame],
+) -> Result<u64, Fault> {
     let mut sendings = u64::MAX;
     for _ in 0..ROUNDS {
         for port in ins.iter_mut() {
             offer_round(rt, port, frames)?;
         }
         if let Some(first) = outs.first_mut() {
-            let start = Instant::now(rt)?;
-            let copies = drain(first);
-            sendings = sendings.min(tenths_since(rt, start, copies)?);
+            sendings = sendings.min(time_drain(rt, first)?);
         }
-        for out in outs.iter_mut() {
-            drain(out);
-        }
+        drain_all(outs);
     }
     Ok(sendings)
 }
@@ -154,11 +182,19 @@ pub fn time_readings<R: Wait + Clock>(
     policy: &Arc<Policy>,
 ) -> Result<u64, Fault> {
     let limits = Limits::new(2, 1, 1, 1).map_err(|_| Fault::TooMany)?;
+    let batch = for_ports(2, policy)?;
     let Ok((mut operator, mut watches)) = board(alloc, limits) else {
         return Err(Fault::Unprepared);
     };
-    let (Ok(_), Some(mut watch)) = (operator.replace(rt, for_ports(2, policy)?), watches.pop())
-    else {
+    publish(rt, &mut operator, batch)?;
+    let readings = read_rounds(rt, &mut watches);
+    operator.end(rt);
+    readings
+}
+
+/// The least time of a reading by the last watch.
+fn read_rounds<R: Clock>(rt: &R, watches: &mut [Watch]) -> Result<u64, Fault> {
+    let Some(watch) = watches.last_mut() else {
         return Err(Fault::Unprepared);
     };
     let mut readings = u64::MAX;
@@ -171,6 +207,5 @@ pub fn time_readings<R: Wait + Clock>(
         }
         readings = readings.min(tenths_since(rt, start, 1000)?);
     }
-    operator.end(rt);
     Ok(readings)
 }

@@ -13,6 +13,7 @@ use crate::sendings::{LANE, Room};
 use crate::takings::Takings;
 use gw_frame::Frame;
 use gw_ledger::{InLedger, Limits, Outcome, balance};
+use gw_policy::Batch;
 use gw_ports::{LaneLeft, Report, RunReport, run_from};
 use std::alloc::{AllocError, Global};
 use std::marker::Sync;
@@ -116,16 +117,8 @@ pub fn soak<R: Threads + Wait + Sync>(
     let limits = limits_of(each, replacements)?;
     let size = each as usize;
     let gate = Pace::new(alloc, size, every, u64::from(replacements))?;
-    let ran = run_from(
-        rt,
-        alloc,
-        limits,
-        material.policies.batch(0)?,
-        inputs(alloc, &material.pool, size)?,
-        sizes(alloc, size)?,
-        material.policies.batches(alloc, replacements as usize)?,
-        &gate,
-    );
+    let batches = material.policies.batches(alloc, replacements as usize)?;
+    let report = run_paced(rt, alloc, limits, material, size, batches, &gate)?;
     let soaked = Soaked {
         material,
         size,
@@ -133,10 +126,25 @@ pub fn soak<R: Threads + Wait + Sync>(
         shown: gate.shown(),
         room: Room::SOME,
     };
-    match ran {
-        Ok(report) => soaked.found(&report, gate.is_late()),
-        Err(why) => Err(Fault::NoRun(why)),
-    }
+    soaked.found(&report, gate.is_late())
+}
+
+/// Runs a gateway of four ports, whose frames and batches are held back by a gate.
+fn run_paced<R: Threads + Wait + Sync>(
+    rt: &R,
+    alloc: Global,
+    limits: Limits,
+    material: &Material,
+    size: usize,
+    batches: Vec<Batch>,
+    gate: &Pace,
+) -> Result<RunReport, Fault>
+    requires { limits.ports ≡ 4 }
+{
+    let inputs = inputs(alloc, &material.pool, size)?;
+    let sizes = sizes(alloc, size)?;
+    let first = material.policies.batch(0)?;
+    run_from(rt, alloc, limits, first, inputs, sizes, batches, gate).map_err(Fault::NoRun)
 }
 
 /// Offers so many frames at each of four ports with one batch, and judges what became of them. Offers are held back until the

@@ -42,21 +42,29 @@ pub fn time<R: Threads + Wait + Clock + Sync, W: Write>(
 ) -> Result<(), Fault> {
     let policy = table(alloc, text)?;
     let frames = pool(alloc)?;
+    tell_calls(rt, alloc, &policy, &frames, output)?;
+    tell_replacing(rt, alloc, &policy, &frames, output)
+}
+
+/// Writes the times of single calls.
+fn tell_calls<R: Wait + Clock, W: Write>(
+    rt: &R,
+    alloc: Global,
+    policy: &Arc<Policy>,
+    frames: &[Frame],
+    output: &mut W,
+) -> Result<(), Fault> {
     writeln!(
         output,
-        "\n| call | other ports | ns | verdicts alone, ns | more than these, ns a port |"
+        "\n| call | other ports | ns | verdicts alone, ns | more than these, ns a port |\n|---|---|---|---|---|"
     )?;
-    writeln!(output, "|---|---|---|---|---|")?;
-    tell_offers(rt, alloc, 2, &policy, &frames, output)?;
-    tell_offers(rt, alloc, 16, &policy, &frames, output)?;
-    for others in [1u8, 15] {
-        let ports = others.saturating_add(1);
-        let sending = Tenths(time_sendings(rt, alloc, ports, &policy, &frames)?);
-        writeln!(output, "| `next` | {others} | {sending} | | |")?;
-    }
-    let reading = Tenths(time_readings(rt, alloc, &policy)?);
+    tell_offers(rt, alloc, 2, policy, frames, output)?;
+    tell_offers(rt, alloc, 16, policy, frames, output)?;
+    tell_sendings(rt, alloc, 1, policy, frames, output)?;
+    tell_sendings(rt, alloc, 15, policy, frames, output)?;
+    let reading = Tenths(time_readings(rt, alloc, policy)?);
     writeln!(output, "| a reading of the board | | {reading} | | |")?;
-    tell_replacing(rt, alloc, &policy, &frames, output)
+    Ok(())
 }
 
 fn tell_offers<R: Wait + Clock, W: Write>(
@@ -71,12 +79,32 @@ fn tell_offers<R: Wait + Clock, W: Write>(
 {
     let (offers, verdicts) = time_offers(rt, alloc, ports, policy, frames)?;
     let others = ports - 1;
-    let more = Tenths(offers.saturating_sub(verdicts) / u64::from(others));
-    let (offer, verdict) = (Tenths(offers), Tenths(verdicts));
-    writeln!(
-        output,
-        "| `offer` | {others} | {offer} | {verdict} | {more} |"
-    )?;
+    let more = offers.saturating_sub(verdicts) / u64::from(others);
+    write!(output, "| `offer` | {others} ")?;
+    tell_tenths(&[offers, verdicts, more], output)
+}
+
+fn tell_sendings<R: Wait + Clock, W: Write>(
+    rt: &R,
+    alloc: Global,
+    others: u8,
+    policy: &Arc<Policy>,
+    frames: &[Frame],
+    output: &mut W,
+) -> Result<(), Fault> {
+    let ports = others.saturating_add(1);
+    let sending = Tenths(time_sendings(rt, alloc, ports, policy, frames)?);
+    writeln!(output, "| `next` | {others} | {sending} | | |")?;
+    Ok(())
+}
+
+/// Writes tenths as the last cells of a row.
+fn tell_tenths<W: Write>(cells: &[u64], output: &mut W) -> Result<(), Fault> {
+    for cell in cells {
+        let tenths = Tenths(*cell);
+        write!(output, "| {tenths} ")?;
+    }
+    writeln!(output, "|")?;
     Ok(())
 }
 
@@ -88,28 +116,21 @@ fn tell_replacing<R: Threads + Wait + Clock + Sync, W: Write>(
     frames: &[Frame],
     output: &mut W,
 ) -> Result<(), Fault> {
-    let mut alone = time_replacing(rt, alloc, policy, frames, false)?;
-    let mut beside = time_replacing(rt, alloc, policy, frames, true)?;
-    for _ in 1..REPEATS {
+    let (mut alone, mut beside) = (Offers::MOST, Offers::MOST);
+    for _ in 0..REPEATS {
         alone = alone.least(time_replacing(rt, alloc, policy, frames, false)?);
         beside = beside.least(time_replacing(rt, alloc, policy, frames, true)?);
     }
     writeln!(
         output,
-        "\n| offers at one port | replacements | milliseconds | slowest, microseconds |"
+        "\n| offers at one port | replacements | milliseconds | slowest, microseconds |\n|---|---|---|---|"
     )?;
-    writeln!(output, "|---|---|---|---|")?;
     tell_long("alone", alone, output)?;
     tell_long("with a replacement each millisecond", beside, output)
 }
 
 fn tell_long<W: Write>(name: &str, offers: Offers, output: &mut W) -> Result<(), Fault> {
     let replacements = offers.replacements;
-    let milliseconds = Tenths(offers.all / 100_000);
-    let slowest = Tenths(offers.slowest / 100);
-    writeln!(
-        output,
-        "| {name} | {replacements} | {milliseconds} | {slowest} |"
-    )?;
-    Ok(())
+    write!(output, "| {name} | {replacements} ")?;
+    tell_tenths(&[offers.all / 100_000, offers.slowest / 100], output)
 }
