@@ -1,6 +1,6 @@
 //! Why a call was not made, or its answer not told.
 
-use std::alloc::{AllocError, AllocFailed};
+use std::alloc::AllocFailed;
 use std::fmt::{Display, Formatter};
 use std::{fmt, io};
 
@@ -33,12 +33,6 @@ impl Display for Fault {
             Fault::WrongWords => "the words name no call",
             Fault::Unprepared => "memory was refused before the call",
         })
-    }
-}
-
-impl From<AllocError> for Fault {
-    fn from(_: AllocError) -> Fault {
-        Fault::Unprepared
     }
 }
 

@@ -1,8 +1,9 @@
 //! What several calls are made on, and how it is prepared.
 
-ghost use Rattle.std.specs.Prelude.{◌≤◌, length, IfOk};
+ghost use Rattle.std.specs.Prelude.{◌≡◌, ◌≤◌, length, Ok, IfOk};
 
 use crate::fault::Fault;
+use gw_frame::Frame;
 use gw_insn::{Raw, read_listing};
 use gw_policy::{Batch, Policy};
 use gw_verify::Program;
@@ -28,17 +29,55 @@ pub(crate) fn batch_of(alloc: Global, listing: &str) -> Result<Batch, Fault> {
 
 /// A batch of one pair: a port, and the policy of a listing.
 pub(crate) fn batch_for(alloc: Global, port: u8, listing: &str) -> Result<Batch, Fault> {
-    let Ok(program) = Program::check(alloc, code_of(alloc, listing)?) else {
-        return Err(Fault::Unprepared);
-    };
-    let Ok(policy) = Arc::new(alloc, Policy::from_program(program)) else {
-        return Err(Fault::Unprepared);
-    };
+    match policy_of(alloc, listing) {
+        Ok(policy) => batch_with(port, policy),
+        Err(fault) => Err(fault),
+    }
+}
+
+/// A batch of one pair: a port and a policy.
+fn batch_with(port: u8, policy: Arc<Policy>) -> Result<Batch, Fault> {
     let mut batch = Batch::new();
     match batch.add(port, policy) {
         Ok(()) => Ok(batch),
         Err(_) => Err(Fault::Unprepared),
     }
+}
+
+/// The policy of a listing.
+fn policy_of(alloc: Global, listing: &str) -> Result<Arc<Policy>, Fault> {
+    let Ok(program) = program_of(alloc, listing) else {
+        return Err(Fault::Unprepared);
+    };
+    match Arc::new(alloc, Policy::from_program(program)) {
+        Ok(policy) => Ok(policy),
+        Err(_) => Err(Fault::Unprepared),
+    }
+}
+
+/// The program of a listing.
+pub(crate) fn program_of(alloc: Global, listing: &str) -> Result<Program, Fault> {
+    let Ok(code) = code_of(alloc, listing) else {
+        return Err(Fault::Unprepared);
+    };
+    match Program::check(alloc, code) {
+        Ok(program) => Ok(program),
+        Err(_) => Err(Fault::Unprepared),
+    }
+}
+
+/// EEC1 of an engine, as a frame.
+pub(crate) fn frame_of() -> Result<Frame, Fault> {
+    Frame::read(&ENGINE_SPEED).map_err(|_| Fault::Unprepared)
+}
+
+/// Says that a call's arguments are there, and gives them back. It says nothing where they could not be prepared.
+pub(crate) fn ready<A: Drop, W: Write>(output: &mut W, made: Result<A, Fault>) -> Result<A, Fault>
+    ensures { IfOk result (λ arguments. made ≡ Ok arguments) }
+{
+    let arguments = made?;
+    say_ready(output)?;
+    Ok(arguments)
 }
 
 /// Says that a call's arguments are there.

@@ -15,6 +15,7 @@ mod runs;
 mod tables;
 mod traces;
 
+use answer::Answer;
 use call::Call;
 use fault::Fault;
 use std::alloc::Global;
@@ -37,11 +38,22 @@ fn main(rt: HostRuntime) -> ExitCode {
 
 /// Makes the calls that the words name. `threads` is the runtime as what a call may start threads and wait by.
 fn make_calls<R: Threads + Wait + Sync>(rt: &HostRuntime, threads: &R) -> Result<(), Fault> {
-    let mut words = env::args(rt).map_err(|_| Fault::Unprepared)?.skip(1);
+    match named_call(rt)? {
+        None => tell_all(threads, rt.alloc(), &mut rt.stdout()),
+        Some(call) => tell(call, threads, rt.alloc(), &mut rt.stdout()),
+    }
+}
+
+/// The call that the words name, or none where there are no words.
+fn named_call(rt: &HostRuntime) -> Result<Option<Call>, Fault> {
+    let Ok(words) = env::args(rt) else {
+        return Err(Fault::Unprepared);
+    };
+    let mut words = words.skip(1);
     match (words.next(), words.next()) {
-        (None, _) => tell_all(threads, rt.alloc(), &mut rt.stdout()),
+        (None, _) => Ok(None),
         (Some(word), None) => match Call::named(word.as_str()) {
-            Some(call) => tell(call, threads, rt.alloc(), &mut rt.stdout()),
+            Some(call) => Ok(Some(call)),
             None => Err(Fault::WrongWords),
         },
         _ => Err(Fault::WrongWords),
@@ -68,7 +80,11 @@ fn tell<R: Threads + Wait + Sync, W: Write>(
     output: &mut W,
 ) -> Result<(), Fault> {
     let answer = call.make(rt, alloc, output)?;
-    let name = call.name();
+    write_answer(output, call.name(), &answer)
+}
+
+/// Writes the line of an answer.
+fn write_answer<W: Write>(output: &mut W, name: &str, answer: &Answer) -> Result<(), Fault> {
     writeln!(output, "{name}: {answer}")?;
     Ok(())
 }

@@ -1,9 +1,11 @@
 //! The calls that read, check and write programs.
 
+ghost use Rattle.std.specs.Prelude.{◌≤◌, length};
+
 use crate::answer::Answer;
 use crate::fault::Fault;
-use crate::inputs::{PASS, code_of, say_ready};
-use gw_insn::{read_listing, write_listing};
+use crate::inputs::{PASS, code_of, program_of, ready, say_ready};
+use gw_insn::{Raw, read_listing, write_listing};
 use gw_text::{assemble, disassemble};
 use gw_verify::{Program, explain};
 use std::alloc::Global;
@@ -33,20 +35,35 @@ pub fn make_read_cut_listing<W: Write>(alloc: Global, output: &mut W) -> Result<
 }
 
 fn read<W: Write>(alloc: Global, text: &str, output: &mut W) -> Result<Answer, Fault> {
-    say_ready(output)?;
-    Ok(match read_listing(alloc, text.as_bytes()) {
-        Ok(code) => Answer::Count(code.len(), "instructions"),
+    match say_ready(output) {
+        Ok(()) => Ok(count_read(alloc, text)),
+        Err(fault) => Err(fault),
+    }
+}
+
+/// How many instructions a text lists.
+fn count_read(alloc: Global, text: &str) -> Answer {
+    match read_listing(alloc, text.as_bytes()) {
+        Ok(code) => Answer::count(code.len(), " instructions"),
         Err(why) => Answer::NoListing(why),
-    })
+    }
 }
 
 pub fn make_write_listing<W: Write>(alloc: Global, output: &mut W) -> Result<Answer, Fault> {
-    let code = code_of(alloc, LISTING)?;
-    say_ready(output)?;
-    Ok(match write_listing(alloc, &code) {
+    match ready(output, code_of(alloc, LISTING)) {
+        Ok(code) => Ok(listing_of(alloc, &code)),
+        Err(fault) => Err(fault),
+    }
+}
+
+/// The listing of code.
+fn listing_of(alloc: Global, code: &[Raw]) -> Answer
+    requires { length code.now ≤ 65535 }
+{
+    match write_listing(alloc, code) {
         Ok(listing) => Answer::Listing(listing),
         Err(_) => Answer::OUT_OF_MEMORY,
-    })
+    }
 }
 
 pub fn make_check<W: Write>(alloc: Global, output: &mut W) -> Result<Answer, Fault> {
@@ -58,42 +75,67 @@ pub fn make_check_unset_word<W: Write>(alloc: Global, output: &mut W) -> Result<
 }
 
 fn check<W: Write>(alloc: Global, listing: &str, output: &mut W) -> Result<Answer, Fault> {
-    let code = code_of(alloc, listing)?;
-    let copy = code.clone()?;
-    say_ready(output)?;
-    Ok(match Program::check(alloc, code) {
-        Ok(program) => Answer::Accepted(program.len()),
+    match ready(output, code_twice(alloc, listing)) {
+        Ok((code, copy)) => Ok(checked(alloc, code, &copy)),
+        Err(fault) => Err(fault),
+    }
+}
+
+/// What the check says of code. The copy tells whether the code comes back.
+fn checked(alloc: Global, code: Vec<Raw>, copy: &[Raw]) -> Answer {
+    match Program::check(alloc, code) {
+        Ok(program) => Answer::Number("accepted ", program.len() as u64, ""),
         Err(refused) => Answer::NotAccepted {
             why: refused.why,
             place: refused.place,
-            is_back: refused.code == copy,
+            is_back: refused.code.as_slice() == copy,
         },
-    })
+    }
+}
+
+/// The code of a listing, and a copy of it.
+fn code_twice(alloc: Global, listing: &str) -> Result<(Vec<Raw>, Vec<Raw>), Fault> {
+    let Ok(code) = code_of(alloc, listing) else {
+        return Err(Fault::Unprepared);
+    };
+    match code.clone() {
+        Ok(copy) => Ok((code, copy)),
+        Err(_) => Err(Fault::Unprepared),
+    }
 }
 
 pub fn make_explain<W: Write>(alloc: Global, output: &mut W) -> Result<Answer, Fault> {
-    let code = code_of(alloc, UNSET_WORD)?;
-    say_ready(output)?;
-    Ok(match explain(alloc, &code, 2, 3) {
-        Ok(Some(path)) => Answer::Path(path),
-        Ok(None) => Answer::Said("no path"),
-        Err(_) => Answer::OUT_OF_MEMORY,
-    })
+    match ready(output, code_of(alloc, UNSET_WORD)) {
+        Ok(code) => Ok(match explain(alloc, &code, 2, 3) {
+            Ok(Some(path)) => Answer::Path(path),
+            Ok(None) => Answer::Said("no path"),
+            Err(_) => Answer::OUT_OF_MEMORY,
+        }),
+        Err(fault) => Err(fault),
+    }
 }
 
 pub fn make_assemble<W: Write>(alloc: Global, output: &mut W) -> Result<Answer, Fault> {
-    say_ready(output)?;
-    Ok(match assemble(alloc, ASSEMBLER_TEXT) {
-        Ok(code) => Answer::Count(code.len(), "instructions"),
-        Err(why) => Answer::Refused(why.number()),
-    })
+    match say_ready(output) {
+        Ok(()) => Ok(count_assembled(alloc)),
+        Err(fault) => Err(fault),
+    }
+}
+
+/// How many instructions the assembler text has.
+fn count_assembled(alloc: Global) -> Answer {
+    match assemble(alloc, ASSEMBLER_TEXT) {
+        Ok(code) => Answer::count(code.len(), " instructions"),
+        Err(why) => Answer::refused(why.number()),
+    }
 }
 
 pub fn make_disassemble<W: Write>(alloc: Global, output: &mut W) -> Result<Answer, Fault> {
-    let program = Program::check(alloc, code_of(alloc, PASS)?).map_err(|_| Fault::Unprepared)?;
-    say_ready(output)?;
-    Ok(match disassemble(alloc, &program) {
-        Ok(text) => Answer::Listing(text.into_bytes()),
-        Err(_) => Answer::OUT_OF_MEMORY,
-    })
+    match ready(output, program_of(alloc, PASS)) {
+        Ok(program) => Ok(match disassemble(alloc, &program) {
+            Ok(text) => Answer::Listing(text.into_bytes()),
+            Err(_) => Answer::OUT_OF_MEMORY,
+        }),
+        Err(fault) => Err(fault),
+    }
 }

@@ -5,12 +5,12 @@ ghost use Rattle.std.specs.Iterator.{at_most};
 
 use crate::answer::Answer;
 use crate::fault::Fault;
-use crate::inputs::{ENGINE_SPEED, PASS, batch_for, say_ready};
+use crate::inputs::{PASS, batch_for, frame_of, ready};
 use gw_frame::Frame;
 use gw_ledger::Limits;
 use gw_policy::Batch;
 use gw_ports::{Gate, RunRefusal, RunReport, run, run_from};
-use std::alloc::{AllocError, Global};
+use std::alloc::Global;
 use std::io::Write;
 use std::marker::Sync;
 use std::sync::Wait;
@@ -69,13 +69,16 @@ pub fn make_threads<R: Threads + Wait + Sync, W: Write>(
     alloc: Global,
     output: &mut W,
 ) -> Result<Answer, Fault> {
-    let frame = Frame::read(&ENGINE_SPEED).map_err(|_| Fault::Unprepared)?;
-    let limits = two_ports()?;
-    let first = batch_for(alloc, 1, PASS)?;
-    let batches = batches(alloc)?;
-    let inputs = vec![in alloc; vec![in alloc; frame]?, vec![in alloc; frame]?]?;
-    say_ready(output)?;
-    Ok(answer(run(rt, alloc, limits, first, inputs, batches, &Open)))
+    let Ok(limits) = two_ports() else {
+        return Err(Fault::Unprepared);
+    };
+    let Ok((first, later)) = batches(alloc) else {
+        return Err(Fault::Unprepared);
+    };
+    match ready(output, lists(alloc)) {
+        Ok(inputs) => Ok(answer(run(rt, alloc, limits, first, inputs, later, &Open))),
+        Err(fault) => Err(fault),
+    }
 }
 
 /// The same, from iterators.
@@ -84,26 +87,55 @@ pub fn make_threads_from<R: Threads + Wait + Sync, W: Write>(
     alloc: Global,
     output: &mut W,
 ) -> Result<Answer, Fault> {
-    let frame = Frame::read(&ENGINE_SPEED).map_err(|_| Fault::Unprepared)?;
-    let limits = two_ports()?;
-    let first = batch_for(alloc, 1, PASS)?;
-    let batches = batches(alloc)?;
-    let inputs = singles(alloc, frame)?;
-    let sizes = ones(alloc)?;
-    say_ready(output)?;
-    Ok(answer(run_from(rt, alloc, limits, first, inputs, sizes, batches, &Open)))
+    let Ok(limits) = two_ports() else {
+        return Err(Fault::Unprepared);
+    };
+    let Ok((first, later)) = batches(alloc) else {
+        return Err(Fault::Unprepared);
+    };
+    let Ok(inputs) = singles(alloc) else {
+        return Err(Fault::Unprepared);
+    };
+    match ready(output, ones(alloc)) {
+        Ok(sizes) => Ok(answer(run_from(rt, alloc, limits, first, inputs, sizes, later, &Open))),
+        Err(fault) => Err(fault),
+    }
 }
 
-/// A frame for each of two ports.
-fn singles(alloc: Global, frame: Frame) -> Result<Vec<Single>, AllocError>
+/// A list of one frame for each of two ports.
+fn lists(alloc: Global) -> Result<Vec<Vec<Frame>>, Fault>
+    ensures { IfOk result (λ inputs. vec_len inputs ≡ 2) }
+{
+    let Ok(first) = list(alloc) else {
+        return Err(Fault::Unprepared);
+    };
+    let Ok(second) = list(alloc) else {
+        return Err(Fault::Unprepared);
+    };
+    match vec![in alloc; first, second] {
+        Ok(lists) => Ok(lists),
+        Err(_) => Err(Fault::Unprepared),
+    }
+}
+
+/// A list of one frame.
+fn list(alloc: Global) -> Result<Vec<Frame>, Fault> {
+    Ok(vec![in alloc; frame_of()?]?)
+}
+
+/// The same as iterators.
+fn singles(alloc: Global) -> Result<Vec<Single>, Fault>
     ensures count { IfOk result (λ inputs. vec_len inputs ≡ 2) }
     ensures one { IfOk result (λ inputs. All (λ input. input.left ≤ 1) inputs.items) }
 {
-    let single = Single { frame, left: 1 };
+    let single = Single {
+        frame: frame_of()?,
+        left: 1,
+    };
     Ok(vec![in alloc; single, single]?)
 }
 
-fn ones(alloc: Global) -> Result<Vec<usize>, AllocError>
+fn ones(alloc: Global) -> Result<Vec<usize>, Fault>
     ensures count { IfOk result (λ sizes. vec_len sizes ≡ 2) }
     ensures sizes { IfOk result (λ sizes. All (λ size. size ≡ 1) sizes.items) }
 {
@@ -117,7 +149,19 @@ fn two_ports() -> Result<Limits, Fault>
     Limits::new(2, 2, 34, 1).map_err(|_| Fault::Unprepared)
 }
 
-fn batches(alloc: Global) -> Result<Vec<Batch>, Fault> {
+/// The first batch, and those behind it.
+fn batches(alloc: Global) -> Result<(Batch, Vec<Batch>), Fault> {
+    let Ok(first) = batch_for(alloc, 1, PASS) else {
+        return Err(Fault::Unprepared);
+    };
+    match later_batches(alloc) {
+        Ok(later) => Ok((first, later)),
+        Err(fault) => Err(fault),
+    }
+}
+
+/// The batches that are published behind the first.
+fn later_batches(alloc: Global) -> Result<Vec<Batch>, Fault> {
     let mut batches = Vec::new(alloc);
     for _ in 0..LATER {
         batches.push(batch_for(alloc, 1, PASS)?)?;
@@ -136,6 +180,6 @@ fn answer(ran: Result<RunReport, RunRefusal>) -> Answer {
             front: report.report.front,
             refused: report.refused.map(|why| why.number()),
         },
-        Err(why) => Answer::Refused(why.number()),
+        Err(why) => Answer::refused(why.number()),
     }
 }

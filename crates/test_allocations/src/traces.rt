@@ -2,7 +2,7 @@
 
 use crate::answer::Answer;
 use crate::fault::Fault;
-use crate::inputs::say_ready;
+use crate::inputs::{ready, say_ready};
 use gw_trace::{Trace, TraceRefusal, Tried, frames};
 use std::alloc::Global;
 use std::io::Write;
@@ -20,25 +20,51 @@ const TRACE: [u8; 80] = [
 /// Feeds what stands behind the beginning of the first record, and feeds it again where it is refused.
 pub fn make_feed<W: Write>(alloc: Global, output: &mut W) -> Result<Answer, Fault> {
     let (beginning, piece) = TRACE.split_at(30);
+    match ready(output, begun(alloc, beginning)) {
+        Ok(mut trace) => Ok(feed(alloc, &mut trace, piece)),
+        Err(fault) => Err(fault),
+    }
+}
+
+/// Feeds a piece, and feeds it again where it is refused for want of memory.
+fn feed(alloc: Global, trace: &mut Trace, piece: &[u8]) -> Answer {
+    match trace.feed(alloc, piece) {
+        Ok(frames) => Answer::count(frames.len(), " frames"),
+        Err(TraceRefusal::OutOfMemory) => feed_again(alloc, trace, piece),
+        Err(why) => Answer::refused(why.number()),
+    }
+}
+
+/// Feeds a piece that was refused for want of memory.
+fn feed_again(alloc: Global, trace: &mut Trace, piece: &[u8]) -> Answer {
+    match trace.feed(alloc, piece) {
+        Ok(frames) => Answer::Number("refused 94, fed again ", frames.len() as u64, " frames"),
+        Err(why) => Answer::refused(why.number()),
+    }
+}
+
+/// A trace that was fed its beginning.
+fn begun(alloc: Global, beginning: &[u8]) -> Result<Trace, Fault> {
     let mut trace = Trace::new();
-    trace.feed(alloc, beginning).map_err(|_| Fault::Unprepared)?;
-    say_ready(output)?;
-    Ok(match trace.feed(alloc, piece) {
-        Ok(frames) => Answer::Count(frames.len(), "frames"),
-        Err(TraceRefusal::OutOfMemory) => match trace.feed(alloc, piece) {
-            Ok(frames) => Answer::FramesAgain(frames.len()),
-            Err(why) => Answer::Refused(why.number()),
-        },
-        Err(why) => Answer::Refused(why.number()),
-    })
+    match trace.feed(alloc, beginning) {
+        Ok(_) => Ok(trace),
+        Err(_) => Err(Fault::Unprepared),
+    }
 }
 
 pub fn make_frames<W: Write>(alloc: Global, output: &mut W) -> Result<Answer, Fault> {
+    match say_ready(output) {
+        Ok(()) => Ok(count_frames(alloc)),
+        Err(fault) => Err(fault),
+    }
+}
+
+/// How many frames the trace has.
+fn count_frames(alloc: Global) -> Answer {
     let octets: &[u8] = &TRACE;
     let mut reader = Tried::new(octets);
-    say_ready(output)?;
-    Ok(match frames(alloc, &mut reader) {
-        Ok(frames) => Answer::Count(frames.len(), "frames"),
-        Err(why) => Answer::Refused(why.number()),
-    })
+    match frames(alloc, &mut reader) {
+        Ok(frames) => Answer::count(frames.len(), " frames"),
+        Err(why) => Answer::refused(why.number()),
+    }
 }
