@@ -1,7 +1,8 @@
 -- What threads do with the ends of a gateway of two ports.
-use Rattle.std.proofs.Common.{◌≡◌, ◌∙◌, ℕ, ◌<◌, List, [], ◌∷◌, ◌++◌, Option, Result, Ok, Err, IsErr, IsErrAnd, IfErr}
+use Rattle.std.proofs.Common.{◌≡◌, ◌∙◌, ℕ, ◌<◌, List, [], ◌∷◌, ◌++◌, Option, Result, Ok, Err, IsErr, IsErrAnd, IfErr, MatchResult}
 use Rattle.std.proofs.Common.{sym, ap, subst, refl, arith, append_assoc}
 use Rattle.std.specs.Option.{option_map_or}
+use Rattle.std.specs.Result.{result_and}
 use Rattle.j1939_gateway.specs.BoardEnds.{Publishing}
 use Rattle.j1939_gateway.specs.BoardRefusals.{Refuses}
 use Rattle.j1939_gateway.specs.FrameCopy.{FrameCopy}
@@ -12,8 +13,11 @@ use Rattle.j1939_gateway.specs.OfferRefusal.{OfferRefusal}
 use Rattle.j1939_gateway.specs.OfferRefusal.TheVariants.{FramesSpent, NoReading}
 use Rattle.j1939_gateway.specs.Batches.{Pair}
 use Rattle.example_calling.specs.declared.fault.Fault.{Fault}
+use Rattle.example_calling.specs.declared.fault.Fault.TheVariants.{Record, Listing, Program, Table, OutOfMemory, NotMade}
+use Rattle.example_calling.specs.declared.fault.Fault.TheVariants.{NotPublished, NotTaken, NotClosed, NoThread, WriteFailed}
+use Rattle.example_calling.specs.declared.threads.Feed.{Feed}
 use Rattle.example_calling.specs.Replacing.{IsNotPublished}
-use Rattle.example_calling.specs.Threads.{operator_with, IsOpenFault, RefusesNextOf, taken_out}
+use Rattle.example_calling.specs.Threads.{operator_with, IsOfferFault, IsOpenFault, IsRunFault, RefusesNextOf, taken_out}
 
 -- what `?` hands on is the fault that came
 pub passed_on : {T E : Type 0} (P : E → Type 0) (e : E) (r : Result T E) → IsErr r × IsErrAnd r (λ f. f ≡ e) → P e → IfErr r P
@@ -48,3 +52,37 @@ sent_more before copies copies' old new copy so_far sends is =
     ∙ ap (λ (l : List FrameCopy). l ++ copy ∷ []) (sym (ap taken sends.lanes.lane.was) ∙ so_far)
     ∙ append_assoc before copies (copy ∷ [])
     ∙ ap (λ (l : List FrameCopy). before ++ l) (sym is)
+
+-- a frame was refused
+offer_refuses : (operator : Publishing) (feed : Feed) (batch : List Pair) (fault : Fault) → IsOfferFault feed fault
+    → IsRunFault operator feed batch fault
+offer_refuses operator feed batch (Record why) refuses = absurd refuses
+offer_refuses operator feed batch (Listing why) refuses = absurd refuses
+offer_refuses operator feed batch (Program why place) refuses = absurd refuses
+offer_refuses operator feed batch (Table why) refuses = absurd refuses
+offer_refuses operator feed batch OutOfMemory refuses = absurd refuses
+offer_refuses operator feed batch (NotMade why) refuses = absurd refuses
+offer_refuses operator feed batch (NotPublished why) refuses = absurd refuses
+offer_refuses operator feed batch (NotTaken why) refuses = refuses
+offer_refuses operator feed batch (NotClosed why) refuses = absurd refuses
+offer_refuses operator feed batch NoThread refuses = absurd refuses
+offer_refuses operator feed batch WriteFailed refuses = absurd refuses
+
+-- the batch or a frame was refused, and both threads kept their promises
+pub run_refuses : {T : Type 0} (P : T → Type 0) (Q : Feed → Type 0) (operator operator' : Publishing) (feed feed' : Feed)
+    (batch batch' : List Pair) (published : Result T Fault) (offered both : Result Feed Fault) (fault : Fault)
+    → operator' ≡ operator → feed' ≡ feed → batch' ≡ batch
+    → MatchResult published P (IsNotPublished operator' batch') → MatchResult offered Q (IsOfferFault feed')
+    → both ≡ result_and published offered → both ≡ Err fault → IsRunFault operator feed batch fault
+run_refuses P Q operator operator' feed feed' batch batch' (Err why) offered both fault same_o same_f same_b refused offers joined is =
+    let it : why ≡ fault = cc in
+    subst (λ (f : Fault). IsRunFault operator feed batch f) it
+    (subst (λ (o : Publishing). IsRunFault o feed batch why) same_o
+    (subst (λ (b : List Pair). IsRunFault operator' feed b why) same_b
+    (subst (λ (f : Fault). IsRunFault operator' feed batch' f) (sym refused.fault_is) (refused.after, refused.refuses))))
+run_refuses P Q operator operator' feed feed' batch batch' (Ok x) (Err why) both fault same_o same_f same_b published refused joined is =
+    let it : why ≡ fault = cc in
+    subst (λ (f : Fault). IsRunFault operator feed batch f) it
+    (offer_refuses operator feed batch why (subst (λ (f : Feed). IsOfferFault f why) same_f refused))
+run_refuses P Q operator operator' feed feed' batch batch' (Ok x) (Ok met) both fault same_o same_f same_b published offered joined is =
+    absurd (cc (joined, is))

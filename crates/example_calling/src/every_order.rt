@@ -22,7 +22,7 @@ pub fn finished(alloc: Global, frame: Frame, batch: Batch) -> Result<Option<Outc
     let Ok(limits) = Limits::new(3, 1, 1, 1) else {
         unreachable!()
     };
-    let events = events_of(alloc, frame, batch).map_err(|_| Fault::OutOfMemory)?;
+    let events = events_of(alloc, frame, batch)?;
     for answer in answers_of(alloc, limits, events)? {
         if let Ok(Answer::Finished(outcome)) = answer {
             return Ok(Some(outcome));

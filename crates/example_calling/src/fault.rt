@@ -4,11 +4,12 @@ use j1939_gateway::{
     Cause, CloseRefusal, FrameRefusal, ListRefusal, MakeRefusal, OfferRefusal, ReplaceRefusal,
     TableRefusal,
 };
+use std::alloc::AllocError;
 use std::fmt::{Display, Formatter};
 use std::{fmt, io};
 
 /// Why there is no verdict, or no outcome.
-#[derive(Drop, Debug)]
+#[derive(Drop)]
 pub enum Fault {
     /// 1 to 4: octets that are no record.
     Record(FrameRefusal),
@@ -66,5 +67,11 @@ impl Display for Fault {
 impl From<io::Error> for Fault {
     fn from(_: io::Error) -> Fault {
         Fault::WriteFailed
+    }
+}
+
+impl From<AllocError> for Fault {
+    fn from(_: AllocError) -> Fault {
+        Fault::OutOfMemory
     }
 }

@@ -16,10 +16,11 @@ mod threads;
 use every_order::finished;
 use fault::Fault;
 use gateway::{batch_for, judge};
-use j1939_gateway::{Batch, Frame, FrameCopy, Outcome, Report};
+use j1939_gateway::{Batch, Frame, FrameCopy, Outcome, PortSet, Report};
 use policies::{program_policy, table_policy};
 use replacing::replace_between;
 use std::alloc::Global;
+use std::io;
 use std::io::Write;
 use std::marker::Sync;
 use std::process::ExitCode;
@@ -59,11 +60,14 @@ const RECORDS: [(&str, [u8; 16]); 3] = [
 fn main(rt: HostRuntime) -> ExitCode {
     match tell_all(&rt, rt.alloc(), &mut rt.stdout()) {
         Ok(()) => ExitCode::SUCCESS,
-        Err(fault) => {
-            let _ = writeln!(rt.stderr(), "{fault}");
-            ExitCode::FAILURE
-        }
+        Err(fault) => tell_fault(fault, &mut rt.stderr()),
     }
+}
+
+/// Writes why the program ends early.
+fn tell_fault<W: Write>(fault: Fault, output: &mut W) -> ExitCode {
+    let _ = writeln!(output, "{fault}");
+    ExitCode::FAILURE
 }
 
 /// Writes what becomes of the records, of a frame around a replacement, of a frame in the model, and of frames in threads.
@@ -95,11 +99,20 @@ fn verdict_word(passes: bool) -> &'static str {
 
 /// Writes a line for each offer of EEC1: before the table that is port 1's policy is replaced by the program, and after.
 fn tell_outcomes<R: Wait, W: Write>(rt: &R, alloc: Global, output: &mut W) -> Result<(), Fault> {
-    let frame = Frame::read(&EEC1).map_err(|why| Fault::Record(why))?;
+    let frame = read_frame(&EEC1)?;
     let (table, program) = batches(alloc)?;
     let replaced = replace_between(rt, alloc, frame, table, program)?;
     tell_outcome(&replaced.before, output)?;
-    tell_outcome(&replaced.after, output)
+    tell_outcome(&replaced.after, output)?;
+    Ok(())
+}
+
+/// The frame of a record.
+fn read_frame(record: &[u8]) -> Result<Frame, Fault> {
+    match Frame::read(record) {
+        Ok(frame) => Ok(frame),
+        Err(why) => Err(Fault::Record(why)),
+    }
 }
 
 /// The batches with the table, and with the program, as port 1's policy.
@@ -115,11 +128,11 @@ fn program_batch(alloc: Global) -> Result<Batch, Fault> {
 
 /// Writes a line for EEC1 in the model of every order of events, where the program is port 1's policy.
 fn tell_model<W: Write>(alloc: Global, output: &mut W) -> Result<(), Fault> {
-    let frame = Frame::read(&EEC1).map_err(|why| Fault::Record(why))?;
-    match finished(alloc, frame, program_batch(alloc)?)? {
-        Some(outcome) => tell_outcome(&outcome, output),
-        None => Ok(()),
+    let frame = read_frame(&EEC1)?;
+    if let Some(outcome) = finished(alloc, frame, program_batch(alloc)?)? {
+        tell_outcome(&outcome, output)?;
     }
+    Ok(())
 }
 
 /// Writes what threads did with frames that both policies of port 1 pass: the table, and the program that replaces it meanwhile.
@@ -130,19 +143,20 @@ fn tell_threads<R: Threads + Wait + Sync, W: Write>(
 ) -> Result<(), Fault> {
     let forwarded = forward_hours(rt, alloc)?;
     tell_report(&forwarded.report, output)?;
-    tell_copies(&forwarded, output)
+    tell_copies(&forwarded, output)?;
+    Ok(())
 }
 
 /// Offers the engine's hours four times in a thread, while the program replaces the table.
 fn forward_hours<R: Threads + Wait + Sync>(rt: &R, alloc: Global) -> Result<Forwarded, Fault> {
-    let frame = Frame::read(&ENGINE_HOURS).map_err(|why| Fault::Record(why))?;
-    let frames = Vec::from_slice(alloc, &[frame; 4]).map_err(|_| Fault::OutOfMemory)?;
+    let frame = read_frame(&ENGINE_HOURS)?;
+    let frames = Vec::from_slice(alloc, &[frame; 4])?;
     let (table, program) = batches(alloc)?;
     forward_in_threads(rt, alloc, frames, table, program)
 }
 
 /// Writes how many batches were published, and what became of the frames of port 0.
-fn tell_report<W: Write>(report: &Report, output: &mut W) -> Result<(), Fault> {
+fn tell_report<W: Write>(report: &Report, output: &mut W) -> io::Result<()> {
     let front = report.front;
     let Some(counts) = report.ins.first() else {
         return Ok(());
@@ -151,22 +165,20 @@ fn tell_report<W: Write>(report: &Report, output: &mut W) -> Result<(), Fault> {
     writeln!(
         output,
         "threads: front {front}, taken {taken}, placed {placed}, lost {lost}"
-    )?;
-    Ok(())
+    )
 }
 
 /// Writes the numbers of the copies, those that were taken out and then those that are left.
-fn tell_copies<W: Write>(forwarded: &Forwarded, output: &mut W) -> Result<(), Fault> {
+fn tell_copies<W: Write>(forwarded: &Forwarded, output: &mut W) -> io::Result<()> {
     write!(output, "copies:")?;
     tell_numbers(&forwarded.copies, output)?;
     for lane in &forwarded.report.lanes {
         tell_numbers(&lane.left, output)?;
     }
-    writeln!(output, "")?;
-    Ok(())
+    writeln!(output, "")
 }
 
-fn tell_numbers<W: Write>(copies: &[FrameCopy], output: &mut W) -> Result<(), Fault> {
+fn tell_numbers<W: Write>(copies: &[FrameCopy], output: &mut W) -> io::Result<()> {
     for copy in copies {
         let number = copy.number;
         write!(output, " {number}")?;
@@ -175,22 +187,22 @@ fn tell_numbers<W: Write>(copies: &[FrameCopy], output: &mut W) -> Result<(), Fa
 }
 
 /// Writes the number of a frame, by how many batches it was judged, and for which ports a copy was placed.
-fn tell_outcome<W: Write>(outcome: &Outcome, output: &mut W) -> Result<(), Fault> {
-    let Outcome {
-        number,
-        front,
-        placed,
-        ..
-    } = *outcome;
+fn tell_outcome<W: Write>(outcome: &Outcome, output: &mut W) -> io::Result<()> {
+    let (number, front) = (outcome.number, outcome.front);
     write!(output, "frame {number}: front {front}, placed for")?;
-    if placed.len() == 0 {
-        write!(output, " none")?;
+    tell_ports(outcome.placed, output)?;
+    writeln!(output, "")
+}
+
+/// Writes the ports of a set, or that there is none.
+fn tell_ports<W: Write>(ports: PortSet, output: &mut W) -> io::Result<()> {
+    if ports.len() == 0 {
+        return write!(output, " none");
     }
     for port in 0..16 {
-        if placed.has(port) {
+        if ports.has(port) {
             write!(output, " {port}")?;
         }
     }
-    writeln!(output, "")?;
     Ok(())
 }

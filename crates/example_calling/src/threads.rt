@@ -1,7 +1,7 @@
 //! The ends of a gateway in threads of the caller's own: one offers frames, one takes their copies out, and one replaces a policy
 //! meanwhile.
 
-ghost use Rattle.std.specs.Prelude.{◌≡◌, ◌⊎◌, ◌++◌, ◌∷◌, [], Ok, Err, IfOk, IfErr, MatchBool, MatchResult, vec_len, All};
+ghost use Rattle.std.specs.Prelude.{◌≡◌, ◌++◌, ◌∷◌, [], IfOk, IfErr, IfSome, MatchBool, MatchResult, vec_len, All};
 ghost use Rattle.j1939_gateway.specs.PortEnds.{end_out};
 ghost use Rattle.j1939_gateway.specs.Making.{AreOfOneGateway};
 ghost use Rattle.j1939_gateway.specs.Closing.{Closes};
@@ -39,7 +39,7 @@ use std::marker::{Send, Sync};
 use std::snapshot::Snapshot;
 use std::sync::Wait;
 use std::sync::atomic::{AtomicBool, Ordering};
-use std::thread::{Promise, Scope, Threads, scope, scope_env, yield_now};
+use std::thread::{Promise, PromisedHandle, Scope, Threads, scope, scope_env, yield_now};
 
 /// The port at which frames are offered.
 const FROM: u8 = 0;
@@ -117,8 +117,10 @@ fn open<R: Wait>(rt: &R, alloc: Global, first: Batch) -> Result<Parts, Fault>
     ensures refused { IfErr result (IsOpenFault first) }
 {
     let mut parts = new_gateway(alloc)?;
-    publish(rt, &mut parts.operator, first)?;
-    Ok(parts)
+    match publish(rt, &mut parts.operator, first) {
+        Ok(()) => Ok(parts),
+        Err(why) => Err(why),
+    }
 }
 
 /// Two ports, and room for four copies in a lane, two batches and eight frames at a port.
@@ -231,24 +233,40 @@ fn run_ends<'s, E, R: Threads + Wait + Sync>(
         feed,
         drain,
     } = ends;
-    let promise = DrainPromise(Snapshot::of(&drain));
-    let Ok(sending) = threads.spawn_with(
-        promise,
-        move || -> Drain
-            requires { drain.copies.items ≡ [] }
-        { take_out(rt, drain, is_over) },
-    ) else {
+    let Some(sending) = start_sending(threads, rt, is_over, drain) else {
         return Err(Fault::NoThread);
     };
     let met = replace_meanwhile(threads, rt, operator, feed, batch);
     is_over.store(true, Ordering::SeqCst);
     let drain = sending.join(rt);
-    let (operator, feed) = met?;
-    Ok(Ends {
-        operator,
-        feed,
-        drain,
-    })
+    match met {
+        Ok((operator, feed)) => Ok(Ends {
+            operator,
+            feed,
+            drain,
+        }),
+        Err(why) => Err(why),
+    }
+}
+
+/// Starts the thread that takes copies out, if one can be made.
+fn start_sending<'s, E, R: Threads + Wait + Sync>(
+    threads: &'s Scope<'s, E>,
+    rt: &'s R,
+    is_over: &'s AtomicBool,
+    drain: Drain,
+) -> Option<PromisedHandle<Drain, DrainPromise>>
+    requires { drain.copies.items ≡ [] }
+    ensures { IfSome result (λ handle. handle.promise.0.value ≡ drain) }
+{
+    let promise = DrainPromise(Snapshot::of(&drain));
+    let started = threads.spawn_with(
+        promise,
+        move || -> Drain
+            requires { drain.copies.items ≡ [] }
+        { take_out(rt, drain, is_over) },
+    );
+    started.ok()
 }
 
 /// Starts a thread that offers the frames and one that publishes the batch, and joins both.
@@ -263,37 +281,52 @@ fn replace_meanwhile<'s, E, R: Threads + Wait + Sync>(
     ensures met { IfOk result (λ met. HaveMet operator feed batch met.0 met.1) }
     ensures refused { IfErr result (IsRunFault operator feed batch) }
 {
+    let Some(offering) = start_offering(threads, feed) else {
+        return Err(Fault::NoThread);
+    };
+    let Some(replacing) = start_replacing(threads, rt, operator, batch) else {
+        return Err(Fault::NoThread);
+    };
+    let (operator, published) = replacing.join(rt);
+    // A batch that was refused comes before a frame that was.
+    match published.and(offering.join(rt)) {
+        Ok(feed) => Ok((operator, feed)),
+        Err(why) => Err(why),
+    }
+}
+
+/// Starts the thread that offers the frames, if one can be made.
+fn start_offering<'s, E>(
+    threads: &'s Scope<'s, E>,
+    feed: Feed,
+) -> Option<PromisedHandle<Result<Feed, Fault>, FeedPromise>>
+    requires { CanOffer feed }
+    ensures { IfSome result (λ handle. handle.promise.0.value ≡ feed) }
+{
     let promise = FeedPromise(Snapshot::of(&feed));
-    let Ok(offering) = threads.spawn_with(
+    let started = threads.spawn_with(
         promise,
         move || -> Result<Feed, Fault>
             requires { CanOffer feed }
         { offer_all(feed) },
-    ) else {
-        return Err(Fault::NoThread);
-    };
-    let promise = OperatorPromise(Snapshot::of(&operator), Snapshot::of(&batch));
-    let Ok(replacing) = threads.spawn_with(promise, move || -> (Operator, Result<(), Fault>) {
-        replace_policies(rt, operator, batch)
-    }) else {
-        return Err(Fault::NoThread);
-    };
-    let (operator, published) = replacing.join(rt);
-    put_together(operator, published, offering.join(rt))
+    );
+    started.ok()
 }
 
-/// What the two threads hand back, unless the batch or a frame was refused.
-fn put_together(
+/// Starts the thread that publishes the batch, if one can be made.
+fn start_replacing<'s, E, R: Threads + Wait + Sync>(
+    threads: &'s Scope<'s, E>,
+    rt: &'s R,
     operator: Operator,
-    published: Result<(), Fault>,
-    offered: Result<Feed, Fault>,
-) -> Result<(Operator, Feed), Fault>
-    ensures met { IfOk result (λ met. (met.0 ≡ operator) × (published ≡ Ok (record {})) × (offered ≡ Ok met.1)) }
-    ensures refused { IfErr result (λ fault. (published ≡ Err fault) ⊎ (offered ≡ Err fault)) }
+    batch: Batch,
+) -> Option<PromisedHandle<(Operator, Result<(), Fault>), OperatorPromise>>
+    ensures { IfSome result (λ handle. (handle.promise.0.value ≡ operator) × (handle.promise.1.value ≡ batch)) }
 {
-    published?;
-    let feed = offered?;
-    Ok((operator, feed))
+    let promise = OperatorPromise(Snapshot::of(&operator), Snapshot::of(&batch));
+    let started = threads.spawn_with(promise, move || -> (Operator, Result<(), Fault>) {
+        replace_policies(rt, operator, batch)
+    });
+    started.ok()
 }
 
 /// Offers the frames in order, up to one that is refused.
