@@ -1,7 +1,8 @@
 //! What two tables differ in.
 
 use gw_table::{Difference, Part, Table};
-use std::test::Fail;
+use std::alloc::Global;
+use std::process::Abort;
 
 /// Requests (PGN 59904) of the tool at 249 are blocked, and the engine at 0 may send three groups.
 const OLD: &str = r#"
@@ -65,30 +66,32 @@ fn is_expected(found: &Difference, expected: (Part, Part, u32, u8)) -> bool {
         && found.port == port
 }
 
+/// What tables of two texts differ in.
+fn differences(rt: &impl Abort, alloc: Global, old: &str, new: &str) -> Vec<Difference> {
+    let old = Table::read(alloc, old).expect(rt, "a table");
+    let new = Table::read(alloc, new).expect(rt, "a table");
+    old.differences(alloc, &new).expect(rt, "memory")
+}
+
 #[test]
-fn a_rule_moved_one_dropped_and_one_widened(rt: HostRuntime) -> Result<(), Fail> {
-    let old = Table::read(rt.alloc(), OLD)?;
-    let new = Table::read(rt.alloc(), NEW)?;
-    let found = old.differences(rt.alloc(), &new)?;
+fn a_rule_moved_one_dropped_and_one_widened(rt: HostRuntime) {
+    let found = differences(&rt, rt.alloc(), OLD, NEW);
     assert!(rt; found.len() == 3);
-    let mut expected = found.iter().zip(EXPECTED.iter());
-    assert!(rt; expected.all(|(found, expected)| is_expected(found, *expected)));
-    Ok(())
+    for index in 0..3 {
+        assert!(rt; is_expected(&found[index], EXPECTED[index]));
+    }
 }
 
 #[test]
-fn a_table_and_itself(rt: HostRuntime) -> Result<(), Fail> {
-    let table = Table::read(rt.alloc(), OLD)?;
-    assert!(rt; table.differences(rt.alloc(), &table)?.is_empty());
-    Ok(())
+fn a_table_and_itself(rt: HostRuntime) {
+    let table = Table::read(rt.alloc(), OLD).expect(&rt, "a table");
+    let found = table.differences(rt.alloc(), &table).expect(&rt, "memory");
+    assert!(rt; found.is_empty());
 }
 
 #[test]
-fn other_frames(rt: HostRuntime) -> Result<(), Fail> {
-    let old = Table::read(rt.alloc(), "other = \"pass\"")?;
-    let new = Table::read(rt.alloc(), "")?;
-    let found = old.differences(rt.alloc(), &new)?;
+fn other_frames(rt: HostRuntime) {
+    let found = differences(&rt, rt.alloc(), "other = \"pass\"", "");
     assert!(rt; found.len() == 1);
     assert!(rt; is_expected(&found[0], (Part::Other, Part::Other, 0, 0)));
-    Ok(())
 }

@@ -1,6 +1,6 @@
 //! The worked examples: what becomes of lists of events.
 
-ghost use Rattle.std.specs.Prelude.{◌≡◌, IfOk};
+ghost use Rattle.std.specs.Prelude.{◌≡◌};
 
 use crate::made::{ENGINE_SPEED, batch, bits, returning};
 use crate::ports::{CIRCLE, Use, circles, told};
@@ -106,22 +106,23 @@ fn answer_of(frame: Frame, says: Says) -> Given {
 /// The answers must be those of the rows, one for each event.
 fn assert_given(rt: &impl Abort, frame: Frame, answers: &[Given], rows: &[Row]) {
     assert!(rt; answers.len() == rows.len());
-    for (index, (answer, (_, says))) in answers.iter().zip(rows).enumerate() {
-        assert!(rt; *answer == answer_of(frame, *says), "event {index}");
+    for index in 0..rows.len() {
+        let (_, says) = rows[index];
+        assert!(rt; answers[index] == answer_of(frame, says), "event {index}");
     }
 }
 
 /// A new gateway must answer the events of the rows so.
-fn ran(rt: &impl Abort, alloc: Global, limits: Limits, rows: &[Row]) -> Result<Core, Fail>
-    ensures { IfOk result (λ core. core.limits ≡ limits) }
+fn ran(rt: &impl Abort, alloc: Global, limits: Limits, rows: &[Row]) -> Core
+    ensures { result.limits ≡ limits }
 {
-    let frame = Frame::read(&ENGINE_SPEED)?;
-    let mut core = Core::new(alloc, limits)?;
+    let frame = Frame::read(&ENGINE_SPEED).expect(rt, "a frame");
+    let mut core = Core::new(alloc, limits).expect(rt, "a core");
     let Ok(answers) = core.run(alloc, events_of(rt, alloc, frame, rows)) else {
-        return Err(OutOfMemory.into());
+        panic!(rt; "no memory");
     };
     assert_given(rt, frame, &answers, rows);
-    Ok(core)
+    core
 }
 
 const FULL_LANE: [Row; 17] = [
@@ -146,7 +147,7 @@ const FULL_LANE: [Row; 17] = [
 
 #[test]
 fn a_full_lane(rt: HostRuntime) -> Result<(), Fail> {
-    let core = ran(&rt, rt.alloc(), Limits::new(3, 1, 4, 10)?, &FULL_LANE)?;
+    let core = ran(&rt, rt.alloc(), Limits::new(3, 1, 4, 10)?, &FULL_LANE);
     let ledger = InLedger {
         taken: 3,
         local: 0,
@@ -182,7 +183,7 @@ const REPLACEMENT: [Row; 13] = [
 
 #[test]
 fn a_replacement_while_a_frame_is_unfinished(rt: HostRuntime) -> Result<(), Fail> {
-    let core = ran(&rt, rt.alloc(), Limits::new(3, 4, 2, 10)?, &REPLACEMENT)?;
+    let core = ran(&rt, rt.alloc(), Limits::new(3, 4, 2, 10)?, &REPLACEMENT);
     assert!(rt; core.waiting(0, 2) == 1);
     Ok(())
 }
@@ -226,9 +227,10 @@ fn called(core: &mut Core, event: Event) -> Given {
 fn assert_called(rt: &impl Abort, alloc: Global, limits: Limits, rows: &[Row]) {
     let frame = Frame::read(&ENGINE_SPEED).expect(rt, "a frame");
     let mut core = Core::new(alloc, limits).expect(rt, "a core");
-    for (index, (does, says)) in rows.iter().enumerate() {
-        let given = called(&mut core, event_of(rt, alloc, frame, *does));
-        assert!(rt; given == answer_of(frame, *says), "event {index}");
+    for index in 0..rows.len() {
+        let (does, says) = rows[index];
+        let given = called(&mut core, event_of(rt, alloc, frame, does));
+        assert!(rt; given == answer_of(frame, says), "event {index}");
     }
     assert!(rt; core.limits() == limits);
 }
@@ -267,11 +269,12 @@ fn local_at_0(core: &mut Core, frame: Frame) -> Option<(u32, bool, bool)>
 
 #[test]
 fn a_local_frame_in_one_call(rt: HostRuntime) -> Result<(), Fail> {
+    let claim = Frame::read(&CLAIM)?;
+    let local = Frame::read(&TO_THE_CLAIMED)?;
     let mut core = Core::new(rt.alloc(), Limits::new(2, 4, 4, 10)?)?;
     let batch = batch(&rt, rt.alloc(), &[1], &returning(1));
     assert!(rt; core.event(Event::Publish(batch)).is_ok());
-    assert!(rt; local_at_0(&mut core, Frame::read(&CLAIM)?) == Some((0, false, true)));
-    let local = Frame::read(&TO_THE_CLAIMED)?;
+    assert!(rt; local_at_0(&mut core, claim) == Some((0, false, true)));
     assert!(rt; local_at_0(&mut core, local) == Some((1, true, false)));
     assert!(rt; core.forward(2, local) == Err(EventRefusal::NoSuchPort));
     let ledger = InLedger {
@@ -326,16 +329,20 @@ fn assert_same_circle(rt: &impl Abort, alloc: Global, limits: Limits, port: u8, 
     }
 }
 
+/// A new core of two ports must have no copy at port 1, and no port 2.
+fn assert_nothing_waits(rt: &impl Abort, core: &mut Core) {
+    assert!(rt; core.next(2) == Err(EventRefusal::NoSuchPort));
+    assert!(rt; core.peek(2) == Err(EventRefusal::NoSuchPort));
+    assert!(rt; core.next(1) == Ok(None));
+}
+
 #[test]
 fn the_circle_of_sources_in_one_thread(rt: HostRuntime) -> Result<(), Fail> {
     let alloc = rt.alloc();
     assert_same_circle(&rt, alloc, Limits::new(3, 1, 1, 3)?, 2, &CIRCLE);
-    let uses = circles(alloc)?;
-    assert_same_circle(&rt, alloc, Limits::new(16, 1, 1, 16)?, 0, &uses);
-    let mut core = Core::new(alloc, Limits::new(2, 1, 1, 1)?)?;
-    assert!(rt; core.next(2) == Err(EventRefusal::NoSuchPort));
-    assert!(rt; core.peek(2) == Err(EventRefusal::NoSuchPort));
-    assert!(rt; core.next(1) == Ok(None));
+    let limits = Limits::new(16, 1, 1, 16)?;
+    assert_same_circle(&rt, alloc, limits, 0, &circles(alloc)?);
+    assert_nothing_waits(&rt, &mut Core::new(alloc, Limits::new(2, 1, 1, 1)?)?);
     Ok(())
 }
 
@@ -344,8 +351,8 @@ const IDLE: [Row; 1000] = [(Does::Step(0), Says::Refused(EventRefusal::Idle)); 1
 
 #[test]
 fn a_long_list_and_an_empty_one(rt: HostRuntime) -> Result<(), Fail> {
-    ran(&rt, rt.alloc(), Limits::new(16, 1024, 65535, 1)?, &IDLE)?;
-    ran(&rt, rt.alloc(), Limits::new(2, 513, 1, 1)?, &[])?;
+    ran(&rt, rt.alloc(), Limits::new(16, 1024, 65535, 1)?, &IDLE);
+    ran(&rt, rt.alloc(), Limits::new(2, 513, 1, 1)?, &[]);
     Ok(())
 }
 

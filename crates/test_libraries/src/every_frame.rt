@@ -1,12 +1,12 @@
 //! What random tables differ in and answer, beside trying a frame of each kind that their rules can tell apart at each port.
 
-use crate::made::frame;
+use crate::made::{frame, push_range};
 use gw_frame::Frame;
 use gw_table::{
     Answer, Change, Crossing, Difference, Part, Question, Sample, Span, Table, crossings,
 };
-use std::alloc::Global;
-use std::test::Fail;
+use std::alloc::{AllocError, Global};
+use std::process::Abort;
 
 /// The bounds of each field's ranges. 61184 is the last group of PDU1 below 61440, the first of PDU2; 65536 is of the next page.
 const GROUPS: [u32; 8] = [0, 59904, 61184, 61440, 61441, 65535, 65536, 262143];
@@ -66,35 +66,44 @@ impl Generator {
         if self.coin() { "pass" } else { "block" }
     }
 
-    fn rule(&mut self, alloc: Global) -> Result<String, Fail> {
+    fn push_action(&mut self, text: &mut String, key: &str) -> Result<(), AllocError> {
         let action = self.action();
-        let pgn = self.range(&GROUPS);
-        let source = self.range(&SOURCES);
-        let destination = self.range(&DESTINATIONS);
-        let from = self.range(&PORTS);
-        Ok(format!(in alloc;
-            "[[rule]]\naction = \"{}\"\npgn = [{}, {}]\nsource = [{}, {}]\ndestination = [{}, {}]\nfrom = [{}, {}]\n",
-            action,
-            pgn.low,
-            pgn.high,
-            source.low,
-            source.high,
-            destination.low,
-            destination.high,
-            from.low,
-            from.high
-        )?)
+        write!(text, "{key} = \"{action}\"\n")
+    }
+
+    fn push_range(
+        &mut self,
+        text: &mut String,
+        key: &str,
+        bounds: &[u32; 8],
+    ) -> Result<(), AllocError> {
+        let range = self.range(bounds);
+        push_range(text, key, range.low, range.high)
+    }
+
+    fn push_rule(&mut self, text: &mut String) -> Result<(), AllocError> {
+        text.push_str("[[rule]]\n")?;
+        self.push_action(text, "action")?;
+        self.push_range(text, "pgn", &GROUPS)?;
+        self.push_range(text, "source", &SOURCES)?;
+        self.push_range(text, "destination", &DESTINATIONS)?;
+        self.push_range(text, "from", &PORTS)
+    }
+
+    fn push_table(&mut self, text: &mut String) -> Result<(), AllocError> {
+        self.push_action(text, "default")?;
+        self.push_action(text, "other")?;
+        for _ in 0..self.next() % 7 {
+            self.push_rule(text)?;
+        }
+        Ok(())
     }
 
     /// A table of at most six rules.
-    fn table(&mut self, alloc: Global) -> Result<Table, Fail> {
-        let default = self.action();
-        let other = self.action();
-        let mut text = format!(in alloc; "default = \"{}\"\nother = \"{}\"\n", default, other)?;
-        for _ in 0..self.next() % 7 {
-            text.push_str(self.rule(alloc)?.as_str())?;
-        }
-        Ok(Table::read(alloc, text.as_str())?)
+    fn table(&mut self, rt: &impl Abort, alloc: Global) -> Table {
+        let mut text = String::new(alloc);
+        assert!(rt; self.push_table(&mut text).is_ok());
+        Table::read(alloc, text.as_str()).expect(rt, "a table")
     }
 
     fn question(&mut self) -> Question {
@@ -107,31 +116,34 @@ impl Generator {
     }
 }
 
-fn push_sources(frames: &mut Vec<Frame>, word: u32) -> Result<(), Fail> {
-    for source in TRIED_SOURCES {
-        frames.push(frame(word | source)?)?;
-    }
-    Ok(())
+fn push_frame(rt: &impl Abort, frames: &mut Vec<Frame>, word: u32) {
+    let frame = frame(word).expect(rt, "a frame");
+    assert!(rt; frames.push(frame).is_ok());
 }
 
-fn push_destinations(frames: &mut Vec<Frame>, word: u32) -> Result<(), Fail> {
-    for destination in TRIED_DESTINATIONS {
-        push_sources(frames, word | destination)?;
+fn push_sources(rt: &impl Abort, frames: &mut Vec<Frame>, word: u32) {
+    for source in TRIED_SOURCES {
+        push_frame(rt, frames, word | source);
     }
-    Ok(())
+}
+
+fn push_destinations(rt: &impl Abort, frames: &mut Vec<Frame>, word: u32) {
+    for destination in TRIED_DESTINATIONS {
+        push_sources(rt, frames, word | destination);
+    }
 }
 
 /// A frame of 11 bits, and one of each kind of 29 bits.
-fn tried_frames(alloc: Global) -> Result<Vec<Frame>, Fail> {
+fn tried_frames(rt: &impl Abort, alloc: Global) -> Vec<Frame> {
     let mut frames = Vec::new(alloc);
-    frames.push(frame(0x123)?)?;
+    push_frame(rt, &mut frames, 0x123);
     for word in TO_ONE {
-        push_destinations(&mut frames, word)?;
+        push_destinations(rt, &mut frames, word);
     }
     for word in TO_ALL {
-        push_sources(&mut frames, word)?;
+        push_sources(rt, &mut frames, word);
     }
-    Ok(frames)
+    frames
 }
 
 fn is_unlike(old: &Table, new: &Table, frame: &Frame, port: u8) -> bool {
@@ -145,9 +157,12 @@ fn is_difference(found: &Difference, old: &Table, new: &Table) -> bool {
 }
 
 fn has_pair(found: &[Difference], old: Part, new: Part) -> bool {
-    found
-        .iter()
-        .any(|found| found.old == old && found.new == new)
+    for found in found {
+        if found.old == old && found.new == new {
+            return true;
+        }
+    }
+    false
 }
 
 /// Whether a frame is treated alike at each port, or its pair of deciders was found.
@@ -162,22 +177,26 @@ fn is_told(found: &[Difference], old: &Table, new: &Table, frame: &Frame) -> boo
     true
 }
 
+/// The differences must be just those that a frame shows.
+fn assert_differences(rt: &impl Abort, alloc: Global, frames: &[Frame], old: &Table, new: &Table) {
+    let found = old.differences(alloc, new).expect(rt, "memory");
+    for found in &found {
+        assert!(rt; is_difference(found, old, new));
+    }
+    for frame in frames {
+        assert!(rt; is_told(&found, old, new, frame));
+    }
+}
+
 #[test]
-fn differences_of_random_tables(rt: HostRuntime) -> Result<(), Fail> {
-    let frames = tried_frames(rt.alloc())?;
+fn differences_of_random_tables(rt: HostRuntime) {
+    let frames = tried_frames(&rt, rt.alloc());
     let mut generator = Generator { state: 1 };
     for _ in 0..40 {
-        let old = generator.table(rt.alloc())?;
-        let new = generator.table(rt.alloc())?;
-        let found = old.differences(rt.alloc(), &new)?;
-        assert!(rt; found.iter().all(|found| is_difference(found, &old, &new)));
-        assert!(rt;
-            frames
-                .iter()
-                .all(|frame| is_told(&found, &old, &new, frame))
-        );
+        let old = generator.table(&rt, rt.alloc());
+        let new = generator.table(&rt, rt.alloc());
+        assert_differences(&rt, rt.alloc(), &frames, &old, &new);
     }
-    Ok(())
 }
 
 /// Whether a crossing is of the tables of its egress port, and taken at another port below 3.
@@ -191,9 +210,13 @@ fn is_crossing(found: &Crossing, changes: &[Change; 3]) -> bool {
 }
 
 fn has_crossing(found: &[Crossing], egress: u8, old: Part, new: Part) -> bool {
-    found.iter().any(|found| {
-        found.egress == egress && found.difference.old == old && found.difference.new == new
-    })
+    for found in found {
+        let difference = &found.difference;
+        if found.egress == egress && difference.old == old && difference.new == new {
+            return true;
+        }
+    }
+    false
 }
 
 /// Whether a frame leaves alike at a port, wherever else it is taken, or its pairs of deciders were found.
@@ -215,34 +238,43 @@ fn is_told_at(found: &[Crossing], change: &Change, egress: u8, frame: &Frame) ->
     true
 }
 
+/// The crossings must be just those that a frame shows, and none at port 1, whose table stays.
+fn assert_crossings(rt: &impl Abort, alloc: Global, frames: &[Frame], changes: &[Change; 3]) {
+    let found = crossings(alloc, changes).expect(rt, "memory");
+    for found in &found {
+        assert!(rt; is_crossing(found, changes));
+        assert!(rt; found.egress != 1);
+    }
+    for frame in frames {
+        assert!(rt; is_told_at(&found, &changes[0], 0, frame));
+        assert!(rt; is_told_at(&found, &changes[2], 2, frame));
+    }
+}
+
+/// The next four tables, at three ports.
+fn assert_next_crossings(
+    rt: &impl Abort,
+    alloc: Global,
+    frames: &[Frame],
+    generator: &mut Generator,
+) {
+    let a = generator.table(rt, alloc);
+    let b = generator.table(rt, alloc);
+    let c = generator.table(rt, alloc);
+    let d = generator.table(rt, alloc);
+    let first = Change { old: &a, new: &b };
+    let second = Change { old: &c, new: &c };
+    let third = Change { old: &b, new: &d };
+    assert_crossings(rt, alloc, frames, &[first, second, third]);
+}
+
 #[test]
-fn crossings_of_random_tables(rt: HostRuntime) -> Result<(), Fail> {
-    let frames = tried_frames(rt.alloc())?;
+fn crossings_of_random_tables(rt: HostRuntime) {
+    let frames = tried_frames(&rt, rt.alloc());
     let mut generator = Generator { state: 2 };
     for _ in 0..60 {
-        let a = generator.table(rt.alloc())?;
-        let b = generator.table(rt.alloc())?;
-        let c = generator.table(rt.alloc())?;
-        let d = generator.table(rt.alloc())?;
-        let first = Change { old: &a, new: &b };
-        let second = Change { old: &c, new: &c };
-        let third = Change { old: &b, new: &d };
-        let changes = [first, second, third];
-        let found = crossings(rt.alloc(), &changes)?;
-        assert!(rt; found.iter().all(|found| is_crossing(found, &changes)));
-        assert!(rt;
-            frames
-                .iter()
-                .all(|frame| is_told_at(&found, &first, 0, frame))
-        );
-        assert!(rt;
-            frames
-                .iter()
-                .all(|frame| is_told_at(&found, &third, 2, frame))
-        );
-        assert!(rt; !found.iter().any(|found| found.egress == 1));
+        assert_next_crossings(&rt, rt.alloc(), &frames, &mut generator);
     }
-    Ok(())
 }
 
 fn lies_in(number: u32, range: Option<Span>) -> bool {
@@ -277,6 +309,16 @@ fn is_asked_so(table: &Table, question: &Question, frame: &Frame, passes: bool) 
     false
 }
 
+/// Whether any of the frames is.
+fn is_any_so(frames: &[Frame], table: &Table, question: &Question, passes: bool) -> bool {
+    for frame in frames {
+        if is_asked_so(table, question, frame, passes) {
+            return true;
+        }
+    }
+    false
+}
+
 fn is_sample(sample: &Sample, table: &Table, question: &Question, passes: bool) -> bool {
     is_asked(question, &sample.frame, sample.port)
         && table.verdict(&sample.frame, sample.port) == passes
@@ -296,21 +338,26 @@ fn is_answer(answer: &Answer, table: &Table, question: &Question, some: (bool, b
     }
 }
 
+/// The answer must be what the frames show.
+fn assert_answer(
+    rt: &impl Abort,
+    alloc: Global,
+    frames: &[Frame],
+    table: &Table,
+    question: &Question,
+) {
+    let answer = table.answers(alloc, question).expect(rt, "memory");
+    let passing = is_any_so(frames, table, question, true);
+    let blocked = is_any_so(frames, table, question, false);
+    assert!(rt; is_answer(&answer, table, question, (passing, blocked)));
+}
+
 #[test]
-fn answers_of_random_tables(rt: HostRuntime) -> Result<(), Fail> {
-    let frames = tried_frames(rt.alloc())?;
+fn answers_of_random_tables(rt: HostRuntime) {
+    let frames = tried_frames(&rt, rt.alloc());
     let mut generator = Generator { state: 3 };
     for _ in 0..60 {
-        let table = generator.table(rt.alloc())?;
-        let question = generator.question();
-        let answer = table.answers(rt.alloc(), &question)?;
-        let passing = frames
-            .iter()
-            .any(|frame| is_asked_so(&table, &question, frame, true));
-        let blocked = frames
-            .iter()
-            .any(|frame| is_asked_so(&table, &question, frame, false));
-        assert!(rt; is_answer(&answer, &table, &question, (passing, blocked)));
+        let table = generator.table(&rt, rt.alloc());
+        assert_answer(&rt, rt.alloc(), &frames, &table, &generator.question());
     }
-    Ok(())
 }

@@ -1,17 +1,17 @@
 //! Tables by their index.
 
-use crate::made::frame;
+use crate::made::{frame, push_range};
 use gw_frame::{Frame, FrameRefusal};
 use gw_table::{IndexedTable, Rule, Span, Table};
 use std::alloc::{AllocError, Global};
 use std::process::Abort;
-use std::test::Fail;
 
-fn indexed(alloc: Global, text: &str) -> Result<IndexedTable, Fail> {
-    match IndexedTable::new(alloc, Table::read(alloc, text)?) {
-        Ok(table) => Ok(table),
-        Err(_) => Err(AllocError.into()),
-    }
+fn indexed(rt: &impl Abort, alloc: Global, text: &str) -> IndexedTable {
+    let table = Table::read(alloc, text).expect(rt, "a table");
+    let Ok(table) = IndexedTable::new(alloc, table) else {
+        panic!(rt; "no memory");
+    };
+    table
 }
 
 /// A text with rules behind its own that no frame of the worked examples meets, so that the table is not judged rule by rule.
@@ -40,25 +40,25 @@ const EXAMPLES: [(&str, u32, u8, bool); 7] = [
 ];
 
 /// Whether a table passes a frame, by its index.
-fn passes(alloc: Global, text: &str, word: u32, from: u8) -> Result<bool, Fail> {
-    let frame = frame(word)?;
-    Ok(indexed(alloc, text)?.verdict(&frame, from))
+fn passes(rt: &impl Abort, alloc: Global, text: &str, word: u32, from: u8) -> bool {
+    let frame = frame(word).expect(rt, "a frame");
+    indexed(rt, alloc, text).verdict(&frame, from)
 }
 
 #[test]
-fn the_worked_examples(rt: HostRuntime) -> Result<(), Fail> {
+fn the_worked_examples(rt: HostRuntime) {
+    let alloc = rt.alloc();
     for (text, word, from, expected) in EXAMPLES {
         assert!(rt;
-            passes(rt.alloc(), text, word, from)? == expected,
+            passes(&rt, alloc, text, word, from) == expected,
             "{word:x}"
         );
-        let long = prolonged(rt.alloc(), text)?;
+        let long = prolonged(alloc, text).expect(&rt, "memory");
         assert!(rt;
-            passes(rt.alloc(), long.as_str(), word, from)? == expected,
+            passes(&rt, alloc, long.as_str(), word, from) == expected,
             "{word:x}"
         );
     }
-    Ok(())
 }
 
 /// A table of so many rules that block the source 1, and one that passes groups from 61184 to 61458.
@@ -71,55 +71,63 @@ fn long_text(alloc: Global, blocking: usize) -> Result<String, AllocError> {
     Ok(text)
 }
 
+/// The index of that table.
+fn long_table(rt: &impl Abort, alloc: Global, blocking: usize) -> IndexedTable {
+    let text = long_text(alloc, blocking).expect(rt, "memory");
+    indexed(rt, alloc, text.as_str())
+}
+
+/// Frames of source 52, one of source 1, one of 11 bits and a remote one, and whether the table of 256 rules passes each.
+const FRAMES: [(u32, bool); 6] = [
+    (0x98EF1234, true),
+    (0x98F01234, true),
+    (0x98F01334, false),
+    (0x98EF1201, false),
+    (0x00000123, true),
+    (0xD8EF1234, true),
+];
+
 #[test]
-fn the_table_of_256_rules(rt: HostRuntime) -> Result<(), Fail> {
-    let table = indexed(rt.alloc(), long_text(rt.alloc(), 255)?.as_str())?;
-    let rows = [
-        (0x98EF1234, true),
-        (0x98F01234, true),
-        (0x98F01334, false),
-        (0x98EF1201, false),
-        (0x00000123, true),
-        (0xD8EF1234, true),
-    ];
-    for (word, passes) in rows {
-        assert!(rt; table.verdict(&frame(word)?, 0) == passes, "{word:x}");
+fn the_table_of_256_rules(rt: HostRuntime) {
+    let table = long_table(&rt, rt.alloc(), 255);
+    for (word, passes) in FRAMES {
+        let frame = frame(word).expect(&rt, "a frame");
+        assert!(rt; table.verdict(&frame, 0) == passes, "{word:x}");
     }
-    Ok(())
 }
 
 /// From 16 rules on there is an index.
 #[test]
-fn tables_of_several_lengths(rt: HostRuntime) -> Result<(), Fail> {
+fn tables_of_several_lengths(rt: HostRuntime) {
+    let passed = frame(0x98EF1234).expect(&rt, "a frame");
+    let blocked = frame(0x98F01334).expect(&rt, "a frame");
     for blocking in [0, 14, 15, 99, 254] {
-        let table = indexed(rt.alloc(), long_text(rt.alloc(), blocking)?.as_str())?;
-        assert!(rt; table.verdict(&frame(0x98EF1234)?, 0), "{blocking}");
-        assert!(rt; !table.verdict(&frame(0x98F01334)?, 0), "{blocking}");
+        let table = long_table(&rt, rt.alloc(), blocking);
+        assert!(rt; table.verdict(&passed, 0), "{blocking}");
+        assert!(rt; !table.verdict(&blocked, 0), "{blocking}");
     }
-    Ok(())
+}
+
+/// The rule of a number, of the table below.
+fn push_overlapping(text: &mut String, rule: u8) -> Result<(), AllocError> {
+    let rule = u32::from(rule);
+    let action = if rule % 3 == 0 { "pass" } else { "block" };
+    let pgn = 61000 + rule * 17;
+    let source = rule % 200;
+    let destination = rule % 90;
+    let from = rule % 14;
+    write!(text, "[[rule]]\naction = \"{action}\"\n")?;
+    push_range(text, "pgn", pgn, pgn + 900 - rule)?;
+    push_range(text, "source", source, source + 50)?;
+    push_range(text, "destination", destination, destination + 165)?;
+    push_range(text, "from", from, from + 1)
 }
 
 /// 256 rules whose ranges overlap: each has some range in common with most others, and no two have the same four.
 fn overlapping(alloc: Global) -> Result<String, AllocError> {
     let mut text = String::from_str(alloc, "default = \"pass\"\n")?;
-    for rule in 0..256u32 {
-        let action = if rule % 3 == 0 { "pass" } else { "block" };
-        let pgn = 61000 + rule * 17;
-        let source = rule % 200;
-        let destination = rule % 90;
-        let from = rule % 14;
-        write!(
-            text,
-            "[[rule]]\naction = \"{action}\"\npgn = [{pgn}, {}]\n",
-            pgn + 900 - rule
-        )?;
-        write!(text, "source = [{source}, {}]\n", source + 50)?;
-        write!(
-            text,
-            "destination = [{destination}, {}]\n",
-            destination + 165
-        )?;
-        write!(text, "from = [{from}, {}]\n", from + 1)?;
+    for rule in 0..=255 {
+        push_overlapping(&mut text, rule)?;
     }
     Ok(text)
 }
@@ -149,23 +157,14 @@ fn ends(span: Span) -> [u32; 4] {
 }
 
 /// Both tables must judge alike.
-fn assert_same(
-    rt: &impl Abort,
-    tables: (&IndexedTable, &Table),
-    place: Place,
-) -> Result<(), FrameRefusal> {
-    let frame = frame_at(place)?;
+fn assert_same(rt: &impl Abort, tables: (&IndexedTable, &Table), place: Place) {
+    let frame = frame_at(place).expect(rt, "a frame");
     let from = (place[3] % 256) as u8;
     assert!(rt; tables.0.verdict(&frame, from) == tables.1.verdict(&frame, from));
-    Ok(())
 }
 
 /// Both tables must judge alike at the ends of each range of a rule, and beside them.
-fn assert_same_at_ends(
-    rt: &impl Abort,
-    tables: (&IndexedTable, &Table),
-    rule: &Rule,
-) -> Result<(), FrameRefusal> {
+fn assert_same_at_ends(rt: &impl Abort, tables: (&IndexedTable, &Table), rule: &Rule) {
     let spans = [rule.pgn, rule.source, rule.destination, rule.from];
     let inside = [
         rule.pgn.low,
@@ -173,24 +172,22 @@ fn assert_same_at_ends(
         rule.destination.low,
         rule.from.low,
     ];
-    for (field, span) in spans.iter().enumerate() {
-        for end in ends(*span) {
+    for field in 0..4 {
+        for end in ends(spans[field]) {
             let mut place = inside;
             place[field] = end;
-            assert_same(rt, tables, place)?;
+            assert_same(rt, tables, place);
         }
     }
-    Ok(())
 }
 
 #[test]
-fn the_ends_of_256_overlapping_rules(rt: HostRuntime) -> Result<(), Fail> {
-    let text = overlapping(rt.alloc())?;
-    let index = indexed(rt.alloc(), text.as_str())?;
-    let table = Table::read(rt.alloc(), text.as_str())?;
+fn the_ends_of_256_overlapping_rules(rt: HostRuntime) {
+    let text = overlapping(rt.alloc()).expect(&rt, "memory");
+    let index = indexed(&rt, rt.alloc(), text.as_str());
+    let table = Table::read(rt.alloc(), text.as_str()).expect(&rt, "a table");
     assert!(rt; table.rules().len() == 256);
     for rule in table.rules() {
-        assert_same_at_ends(&rt, (&index, &table), rule)?;
+        assert_same_at_ends(&rt, (&index, &table), rule);
     }
-    Ok(())
 }

@@ -3,11 +3,12 @@
 use crate::made::raw;
 use crate::octets::{RUNS, Runs};
 use gw_insn::{ListRefusal, Raw, read_listing};
-use std::alloc::AllocError;
+use std::alloc::{AllocError, Global};
+use std::process::Abort;
 use std::test::Fail;
 
 /// `ldh [12]`, `jeq #0x806, l2, l3`, `ret #0xffffffff`, `ret #0x0`.
-const LISTING: &[u8] = b"4,40 0 0 12,21 0 1 2054,6 0 0 4294967295,6 0 0 0,";
+const LISTING: &str = "4,40 0 0 12,21 0 1 2054,6 0 0 4294967295,6 0 0 0,";
 
 const RETURN_ONE: Raw = Raw {
     code: 6,
@@ -16,8 +17,14 @@ const RETURN_ONE: Raw = Raw {
     k: 1,
 };
 
+/// A listing must be of just this code.
+fn assert_listed(rt: &impl Abort, alloc: Global, text: &str, want: &[Raw]) {
+    let code = read_listing(alloc, text.as_bytes()).expect(rt, "code");
+    assert!(rt; code.as_slice() == want, "at {text:?}");
+}
+
 #[test]
-fn reads_the_spellings_of_a_listing(rt: HostRuntime) -> Result<(), Fail> {
+fn reads_the_spellings_of_a_listing(rt: HostRuntime) {
     for text in [
         "1,6 0 0 1",
         "1,6 0 0 1,",
@@ -25,22 +32,18 @@ fn reads_the_spellings_of_a_listing(rt: HostRuntime) -> Result<(), Fail> {
         "1,6 0 0 1, \t\r\n",
         "0000000001,0000000006 00 000 01,",
     ] {
-        let code = read_listing(rt.alloc(), text.as_bytes())?;
-        assert!(rt; code.as_slice() == [RETURN_ONE].as_slice(), "at {text:?}");
+        assert_listed(&rt, rt.alloc(), text, &[RETURN_ONE]);
     }
     for text in ["0,", "00, \n"] {
-        let code = read_listing(rt.alloc(), text.as_bytes())?;
-        assert!(rt; code.is_empty(), "at {text:?}");
+        assert_listed(&rt, rt.alloc(), text, &[]);
     }
-    let code = read_listing(rt.alloc(), LISTING)?;
     let want = [
         raw((40, 0, 0, 12)),
         raw((21, 0, 1, 2054)),
         raw((6, 0, 0, 4294967295)),
         raw((6, 0, 0, 0)),
     ];
-    assert!(rt; code.as_slice() == want.as_slice());
-    Ok(())
+    assert_listed(&rt, rt.alloc(), LISTING, &want);
 }
 
 #[test]

@@ -7,7 +7,8 @@ use crate::made::ENGINE_SPEED;
 use gw_frame::Frame;
 use gw_lanes::{LaneEnds, LaneIn, LaneOut, finish, lanes};
 use gw_ledger::{FrameCopy, Limits};
-use std::alloc::{AllocError, Global};
+use std::alloc::Global;
+use std::process::Abort;
 use std::test::Fail;
 use std::thread::{Threads, join};
 
@@ -56,13 +57,13 @@ struct Found {
     left: Vec<FrameCopy>,
 }
 
-fn passed<R: Threads + Sync>(
+fn passed<R: Threads + Sync + Abort>(
     rt: &R,
     alloc: Global,
     frame: Frame,
     mut from: LaneIn,
     to: LaneOut,
-) -> Result<Found, AllocError>
+) -> Found
     requires { from.ring ≡ to.ring }
 {
     let mut pushed = [None; 6];
@@ -78,14 +79,24 @@ fn passed<R: Threads + Sync>(
     );
     pushed[5] = push(&mut from, frame, 4);
     let waiting = to.left(&mut from);
-    let mut left = Vec::with_capacity(alloc, waiting)?;
+    let mut left = Vec::with_capacity(alloc, waiting).expect(rt, "memory");
     finish(from, to, &mut left);
-    Ok(Found {
+    Found {
         pushed,
         taken_elsewhere,
         waiting,
         left,
-    })
+    }
+}
+
+/// The fifth copy must have come back, and the first must have made room for it.
+fn assert_passed(rt: &impl Abort, found: &Found) {
+    assert!(rt; found.pushed == [None, None, None, None, Some(4), None]);
+    assert!(rt; found.taken_elsewhere == Some(0) && found.waiting == 4);
+    assert!(rt; found.left.len() == 4);
+    for (number, copy) in (1..).zip(&found.left) {
+        assert!(rt; copy.number == number);
+    }
 }
 
 #[test]
@@ -97,13 +108,7 @@ fn a_full_lane_has_room_again(rt: HostRuntime) -> Result<(), Fail> {
     let Some((from, to)) = first_lane(ends) else {
         panic!(rt; "no lane");
     };
-    let found = passed(&rt, alloc, frame, from, to).expect(&rt, "memory");
-    assert!(rt; found.pushed == [None, None, None, None, Some(4), None]);
-    assert!(rt; found.taken_elsewhere == Some(0) && found.waiting == 4);
-    assert!(rt; found.left.len() == 4);
-    for (number, copy) in (1..).zip(&found.left) {
-        assert!(rt; copy.number == number);
-    }
+    assert_passed(&rt, &passed(&rt, alloc, frame, from, to));
     Ok(())
 }
 

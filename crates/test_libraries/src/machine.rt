@@ -6,7 +6,8 @@ use gw_frame::Frame;
 use gw_insn::Raw;
 use gw_machine::{State, run};
 use gw_verify::Program;
-use std::test::Fail;
+use std::alloc::Global;
+use std::process::Abort;
 
 /// The answer of a program that makes one step after another, and the number of steps.
 fn answer_by_steps(program: &Program, frame: &Frame, port: u8) -> Option<(u32, u32)> {
@@ -39,36 +40,46 @@ fn tamed(raw: &Raw) -> Raw {
 
 /// Whether code and a last `ret #1`, if they are accepted, have one answer by `run` and by `step`; None where they are
 /// refused.
-fn agrees(mut code: Vec<Raw>) -> Result<Option<bool>, Fail> {
+fn agrees(rt: &impl Abort, mut code: Vec<Raw>) -> Option<bool> {
     let alloc = *code.allocator();
-    code.push(raw((6, 0, 0, 1)))?;
+    assert!(rt; code.push(raw((6, 0, 0, 1))).is_ok());
+    let frame = Frame::read(&R).expect(rt, "a frame");
     let Ok(program) = Program::check(alloc, code) else {
-        return Ok(None)
-    };
-    let Ok(frame) = Frame::read(&R) else {
-        return Ok(None)
+        return None;
     };
     let answer = run(&program, &frame, 0);
-    let same = answer_by_steps(&program, &frame, 0);
-    Ok(Some(same.is_some_and(|(by_steps, _)| by_steps == answer)))
+    match answer_by_steps(&program, &frame, 0) {
+        Some((by_steps, _)) => Some(by_steps == answer),
+        None => Some(false),
+    }
+}
+
+/// The instructions of the fixed sequence.
+fn sequence(rt: &impl Abort, alloc: Global) -> Vec<Raw> {
+    let mut octets = Octets::new();
+    let mut raws = Vec::new(alloc);
+    for _ in 0..8192 {
+        assert!(rt; raws.push(octets.next_raw()).is_ok());
+    }
+    raws
+}
+
+/// Code must have one answer, as it is and tamed; whether it is accepted once it is tamed.
+fn tamed_is_accepted(rt: &impl Abort, alloc: Global, code: &[Raw]) -> bool {
+    let any: Vec<Raw> = code.iter().copied().collect(alloc).expect(rt, "memory");
+    assert!(rt; agrees(rt, any) != Some(false));
+    let known: Vec<Raw> = code.iter().map(tamed).collect(alloc).expect(rt, "memory");
+    let one_answer = agrees(rt, known);
+    assert!(rt; one_answer != Some(false));
+    one_answer.is_some()
 }
 
 #[test]
-fn run_and_step(rt: HostRuntime) -> Result<(), Fail> {
-    let mut octets = Octets::new();
-    let mut raws = Vec::new(rt.alloc());
-    for _ in 0..8192 {
-        raws.push(octets.next_raw())?;
-    }
+fn run_and_step(rt: HostRuntime) {
+    let raws = sequence(&rt, rt.alloc());
     let mut one_accepted = false;
     for code in raws.chunks(12) {
-        let any: Vec<Raw> = code.iter().copied().collect(rt.alloc())?;
-        let known: Vec<Raw> = code.iter().map(tamed).collect(rt.alloc())?;
-        assert!(rt; agrees(any)? != Some(false));
-        let one_answer = agrees(known)?;
-        assert!(rt; one_answer != Some(false));
-        one_accepted |= one_answer.is_some();
+        one_accepted |= tamed_is_accepted(&rt, rt.alloc(), code);
     }
     assert!(rt; one_accepted);
-    Ok(())
 }

@@ -16,6 +16,11 @@ pub const ENGINE_SPEED: [u8; 16] = [
     0x8C, 0xF0, 0x04, 0x00, 8, 0, 0, 0, 255, 255, 255, 255, 255, 255, 255, 255,
 ];
 
+/// A line of a table that gives a key a range.
+pub fn push_range(text: &mut String, key: &str, low: u32, high: u32) -> Result<(), AllocError> {
+    write!(text, "{key} = [{low}, {high}]\n")
+}
+
 /// A record of 16 octets with this identifier word.
 pub fn frame(word: u32) -> Result<Frame, FrameRefusal> {
     let [a, b, c, d] = word.to_be_bytes();

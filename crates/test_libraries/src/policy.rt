@@ -52,11 +52,16 @@ fn a_batch_of_sixteen_ports(rt: HostRuntime) {
     }
 }
 
+/// A batch must come into force.
+fn absorb(rt: &impl Abort, set: &mut PolicySet, batch: &Batch) {
+    assert!(rt; set.absorb(batch).is_ok());
+}
+
 #[test]
 fn sixteen_policies_and_none_in_force(rt: HostRuntime) {
     let mut set = PolicySet::new();
-    assert!(rt; set.absorb(&sixteen_ports(&rt, rt.alloc())).is_ok());
-    assert!(rt; set.absorb(&Batch::new()).is_ok());
+    absorb(&rt, &mut set, &sixteen_ports(&rt, rt.alloc()));
+    absorb(&rt, &mut set, &Batch::new());
     assert!(rt; set.front() == 2);
     for port in 0..16 {
         assert!(rt; set.get(port).is_some(), "port {port}");
@@ -78,10 +83,10 @@ fn the_set_in_force(rt: HostRuntime) -> Result<(), Fail> {
     let mut set = PolicySet::new();
     assert!(rt; !set.verdict(3, &engine_speed, 0));
     assert!(rt; set.front() == 0);
-    set.absorb(&batch(&rt, alloc, &[3, 200], &returning(1)))?;
+    absorb(&rt, &mut set, &batch(&rt, alloc, &[3, 200], &returning(1)));
     assert!(rt; set.front() == 1);
     assert_only_3_passes(&rt, &set, &engine_speed);
-    set.absorb(&batch(&rt, alloc, &[3], &returning(0)))?;
+    absorb(&rt, &mut set, &batch(&rt, alloc, &[3], &returning(0)));
     assert!(rt; set.front() == 2);
     assert!(rt; !set.verdict(3, &engine_speed, 0));
     assert!(rt; set.get(3).is_some());

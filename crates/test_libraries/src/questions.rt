@@ -2,7 +2,7 @@
 
 use gw_table::{Answer, Part, Question, Span, Table};
 use std::alloc::Global;
-use std::test::Fail;
+use std::process::Abort;
 
 /// Requests (PGN 59904) of the tool at 249 are blocked, and those of others to the engine at 0 pass. So do engine hours.
 const TABLE: &str = r#"
@@ -36,60 +36,58 @@ fn one(number: u32) -> Option<Span> {
     })
 }
 
+fn answer(rt: &impl Abort, alloc: Global, question: &Question) -> Answer {
+    let table = Table::read(alloc, TABLE).expect(rt, "a table");
+    table.answers(alloc, question).expect(rt, "memory")
+}
+
 #[test]
-fn some_pass_and_some_do_not(rt: HostRuntime) -> Result<(), Fail> {
-    let table = Table::read(rt.alloc(), TABLE)?;
+fn some_pass_and_some_do_not(rt: HostRuntime) {
     let to_engine = Question {
         destination: one(0),
         ..of_group(59904)
     };
-    let Answer::SomePass { passing, blocked } = table.answers(rt.alloc(), &to_engine)? else {
-        return Err(Fail::from("another answer"));
+    let Answer::SomePass { passing, blocked } = answer(&rt, rt.alloc(), &to_engine) else {
+        panic!(rt; "another answer");
     };
     assert!(rt; passing.by == Part::Rule(1));
     assert!(rt; passing.frame.id().source() != 249);
     assert!(rt; passing.frame.id().destination() == Some(0));
     assert!(rt; blocked.by == Part::Rule(0));
     assert!(rt; blocked.frame.id().source() == 249);
-    Ok(())
 }
 
 #[test]
-fn all_pass(rt: HostRuntime) -> Result<(), Fail> {
-    let table = Table::read(rt.alloc(), TABLE)?;
-    let Answer::AllPass(sample) = table.answers(rt.alloc(), &of_group(65253))? else {
-        return Err(Fail::from("another answer"));
+fn all_pass(rt: HostRuntime) {
+    let Answer::AllPass(sample) = answer(&rt, rt.alloc(), &of_group(65253)) else {
+        panic!(rt; "another answer");
     };
     assert!(rt; sample.by == Part::Rule(2));
-    Ok(())
 }
 
 #[test]
-fn none_passes(rt: HostRuntime) -> Result<(), Fail> {
-    let table = Table::read(rt.alloc(), TABLE)?;
+fn none_passes(rt: HostRuntime) {
     let of_tool = Question {
         source: one(249),
         ..of_group(59904)
     };
-    let Answer::NonePass(sample) = table.answers(rt.alloc(), &of_tool)? else {
-        return Err(Fail::from("another answer"));
+    let Answer::NonePass(sample) = answer(&rt, rt.alloc(), &of_tool) else {
+        panic!(rt; "another answer");
     };
     assert!(rt; sample.by == Part::Rule(0));
-    Ok(())
 }
 
 /// Why a question asks for no frame, in words.
-fn cause_in_words(alloc: Global, question: &Question) -> Result<String, Fail> {
-    let table = Table::read(alloc, TABLE)?;
-    let Answer::NoFrame(why) = table.answers(alloc, question)? else {
-        return Err(Fail::from("another answer"));
+fn cause_in_words(rt: &impl Abort, alloc: Global, question: &Question) -> String {
+    let Answer::NoFrame(why) = answer(rt, alloc, question) else {
+        panic!(rt; "another answer");
     };
-    Ok(format!(in alloc; "{why}")?)
+    format!(in alloc; "{why}").expect(rt, "memory")
 }
 
 /// 59905 is in the range of PDU1 groups, whose last octet is 0, and addresses end at 255. The first cause is told.
 #[test]
-fn no_group_and_no_source(rt: HostRuntime) -> Result<(), Fail> {
+fn no_group_and_no_source(rt: HostRuntime) {
     let of_source = Question {
         source: one(256),
         ..of_group(59904)
@@ -99,20 +97,19 @@ fn no_group_and_no_source(rt: HostRuntime) -> Result<(), Fail> {
         ..of_source
     };
     assert!(rt;
-        cause_in_words(rt.alloc(), &of_neither)?.as_str()
+        cause_in_words(&rt, rt.alloc(), &of_neither).as_str()
             == "`pgn` has no parameter group: below PDU format 240 the last octet of a PGN is 0, and the destination \
                 is no part of it"
     );
     assert!(rt;
-        cause_in_words(rt.alloc(), &of_source)?.as_str()
+        cause_in_words(&rt, rt.alloc(), &of_source).as_str()
             == "`source` has no address: addresses are 0 to 255"
     );
-    Ok(())
 }
 
 /// 65253 is a PDU2 group, which goes to 255 alone, and ports end at 15.
 #[test]
-fn no_port_and_no_destination(rt: HostRuntime) -> Result<(), Fail> {
+fn no_port_and_no_destination(rt: HostRuntime) {
     let to_engine = Question {
         destination: one(0),
         ..of_group(65253)
@@ -122,11 +119,11 @@ fn no_port_and_no_destination(rt: HostRuntime) -> Result<(), Fail> {
         ..to_engine
     };
     assert!(rt;
-        cause_in_words(rt.alloc(), &of_neither)?.as_str() == "`from` has no port: ports are 0 to 15"
+        cause_in_words(&rt, rt.alloc(), &of_neither).as_str()
+            == "`from` has no port: ports are 0 to 15"
     );
     assert!(rt;
-        cause_in_words(rt.alloc(), &to_engine)?.as_str()
+        cause_in_words(&rt, rt.alloc(), &to_engine).as_str()
             == "`destination` has no address that these groups go to: addresses are 0 to 255, and PDU2 groups go to 255 alone"
     );
-    Ok(())
 }

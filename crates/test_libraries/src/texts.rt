@@ -10,32 +10,22 @@ use gw_replay::ReplayFault;
 use gw_run::ForwardRefusal;
 use gw_text::AsmRefusal;
 use gw_trace::TraceRefusal;
-use std::alloc::{AllocError, Global};
+use std::alloc::Global;
 use std::fmt::Display;
 use std::process::Abort;
 use std::test::Fail;
 
 /// Each refusal must be told by just the text beside it and what stands behind each text.
-fn assert_told_with<T: Display>(
-    rt: &impl Abort,
-    alloc: Global,
-    texts: &[(T, &str)],
-    behind: &str,
-) -> Result<(), AllocError> {
+fn assert_told_with<T: Display>(rt: &impl Abort, alloc: Global, texts: &[(T, &str)], behind: &str) {
     for (refusal, text) in texts {
-        let told = format!(in alloc; "{refusal}")?;
+        let told = format!(in alloc; "{refusal}").expect(rt, "memory");
         assert!(rt; told.as_str().strip_suffix(behind) == Some(*text), "{told}");
     }
-    Ok(())
 }
 
 /// Each refusal must be told by just the text beside it.
-fn assert_told<T: Display>(
-    rt: &impl Abort,
-    alloc: Global,
-    texts: &[(T, &str)],
-) -> Result<(), AllocError> {
-    assert_told_with(rt, alloc, texts, "")
+fn assert_told<T: Display>(rt: &impl Abort, alloc: Global, texts: &[(T, &str)]) {
+    assert_told_with(rt, alloc, texts, "");
 }
 
 const NOT_BOARD: [(BoardRefusal, &str); 1] = [(
@@ -48,12 +38,9 @@ const NOT_READ: [(NoReading, &str); 1] = [(
     "the policies in force could not be read: ask again",
 )];
 
-#[test]
-fn of_boards(rt: HostRuntime) -> Result<(), AllocError> {
-    let alloc = rt.alloc();
-    assert_told(&rt, alloc, &NOT_BOARD)?;
-    assert_told(&rt, alloc, &NOT_READ)?;
-    let not_replaced = [
+/// Each with an empty batch that comes back.
+fn not_replaced() -> [(ReplaceRefusal, &'static str); 5] {
+    [
         (
             ReplaceRefusal::NoSuchPort(Batch::new()),
             "the batch names a port that the gateway does not have: name ports below its number of ports",
@@ -74,8 +61,15 @@ fn of_boards(rt: HostRuntime) -> Result<(), AllocError> {
             ReplaceRefusal::OutOfMemory(None),
             "no memory to publish the batch, which is lost: the operator is stopped",
         ),
-    ];
-    assert_told(&rt, alloc, &not_replaced)
+    ]
+}
+
+#[test]
+fn of_boards(rt: HostRuntime) {
+    let alloc = rt.alloc();
+    assert_told(&rt, alloc, &NOT_BOARD);
+    assert_told(&rt, alloc, &NOT_READ);
+    assert_told(&rt, alloc, &not_replaced());
 }
 
 const NOT_MADE: [(MakeRefusal, &str); 3] = [
@@ -115,32 +109,30 @@ const NOT_TAKEN: [(OfferRefusal, &str); 2] = [
 ];
 
 #[test]
-fn of_gateways(rt: HostRuntime) -> Result<(), AllocError> {
+fn of_gateways(rt: HostRuntime) {
     let alloc = rt.alloc();
-    assert_told(&rt, alloc, &NOT_MADE)?;
-    assert_told(&rt, alloc, &NO_LANES)?;
-    assert_told(&rt, alloc, &NO_CORE)?;
-    assert_told(&rt, alloc, &NOT_TAKEN)
+    assert_told(&rt, alloc, &NOT_MADE);
+    assert_told(&rt, alloc, &NO_LANES);
+    assert_told(&rt, alloc, &NO_CORE);
+    assert_told(&rt, alloc, &NOT_TAKEN);
 }
 
 #[test]
 fn of_closes(rt: HostRuntime) -> Result<(), Fail> {
     let alloc = rt.alloc();
     let limits = Limits::new(2, 1, 1, 1)?;
-    let (Ok(parts), Ok(others)) = (gateway(alloc, limits), gateway(alloc, limits)) else {
-        return Err("no gateway".into());
-    };
-    let not_closed = [
-        (
-            CloseRefusal::OutOfMemory(parts),
-            "no memory for the report: close the gateway again",
-        ),
-        (
-            CloseRefusal::NoReading(others),
-            "the policies in force could not be read: close the gateway again",
-        ),
-    ];
-    assert_told(&rt, alloc, &not_closed)?;
+    let parts = gateway(alloc, limits).expect(&rt, "a gateway");
+    let no_memory = [(
+        CloseRefusal::OutOfMemory(parts),
+        "no memory for the report: close the gateway again",
+    )];
+    assert_told(&rt, alloc, &no_memory);
+    let parts = gateway(alloc, limits).expect(&rt, "a gateway");
+    let no_reading = [(
+        CloseRefusal::NoReading(parts),
+        "the policies in force could not be read: close the gateway again",
+    )];
+    assert_told(&rt, alloc, &no_reading);
     Ok(())
 }
 
@@ -188,10 +180,10 @@ const NOT_FORWARDED: [(ForwardRefusal, &str); 1] = [(
 )];
 
 #[test]
-fn of_runs(rt: HostRuntime) -> Result<(), AllocError> {
-    assert_told(&rt, rt.alloc(), &NOT_RUN)?;
-    assert_told(&rt, rt.alloc(), &NO_TRACE)?;
-    assert_told(&rt, rt.alloc(), &NOT_FORWARDED)
+fn of_runs(rt: HostRuntime) {
+    assert_told(&rt, rt.alloc(), &NOT_RUN);
+    assert_told(&rt, rt.alloc(), &NO_TRACE);
+    assert_told(&rt, rt.alloc(), &NOT_FORWARDED);
 }
 
 const NOT_REPLAYED: [(ReplayFault, &str); 3] = [
@@ -204,8 +196,8 @@ const NOT_REPLAYED: [(ReplayFault, &str); 3] = [
 ];
 
 #[test]
-fn of_replays(rt: HostRuntime) -> Result<(), AllocError> {
-    assert_told(&rt, rt.alloc(), &NOT_REPLAYED)
+fn of_replays(rt: HostRuntime) {
+    assert_told(&rt, rt.alloc(), &NOT_REPLAYED);
 }
 
 const NO_PROGRAM: [(AsmRefusal, &str); 10] = [
@@ -249,8 +241,8 @@ const NO_PROGRAM: [(AsmRefusal, &str); 10] = [
 ];
 
 #[test]
-fn of_assembler_texts(rt: HostRuntime) -> Result<(), AllocError> {
-    assert_told(&rt, rt.alloc(), &NO_PROGRAM)
+fn of_assembler_texts(rt: HostRuntime) {
+    assert_told(&rt, rt.alloc(), &NO_PROGRAM);
 }
 
 const NOT_JUDGED: [(JudgeFault, &str); 2] = [
@@ -262,8 +254,8 @@ const NOT_JUDGED: [(JudgeFault, &str); 2] = [
 ];
 
 #[test]
-fn of_judging(rt: HostRuntime) -> Result<(), AllocError> {
-    assert_told(&rt, rt.alloc(), &NOT_JUDGED)
+fn of_judging(rt: HostRuntime) {
+    assert_told(&rt, rt.alloc(), &NOT_JUDGED);
 }
 
 const NO_FRAME: [(LogRefusal, &str); 13] = [
@@ -316,7 +308,7 @@ const NO_FRAME: [(LogRefusal, &str); 13] = [
 ];
 
 #[test]
-fn of_logs(rt: HostRuntime) -> Result<(), AllocError> {
+fn of_logs(rt: HostRuntime) {
     let form = "; a frame is written 18FEF100#0102, or 123#R for a remote one";
-    assert_told_with(&rt, rt.alloc(), &NO_FRAME, form)
+    assert_told_with(&rt, rt.alloc(), &NO_FRAME, form);
 }

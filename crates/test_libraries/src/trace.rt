@@ -5,7 +5,7 @@ use crate::octets::{RUNS, Runs};
 use crate::streams::Source;
 use gw_frame::{Frame, FrameRefusal};
 use gw_trace::{Checked, Share, Trace, TraceRefusal, Tried, frames};
-use std::alloc::{AllocError, Global};
+use std::alloc::Global;
 use std::process::Abort;
 use std::test::Fail;
 
@@ -98,18 +98,13 @@ const BAD_RECORDS: [Refused; 4] = [
 ];
 
 // A trace of R so many times.
-fn trace_of(
-    alloc: Global,
-    header: &[u8],
-    record: &[u8],
-    times: usize,
-) -> Result<Vec<u8>, AllocError> {
-    let mut trace = Vec::from_slice(alloc, header)?;
+fn trace_of(rt: &impl Abort, alloc: Global, header: &[u8], record: &[u8], times: usize) -> Vec<u8> {
+    let mut trace = Vec::from_slice(alloc, header).expect(rt, "memory");
     for _ in 0..times {
-        trace.extend_from_slice(record)?;
-        trace.extend_from_slice(&R)?;
+        assert!(rt; trace.extend_from_slice(record).is_ok());
+        assert!(rt; trace.extend_from_slice(&R).is_ok());
     }
-    Ok(trace)
+    trace
 }
 
 // What `frames` says of these octets: how many there are.
@@ -144,46 +139,49 @@ fn is_read(alloc: Global, octets: &[u8], wanted: Result<usize, TraceRefusal>) ->
 
 // Whether each frame is R.
 fn are_r(frames: &[Frame]) -> bool {
-    frames.iter().all(|frame| frame.bytes() == R.as_slice())
+    for frame in frames {
+        if frame.bytes() != R.as_slice() {
+            return false;
+        }
+    }
+    true
 }
 
 /// A trace of one frame that is fed octet by octet gives it with its last octet.
-fn assert_fed(rt: &impl Abort, alloc: Global, octets: &[u8]) -> Result<(), TraceRefusal> {
+fn assert_fed(rt: &impl Abort, alloc: Global, octets: &[u8]) {
     let mut trace = Trace::new();
-    for (i, octet) in octets.iter().enumerate() {
-        let given = trace.feed(alloc, &[*octet])?;
+    for i in 0..octets.len() {
+        let given = trace.feed(alloc, &[octets[i]]).expect(rt, "frames");
         assert!(rt; given.len() == usize::from(i == 55), "octet {i}");
         assert!(rt; are_r(&given));
     }
-    trace.end()
+    assert!(rt; trace.end().is_ok());
 }
 
 /// Of a trace of one frame the first of two shares has it, and the second none.
-fn assert_shared(rt: &impl Abort, octets: &[u8]) -> Result<(), TraceRefusal> {
-    let checked = Checked::new(octets)?;
+fn assert_shared(rt: &impl Abort, octets: &[u8]) {
+    let checked = Checked::new(octets).expect(rt, "a trace");
     for frame in checked.share(0, 2) {
         assert!(rt; frame.bytes() == R.as_slice());
     }
     assert!(rt; count(checked.share(0, 2)) == 1);
     assert!(rt; count(checked.share(1, 2)) == 0);
-    Ok(())
 }
 
 #[test]
-fn traces_of_four_magics(rt: HostRuntime) -> Result<(), Fail> {
+fn traces_of_four_magics(rt: HostRuntime) {
     for (header, record) in HEADERS {
-        let octets = trace_of(rt.alloc(), header, record, 1)?;
+        let octets = trace_of(&rt, rt.alloc(), header, record, 1);
         assert!(rt; is_read(rt.alloc(), &octets, Ok(1)));
-        assert_fed(&rt, rt.alloc(), &octets)?;
-        assert_shared(&rt, &octets)?;
+        assert_fed(&rt, rt.alloc(), &octets);
+        assert_shared(&rt, &octets);
     }
-    Ok(())
 }
 
 #[test]
-fn refused_traces(rt: HostRuntime) -> Result<(), Fail> {
+fn refused_traces(rt: HostRuntime) {
     let (header, record) = HEADERS[0];
-    let octets = trace_of(rt.alloc(), header, record, 1)?;
+    let octets = trace_of(&rt, rt.alloc(), header, record, 1);
     for len in 0..=octets.len() {
         let wanted = match len {
             24 => Ok(0),
@@ -195,7 +193,6 @@ fn refused_traces(rt: HostRuntime) -> Result<(), Fail> {
             "the first {len}"
         );
     }
-    Ok(())
 }
 
 /// Octets are refused so as a whole, and from an octet on where they are fed one by one.
@@ -209,8 +206,8 @@ fn assert_refused_from(
     assert!(rt; is_read(alloc, octets, Err(refusal)));
     assert!(rt; Trace::new().feed(alloc, octets).err() == Some(refusal));
     let mut trace = Trace::new();
-    for (i, octet) in octets.iter().enumerate() {
-        let given = trace.feed(alloc, &[*octet]);
+    for i in 0..octets.len() {
+        let given = trace.feed(alloc, &[octets[i]]);
         assert!(rt;
             given.err() == (i >= from).then_some(refusal),
             "at octet {i}"
@@ -220,24 +217,22 @@ fn assert_refused_from(
 }
 
 #[test]
-fn bad_headers(rt: HostRuntime) -> Result<(), Fail> {
+fn bad_headers(rt: HostRuntime) {
     let (_, record) = HEADERS[0];
     for (header, refusal, from) in BAD_HEADERS {
-        let octets = trace_of(rt.alloc(), header, record, 1)?;
+        let octets = trace_of(&rt, rt.alloc(), header, record, 1);
         assert_refused_from(&rt, rt.alloc(), &octets, from, refusal);
     }
-    Ok(())
 }
 
 #[test]
-fn bad_records(rt: HostRuntime) -> Result<(), Fail> {
+fn bad_records(rt: HostRuntime) {
     let (header, _) = HEADERS[0];
     for (record, refusal, from) in BAD_RECORDS {
-        let mut octets = Vec::from_slice(rt.alloc(), header)?;
-        octets.extend_from_slice(record)?;
+        let mut octets = Vec::from_slice(rt.alloc(), header).expect(&rt, "memory");
+        assert!(rt; octets.extend_from_slice(record).is_ok());
         assert_refused_from(&rt, rt.alloc(), &octets, from, refusal);
     }
-    Ok(())
 }
 
 #[test]
@@ -250,26 +245,32 @@ fn what_is_told_of_a_bad_record(rt: HostRuntime) -> Result<(), Fail> {
     Ok(())
 }
 
-#[test]
-fn three_frames_in_two_pieces(rt: HostRuntime) -> Result<(), Fail> {
-    let (header, record) = HEADERS[2];
-    let octets = trace_of(rt.alloc(), header, record, 3)?;
-    for at in 0..=octets.len() {
-        let (first, second) = octets.split_at(at);
-        let mut trace = Trace::new();
-        let mut given = trace.feed(rt.alloc(), first)?;
-        given.append(&mut trace.feed(rt.alloc(), second)?)?;
-        assert!(rt; given.len() == 3, "divided at {at}");
-        assert!(rt; are_r(&given));
-        assert!(rt; trace.end().is_ok());
-    }
-    Ok(())
+/// The frames of a whole trace that is fed in two pieces.
+fn fed_in_two(rt: &impl Abort, alloc: Global, first: &[u8], second: &[u8]) -> Vec<Frame> {
+    let mut trace = Trace::new();
+    let mut given = trace.feed(alloc, first).expect(rt, "frames");
+    let mut more = trace.feed(alloc, second).expect(rt, "frames");
+    assert!(rt; given.append(&mut more).is_ok());
+    assert!(rt; trace.end().is_ok());
+    given
 }
 
 #[test]
-fn readers_that_fail(rt: HostRuntime) -> Result<(), Fail> {
+fn three_frames_in_two_pieces(rt: HostRuntime) {
+    let (header, record) = HEADERS[2];
+    let octets = trace_of(&rt, rt.alloc(), header, record, 3);
+    for at in 0..=octets.len() {
+        let (first, second) = octets.split_at(at);
+        let given = fed_in_two(&rt, rt.alloc(), first, second);
+        assert!(rt; given.len() == 3, "divided at {at}");
+        assert!(rt; are_r(&given));
+    }
+}
+
+#[test]
+fn readers_that_fail(rt: HostRuntime) {
     let (header, record) = HEADERS[0];
-    let octets = trace_of(rt.alloc(), header, record, 1)?;
+    let octets = trace_of(&rt, rt.alloc(), header, record, 1);
     for left in 0..=octets.len() {
         let mut reader = Tried::new(Source::breaking(octets.as_slice(), left));
         let refusal = frames(rt.alloc(), &mut reader);
@@ -279,7 +280,6 @@ fn readers_that_fail(rt: HostRuntime) -> Result<(), Fail> {
         );
         assert!(rt; reader.failed());
     }
-    Ok(())
 }
 
 #[test]
