@@ -74,15 +74,18 @@ pub run_refuses : {T : Type 0} (P : T → Type 0) (Q : Feed → Type 0) (operato
     → operator' ≡ operator → feed' ≡ feed → batch' ≡ batch
     → MatchResult published P (IsNotPublished operator' batch') → MatchResult offered Q (IsOfferFault feed')
     → both ≡ result_and published offered → both ≡ Err fault → IsRunFault operator feed batch fault
-run_refuses P Q operator operator' feed feed' batch batch' (Err why) offered both fault same_o same_f same_b refused offers joined is =
+run_refuses P Q operator operator' feed feed' batch batch' (Err why) offered both fault same_o same_f
+    same_b refused offers joined is =
     let it : why ≡ fault = cc in
     subst (λ (f : Fault). IsRunFault operator feed batch f) it
     (subst (λ (o : Publishing). IsRunFault o feed batch why) same_o
     (subst (λ (b : List Pair). IsRunFault operator' feed b why) same_b
     (subst (λ (f : Fault). IsRunFault operator' feed batch' f) (sym refused.fault_is) (refused.after, refused.refuses))))
-run_refuses P Q operator operator' feed feed' batch batch' (Ok x) (Err why) both fault same_o same_f same_b published refused joined is =
+run_refuses P Q operator operator' feed feed' batch batch' (Ok x) (Err why) both fault same_o same_f
+    same_b published refused joined is =
     let it : why ≡ fault = cc in
     subst (λ (f : Fault). IsRunFault operator feed batch f) it
     (offer_refuses operator feed batch why (subst (λ (f : Feed). IsOfferFault f why) same_f refused))
-run_refuses P Q operator operator' feed feed' batch batch' (Ok x) (Ok met) both fault same_o same_f same_b published offered joined is =
+run_refuses P Q operator operator' feed feed' batch batch' (Ok x) (Ok met) both fault same_o same_f
+    same_b published offered joined is =
     absurd (cc (joined, is))

@@ -10,7 +10,8 @@ returns-in-Ok g c before opened =
     inl (
       ended (fate_of (g.D.Decider.fate_by c.args.policy.decider.now c.args.query.port)) c.args.policy.rule_lines.now
           (g.D.TellsParts.counts_by c.args.policy.decider.now c.args.policy.rule_lines.now)
-          c.args.query.by c.args.query.shown c.args.query.strict before (g.I.Read.remaining (inner_of c.judge_opened-judged.new.reader))
+          c.args.query.by c.args.query.shown c.args.query.strict before
+          (g.I.Read.remaining (inner_of c.judge_opened-judged.new.reader))
           (g.W.Write.contents (inner_of c.args.output.now)) (g.W.Write.contents (inner_of c.judge_opened-judged.new.writer))
           (g.W.Write.contents (inner_of c.tell_counts.new.output)) (has_failed c.tell_counts.new.output) c.tell_counts.result
           c.in-Ok.tally c.wanted.result c.wanted.ensures (c.in-Ok.ensures.judged before opened)
