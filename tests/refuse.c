@@ -1,9 +1,9 @@
 // A library to preload (LD_PRELOAD) that refuses a growth of a program, or the start of a thread.
 //
 // A growth is a call of malloc, calloc or realloc. The one whose number, counted from 1, is in REFUSE_GROWTH gets NULL and
-// ENOMEM, so do as many behind it as REFUSE_FURTHER says, and all others get what the C library (glibc) gives. A start is a call
-// of pthread_create: the one whose number is in REFUSE_THREAD gets EAGAIN. A refusal is told by one octet on the descriptor whose
-// number is in REFUSE_REPORT, so whoever started the program knows whether it came to that growth or start.
+// ENOMEM, and all others get what the C library (glibc) gives. A start is a call of pthread_create: the one whose number is in
+// REFUSE_THREAD gets EAGAIN. A refusal is told by one octet on the descriptor whose number is in REFUSE_REPORT. So whoever
+// started the program knows whether it came to that growth or start.
 
 #define _GNU_SOURCE
 #include <dlfcn.h>
@@ -39,8 +39,7 @@ static void tell(void)
 // Counts a growth, and says whether it is to be refused.
 static bool is_refused(void)
 {
-    unsigned long growth = atomic_fetch_add(&growths, 1) + 1, first = number_in("REFUSE_GROWTH");
-    if (first == 0 || growth < first || growth - first > number_in("REFUSE_FURTHER"))
+    if (atomic_fetch_add(&growths, 1) + 1 != number_in("REFUSE_GROWTH"))
         return false;
     tell();
     errno = ENOMEM;

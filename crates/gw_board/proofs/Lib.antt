@@ -1,6 +1,5 @@
 pub mod Callers
 pub mod Prefixes
 pub mod Adding
-pub mod InForce
-pub mod Shelves
+pub mod Lists
 pub mod Visits

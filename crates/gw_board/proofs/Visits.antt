@@ -1,5 +1,5 @@
 -- The rule of the number that `left_right` shows: no end found a greater one.
-use Rattle.std.proofs.Common.{◌≡◌, ℕ, zero, suc, ◌+◌, ◌<◌, ◌≤◌, List, [], ◌∷◌, length, fold, max, set, sym, refl, subst, arith}
+use Rattle.std.proofs.Common.{◌≡◌, ℕ, zero, suc, ◌+◌, ◌≤◌, List, [], ◌∷◌, fold, max, set, sym, refl, subst, arith}
 use Rattle.std.proofs.Common.{le_refl, le_trans, zero-le}
 use mathlib.Core.Option.{some, some-injective, some-ne-none}
 use lib.ListN.{get_elem?}
@@ -8,7 +8,7 @@ use Rattle.gw_board.specs.declared.count.Count.{Count}
 use Rattle.gw_board.specs.declared.count.Visits.{Visits}
 use Rattle.gw_board.specs.Ends.{Finds, no_visits}
 use Rattle.gw_board.specs.Rules.{FoundBelow}
-use Rattle.gw_board.proofs.Shelves.{All-push}
+use Rattle.gw_board.proofs.Lists.{All-push}
 
 found_at : (shown : ℕ) (ends : List Visits) (k : ℕ) (v : Visits) → FoundBelow shown ends → get_elem? ends k ≡ some v
     → v.found ≤ shown

@@ -1,5 +1,5 @@
 -- What contracts see of the ends of a board. A list of batches has the oldest first.
-use Rattle.std.specs.Prelude.{◌≡◌, ℕ, ◌+◌, ◌≤◌, Bool, false, List, [], ◌∷◌, length, Option, Some, None}
+use Rattle.std.specs.Prelude.{◌≡◌, ℕ, ◌+◌, ◌≤◌, Bool, false, List, [], length, Option, Some, None}
 use Rattle.logbook.specs.Pages.{Book}
 use Rattle.gw_ledger.specs.Bounds.{Bounds}
 use Rattle.gw_policy.specs.Batches.{Pair}
@@ -63,14 +63,6 @@ new_operator board limits = record {
 
 abbrev pub new_watch : Board → Watching
 new_watch board = record { board = board; batches = []; visits = no_visits }
-
--- the board as the tag of its shelf
-abbrev pub numbers_of : Board → List ℕ
-numbers_of b = b.number ∷ b.log_name ∷ b.cells_name ∷ []
-
--- what lies at place i is the list of the first i + 1 batches of the tag's board
-abbrev pub LiesInOrder : List ℕ → ℕ → Known → Type 0
-LiesInOrder tag i known = (tag ≡ numbers_of known.board) × (length known.batches ≡ i + 1)
 
 -- what watches find: the count that is shown, and those that were taken in and are not shown yet
 pub record Showing : Type 0 where

@@ -7,7 +7,7 @@ ghost use Rattle.gw_board.specs.Rules.{FoundBelow};
 use core::mem::replace_with;
 use crossbeam_utils::rule::{Outcome, Protocol};
 use left_right::Absorb;
-use left_right::reader::Reader;
+use left_right::reader::{Reader, Reading};
 use left_right::writer::Writer;
 use std::alloc::{AllocError, Global};
 use std::marker::Model;
@@ -83,17 +83,46 @@ impl Model for CountReader {
 }
 
 impl CountReader {
-    /// Enters, takes the number that is shown at that step, and leaves. The reader comes back where the operator is at its end.
-    pub fn enter(self) -> Result<(CountReader, u64), CountReader>
+    /// Enters, and takes the number that is shown at that step. The reader comes back where the operator is at its end.
+    #[inline(always)]
+    pub fn enter(self) -> Result<(CountReading, u64), CountReader>
         ensures { MatchResult result (λ entered. Finds entered.1 self entered.0) (λ back. back ≡ self) }
     {
         match self.reader.enter_as::<Entering>() {
             Ok(reading) => {
                 let count = reading.get().0;
-                let reader = reading.leave();
-                Ok((CountReader { reader }, count))
+                Ok((CountReading { reading }, count))
             }
             Err(reader) => Err(CountReader { reader }),
+        }
+    }
+}
+
+/// A watch's end that has entered: the number that it found is not replaced by the next but one before it leaves. It is not
+/// `Drop`: end it by `leave`. Contracts see it as `Visits`.
+pub struct CountReading {
+    reading: Reading<Count, Visits, NeverFalls>,
+}
+
+impl Model for CountReading {
+    ghost use Rattle.left_right.specs.Sides.{view as view_of};
+    ghost use Rattle.gw_board.specs.declared.count.Visits.{Visits};
+
+    ghost Value = { Visits };
+
+    ghost view = { λ r. view_of r.reading.place };
+}
+
+impl CountReading {
+    ghost use Rattle.std.specs.Prelude.{◌≡◌};
+
+    #[inline(always)]
+    pub fn leave(self) -> CountReader
+        ensures { result ≡ self }
+    {
+        let CountReading { reading } = self;
+        CountReader {
+            reader: reading.leave(),
         }
     }
 }

@@ -2,16 +2,14 @@
 
 ghost use Rattle.std.specs.Prelude.{◌≡◌, [], false, IfOk, All, vec_len};
 ghost use Rattle.std.specs.Arc.{arc_value};
-ghost use Rattle.gw_board.specs.Ends.{numbers_of, new_operator, new_watch};
+ghost use Rattle.gw_board.specs.Ends.{new_operator, new_watch};
 
 use crate::count::CountWriter;
 use crate::history::{Prefix, open};
 use crate::operator::Operator;
 use crate::refusals::BoardRefusal;
-use crate::shelf::{BoardTag, Shelf};
+use crate::shelf::Shelf;
 use crate::watch::Watch;
-use boxcar::table::Table;
-use boxcar::tag::Tag;
 use gw_ledger::Limits;
 use std::alloc::{AllocError, Global};
 use std::sync::Arc;
@@ -34,8 +32,7 @@ fn ends(alloc: Global, limits: Limits) -> Result<(Operator, Vec<Watch>), AllocEr
         × All (λ watch. watch ≡ new_watch ends.0.board) ends.1.items) }
 {
     let (word, nothing) = open();
-    let shelf: Shelf = Table::new(alloc, Tag::of::<Prefix, BoardTag>(&nothing))?;
-    let shelf = Arc::new(alloc, shelf)?;
+    let shelf = Arc::new(alloc, Shelf::new(&word))?;
     let writer = CountWriter::new(alloc, limits.ports() as usize)?;
     let mut watches = Vec::new(alloc);
     for _ in 0..limits.ports() {
@@ -51,7 +48,7 @@ fn watch(
     nothing: &Prefix,
 ) -> Result<Watch, AllocError>
     requires empty { nothing.now.batches ≡ [] }
-    requires board { (arc_value shelf.now).tag ≡ numbers_of nothing.now.board }
+    requires board { arc_value shelf.now ≡ nothing.now.board }
     ensures { IfOk result (λ watch. watch ≡ new_watch nothing.now.board) }
 {
     let shelf = Arc::try_clone(shelf)?;

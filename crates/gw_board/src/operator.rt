@@ -2,16 +2,15 @@
 
 ghost use Rattle.std.specs.Prelude.{◌≡◌, ◌≤◌, ◌++◌, ◌∷◌, [], false, length, MatchResult, IsTrue, ◌↔◌};
 ghost use Rattle.std.specs.Arc.{arc_value};
-ghost use Rattle.gw_board.specs.Ends.{numbers_of};
 
 use crate::count::CountWriter;
 use crate::history::{LengthWord, Prefix};
 use crate::refusals::ReplaceRefusal;
-use crate::shelf::{Entry, Shelf};
+use crate::shelf::{Shelf, Version};
 use crate::watch::Told;
 use gw_ledger::Limits;
-use gw_policy::Batch;
-use std::alloc::Global;
+use gw_policy::{Batch, PolicySet};
+use std::alloc::{AllocError, Global};
 use std::marker::Model;
 use std::sync::{Arc, Wait};
 
@@ -24,6 +23,8 @@ pub struct Operator {
     shelf: Arc<Shelf, Global>,
     word: LengthWord,
     published: Prefix,
+    // The policies in force after the batches of `published`.
+    set: PolicySet,
     ports: u32,
     versions: u32,
     stopped: bool,
@@ -32,7 +33,8 @@ pub struct Operator {
 impl Model for Operator {
     ghost use Rattle.std.specs.Prelude.{◌≡◌, ◌≤◌, length, [], MatchBool};
     ghost use Rattle.std.specs.Arc.{arc_value};
-    ghost use Rattle.gw_board.specs.Ends.{Publishing, numbers_of};
+    ghost use Rattle.gw_board.specs.Ends.{Publishing};
+    ghost use Rattle.gw_board.specs.Lists.{InForceAfter};
 
     ghost Value = { Publishing };
 
@@ -47,13 +49,14 @@ impl Model for Operator {
 
     // Unless it is stopped, watches find just the length of its list.
     ghost invariant = { λ o. (length o.published.batches ≤ o.versions) × (o.versions ≤ 65535) × (o.word ≡ o.published.board)
-        × ((arc_value o.shelf).tag ≡ numbers_of o.published.board)
+        × (arc_value o.shelf ≡ o.published.board) × InForceAfter o.set o.published.batches
         × MatchBool o.stopped (Unit {0}) (o.writer ≡ record { shown = length o.published.batches; pending = [] }) };
 }
 
 impl Operator {
-    ghost use Rattle.std.specs.Prelude.{OnOk};
+    ghost use Rattle.std.specs.Prelude.{IfOk, OnOk};
     ghost use Rattle.gw_board.specs.Ends.{Known, new_operator};
+    ghost use Rattle.gw_board.specs.Lists.{InForceAfter};
     ghost use Rattle.gw_board.specs.Refusals.{MayPublish, PortsBelow, Refuses};
 
     pub(crate) fn new(
@@ -65,7 +68,7 @@ impl Operator {
     ) -> Operator
         requires empty { nothing.batches ≡ [] }
         requires nothing_shown { writer ≡ record { shown = 0; pending = [] } }
-        requires board { (word ≡ nothing.board) × ((arc_value shelf).tag ≡ numbers_of nothing.board) }
+        requires board { (word ≡ nothing.board) × (arc_value shelf ≡ nothing.board) }
         ensures { result ≡ new_operator nothing.board limits }
     {
         Operator {
@@ -73,6 +76,7 @@ impl Operator {
             shelf,
             word,
             published: nothing,
+            set: PolicySet::new(),
             ports: limits.ports(),
             versions: limits.versions(),
             stopped: false,
@@ -107,23 +111,47 @@ impl Operator {
         if self.stopped {
             return Err(ReplaceRefusal::Stopped(batch));
         }
-        // What can be refused comes first. The list grows by `add`, and the batch lies on the shelf before it is shown.
-        let place = self.published.len() as usize;
+        self.publish(rt, batch)
+    }
+
+    // The same of a batch that only want of memory can refuse.
+    fn publish<R: Wait>(&mut self, rt: &R, batch: Batch) -> Result<u32, ReplaceRefusal>
+        requires { MayPublish self.old batch }
+        ensures board { self.new.board ≡ self.old.board }
+        ensures ports { self.new.ports ≡ self.old.ports }
+        ensures published { MatchResult result
+            (λ front. (self.new ≡ record self.old { published = self.old.published ++ batch ∷ [] })
+            × (front ≡ length self.new.published))
+            (λ why. Refuses self.old batch why self.new) }
+    {
+        // What can be refused comes first. The list grows by `add`, and the version lies on the shelf before it is shown.
         let count = self.published.len() + 1;
-        if self.shelf.reserve_at(place).is_err() || self.writer.append(count).is_err() {
+        let Ok((set, shown)) = self.sets_with(&batch) else {
+            return Err(ReplaceRefusal::OutOfMemory(Some(batch)));
+        };
+        if self.writer.append(count).is_err() {
             return Err(ReplaceRefusal::OutOfMemory(Some(batch)));
         }
         let mut published = self.published.again();
-        if published.add(&self.word, &batch) {
-            let entry = Entry::new(batch, published.again());
-            if self.shelf.set_placed(rt, place, entry).is_ok() {
-                self.writer.publish(rt);
-                self.published = published;
-                return Ok(count as u32);
-            }
+        if !published.add(&self.word, &batch) {
+            self.stopped = true;
+            return Err(ReplaceRefusal::OutOfMemory(None));
         }
-        self.stopped = true;
-        Err(ReplaceRefusal::OutOfMemory(None))
+        self.shelf.lay(rt, Version::new(shown, published.again()));
+        self.writer.publish(rt);
+        self.published = published;
+        self.set = set;
+        Ok(count as u32)
+    }
+
+    // The policies in force once the batch is published: a set for the operator, and one for the shelf.
+    fn sets_with(&self, batch: &Batch) -> Result<(PolicySet, PolicySet), AllocError>
+        ensures { IfOk result (λ sets. InForceAfter sets.0 (self.now.published ++ batch.now ∷ []) × (sets.1 ≡ sets.0)) }
+    {
+        let mut set = self.set.clone()?;
+        set.absorb(batch)?;
+        let shown = set.clone()?;
+        Ok((set, shown))
     }
 
     /// Ends the operator, and gives back the memory that a drop leaves. It waits for watches that are reading.

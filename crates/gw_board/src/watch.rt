@@ -5,7 +5,7 @@ ghost use Rattle.gw_policy.specs.Batches.{PortPolicies};
 ghost use Rattle.std.specs.Arc.{arc_value};
 ghost use Rattle.std.specs.Fn.{FnOnceReturnsAt};
 ghost use mathlib.Core.List.{IsPrefix};
-ghost use Rattle.gw_board.specs.Ends.{Enters, Finds, new_watch, no_visits, numbers_of};
+ghost use Rattle.gw_board.specs.Ends.{Enters, Finds, new_watch, no_visits};
 ghost use Rattle.gw_board.specs.Lists.{longer, InForceAfter};
 
 use crate::count::CountReader;
@@ -63,14 +63,14 @@ impl Model for Watch {
     ghost use Rattle.std.specs.Prelude.{◌≡◌};
     ghost use Rattle.std.specs.Arc.{arc_value};
     ghost use Rattle.gw_board.specs.Lists.{InForceAfter};
-    ghost use Rattle.gw_board.specs.Ends.{Watching, numbers_of, visits_of};
+    ghost use Rattle.gw_board.specs.Ends.{Watching, visits_of};
 
     ghost Value = { Watching };
 
     ghost view = { λ w. record { board = w.known.board; batches = w.known.batches; visits = visits_of w.reader } };
 
     ghost invariant = { λ w. InForceAfter w.set w.read.batches × (w.read.board ≡ w.known.board)
-        × ((arc_value w.shelf).tag ≡ numbers_of w.known.board) };
+        × (arc_value w.shelf ≡ w.known.board) };
 }
 
 impl Watch {
@@ -79,7 +79,7 @@ impl Watch {
 
     pub(crate) fn new(reader: CountReader, shelf: Arc<Shelf, Global>, nothing: Prefix) -> Watch
         requires empty { nothing.batches ≡ [] }
-        requires board { (arc_value shelf).tag ≡ numbers_of nothing.board }
+        requires board { arc_value shelf ≡ nothing.board }
         requires outside { reader ≡ no_visits }
         ensures { result ≡ new_watch nothing.board }
     {
@@ -100,8 +100,8 @@ impl Watch {
         self.known.len()
     }
 
-    /// Advances to the newer of two policy versions: the one that it knows, and the one that it is told. It takes the batches in
-    /// here, so that the next reading need not.
+    /// Advances to the newer of two policy versions: the one that it knows, and the one that it is told. It takes the policies
+    /// of the newer one here, so that the next reading need not.
     pub fn learn(&mut self, told: &Told)
         requires { told.now.board ≡ self.old.board }
         ensures board { self.new.board ≡ self.old.board }
@@ -111,12 +111,16 @@ impl Watch {
     {
         self.known = self.known.longer(&told.list);
         let count = self.len();
-        // What is refused here is tried again at the next reading.
-        let _ = self.catch_up(count);
+        // Where a newer version is laid there by now, the next reading takes that.
+        if self.read.len() < count {
+            self.catch_up(count);
+        }
     }
 
     /// Enters the board, and calls `f` once on the policies that are shown then, or on newer ones that it was told. It never goes
     /// back to an older version. Refused, 77, it calls nothing and knows what it knew.
+    ///
+    /// However many versions were published since the last reading, it takes the newest in alone.
     pub fn with<R, F: FnOnce(&PolicySet) -> R + Drop>(&mut self, f: F) -> Result<R, NoReading>
         requires { F.IsAlwaysCallable f }
         ensures board { self.new.board ≡ self.old.board }
@@ -126,8 +130,7 @@ impl Watch {
             (λ _. self.new.batches ≡ self.old.batches) }
         ensures entered { OnOk result (Enters self.old self.new) }
     {
-        let count = self.published()?;
-        self.catch_up(count)?;
+        let count = self.enter()?;
         // A list that was learnt may be ahead of what `left_right` shows, and a frame is never judged by a shorter one.
         if self.read.len() < count.max(self.len()) {
             return Err(NoReading);
@@ -136,8 +139,10 @@ impl Watch {
         Ok(f(&self.set))
     }
 
-    // How many batches are published, as found at the one step of entering.
-    fn published(&mut self) -> Result<u64, NoReading>
+    // How many batches are published, as found at the one step of entering. The policies after them are taken in before it
+    // leaves: the operator waits with the next version but one, which has their place.
+    #[inline(always)]
+    fn enter(&mut self) -> Result<u64, NoReading>
         ensures known { (self.new.board ≡ self.old.board) × (self.new.batches ≡ self.old.batches) }
         ensures found { IfOk result (λ count. Finds count self.old.visits self.new.visits) }
     {
@@ -145,8 +150,11 @@ impl Watch {
             return Err(NoReading);
         };
         match reader.enter() {
-            Ok((reader, count)) => {
-                self.reader = Some(reader);
+            Ok((reading, count)) => {
+                if self.read.len() < count {
+                    self.catch_up(count);
+                }
+                self.reader = Some(reading.leave());
                 Ok(count)
             }
             Err(reader) => {
@@ -156,20 +164,18 @@ impl Watch {
         }
     }
 
-    // Absorbs what was published, up to as many batches. The list that is known stays.
-    fn catch_up(&mut self, count: u64) -> Result<(), NoReading>
+    // Takes in the policies after so many batches, where they lie on the shelf. The list that is known stays.
+    #[cold]
+    fn catch_up(&mut self, count: u64)
         ensures { self.new ≡ self.old }
     {
-        while self.read.len() < count {
-            let Some(entry) = self.shelf.get(self.read.len() as usize) else {
-                return Err(NoReading);
-            };
-            let read = entry.list().longer(&self.read);
-            let Ok(()) = self.set.absorb(entry.batch()) else {
-                return Err(NoReading);
-            };
-            self.read = read;
+        let Some(version) = self.shelf.copy(count) else {
+            return;
+        };
+        if version.len() == count {
+            let (set, list) = version.into_parts();
+            self.set = set;
+            self.read = list;
         }
-        Ok(())
     }
 }

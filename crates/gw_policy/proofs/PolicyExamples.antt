@@ -1,6 +1,5 @@
 -- Worked examples of policies in force.
-use Rattle.std.proofs.Common.{◌≡◌, ℕ, List, [], ◌∷◌, ◌++◌, replicate, true, false, Some, None, refl}
-use Rattle.gw_insn.specs.declared.insn.Insn.{Insn}
+use Rattle.std.proofs.Common.{◌≡◌, ℕ, List, [], ◌∷◌, replicate, true, false, Some, None, refl}
 use Rattle.gw_insn.specs.declared.insn.Insn.TheVariants.{ReturnConstant}
 use Rattle.gw_machine.specs.Answers.{answer_of, answer_within, steps_of}
 use Rattle.gw_table.specs.declared.table.Action.TheVariants.{Pass, Block}

@@ -2,7 +2,7 @@
 use Rattle.std.proofs.Common.{◌≡◌, ℕ, zero, suc, ◌<◌, ◌≤◌, ◌==◌, nat_lt, Bool, true, false, cond, if◌then◌else◌, List, [], ◌∷◌}
 use Rattle.std.proofs.Common.{◌++◌, length, map, set, get_or, Option, Some, None, refl, ap, sym, ◌∙◌, arith, ◌⊎◌, inl, inr}
 use Rattle.std.specs.Prelude.{reverse, slice_get, option_map}
-use Rattle.std.specs.List.{find}
+use Rattle.std.specs.List.{AllZip, find}
 use Rattle.std.specs.Option.{option_flatten, option_map_or}
 use Rattle.std.specs.declared.sync.Arc.{Arc}
 use Rattle.std.specs.declared.alloc.Global.{Global}
@@ -92,6 +92,17 @@ put_beyond policies port policy long beyond other =
           rw (e, apart) refl)
       | inr past ↦ (let e = le-ltb other 16 past in rw e (policy_in-past policies other (omega arith)))
     ]
+
+-- sets of which each policy is a clone of the other's hold the same
+pub policies_copied : (R : PortPolicy → PortPolicy → Type 0) (policies copies : List PortPolicy)
+    → ((x y : PortPolicy) → R x y → policy_of y ≡ policy_of x) → AllZip R policies copies
+    → map policy_of copies ≡ map policy_of policies
+policies_copied R [] [] same all = refl
+policies_copied R [] (y ∷ copies) same all = absurd all
+policies_copied R (x ∷ policies) [] same all = absurd all
+policies_copied R (x ∷ policies) (y ∷ copies) same all =
+    ap (λ policy. policy ∷ map policy_of copies) (same x y all.0)
+    ∙ ap (λ rest. policy_of x ∷ rest) (policies_copied R policies copies same all.1)
 
 -- ports for which no policy was put
 pub empty_policies : (policies : List PortPolicy)

@@ -22,6 +22,7 @@ use crate::policy::Policy;
 use gw_frame::Frame;
 use gw_ledger::MAX_PORTS;
 use std::alloc::AllocError;
+use std::clone::Clone;
 use std::marker::Model;
 use std::sync::Arc;
 
@@ -42,6 +43,20 @@ impl Model for PolicySet {
     ghost view = { λ s. record { policies = map (option_map (λ policy. policy.value)) s.policies; front = s.front } };
 
     ghost invariant = { λ s. length s.policies ≡ 16 };
+}
+
+// One owner more of each policy. The copy of an `Arc` can be refused.
+impl Clone for PolicySet {
+    ghost use Rattle.std.specs.Prelude.{◌≡◌};
+
+    ghost is_clone = { λ set copy. copy ≡ set };
+
+    fn clone(&self) -> Result<PolicySet, AllocError> {
+        Ok(PolicySet {
+            policies: self.policies.clone()?,
+            front: self.front,
+        })
+    }
 }
 
 impl PolicySet {

@@ -16,8 +16,7 @@ use std::marker::Sync;
 use std::sync::Wait;
 use std::thread::Threads;
 
-/// How many batches are published behind the first. The shelf of a board takes memory at the first, for 32 batches, and at the
-/// 29th, for the next; where that is refused it asks again at the 33rd, and only then is a batch refused.
+/// How many batches are published behind the first.
 const LATER: usize = 33;
 
 /// A gate that holds nobody back.

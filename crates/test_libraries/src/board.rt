@@ -2,12 +2,14 @@
 
 ghost use Rattle.std.specs.Prelude.{◌≡◌};
 
-use crate::made::{ENGINE_SPEED, batch, returning};
+use crate::made::{ENGINE_SPEED, batch, policy, returning};
 use gw_board::{NoReading, Operator, ReplaceRefusal, Told, Watch, board};
 use gw_frame::Frame;
 use gw_ledger::Limits;
 use gw_policy::{Batch, PolicySet};
-use std::sync::Wait;
+use std::alloc::Global;
+use std::process::Abort;
+use std::sync::{Arc, Wait};
 use std::test::Fail;
 use std::thread::{Threads, join, spawn};
 
@@ -113,5 +115,35 @@ fn an_untold_watch_finds_what_is_published(rt: HostRuntime) -> Result<(), Fail> 
     let (beside, elsewhere) = read_untold(&rt, &mut operator, batches, (one, other), frame);
     assert!(rt; beside == Ok((2, false)));
     assert!(rt; elsewhere == Ok((3, true)));
+    Ok(())
+}
+
+/// Publishes three batches that give port 1 another policy.
+fn replace_three_times<R: Wait + Abort>(rt: &R, alloc: Global, operator: &mut Operator) {
+    for _ in 0..3 {
+        let block = batch(rt, alloc, &[1], &returning(0));
+        assert!(rt; operator.replace(rt, block).is_ok());
+    }
+}
+
+#[test]
+fn a_replaced_policy_goes_with_its_last_reader(rt: HostRuntime) -> Result<(), Fail> {
+    let alloc = rt.alloc();
+    let frame = Frame::read(&ENGINE_SPEED)?;
+    let (mut operator, mut watches) = board(alloc, Limits::new(2, 4, 4, 2)?)?;
+    let mut watch = watches.pop().expect(&rt, "a watch");
+    let pass = policy(alloc, &returning(1)).expect(&rt, "a policy");
+    let mut first = Batch::new();
+    let owner = Arc::try_clone(&pass).expect(&rt, "an owner");
+    assert!(rt; first.add(1, owner).is_ok());
+    assert!(rt; operator.replace(&rt, first).is_ok());
+    assert!(rt; read(&mut watch, frame) == Ok((1, true)));
+    // Beside the test the operator, the board and the watch have it.
+    assert!(rt; Arc::strong_count(&pass) == 4);
+    replace_three_times(&rt, alloc, &mut operator);
+    assert!(rt; Arc::strong_count(&pass) == 2);
+    assert!(rt; read(&mut watch, frame) == Ok((4, false)));
+    assert!(rt; Arc::strong_count(&pass) == 1);
+    operator.end(&rt);
     Ok(())
 }

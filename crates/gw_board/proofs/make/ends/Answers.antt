@@ -1,6 +1,6 @@
-use Rattle.std.proofs.Common.{rules, ◌≡◌, [], ◌∷◌, ◌++◌, List, All, vec_len, ◌+◌, arith, sym, subst}
+use Rattle.std.proofs.Common.{rules, ◌≡◌, [], ◌∷◌, ◌++◌, List, All, arith, sym, subst}
 use Rattle.gw_board.specs.Ends.{Board, Watching, new_watch}
-use Rattle.gw_board.proofs.Shelves.{All-push}
+use Rattle.gw_board.proofs.Lists.{All-push}
 use Rattle.gw_board.proofs.make.ends.Goals as goal
 
 abbrev IsNewWatch : Board → Watching → Type 0
