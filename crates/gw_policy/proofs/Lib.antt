@@ -1,4 +1,6 @@
+mod EgressPorts
 mod Judged
 mod PairLists
 mod PolicyExamples
 mod PolicySets
+mod Programs

@@ -1,10 +1,11 @@
 -- Batches of policies for ports, and the policy in force. A list of batches has the newest first.
-use Rattle.std.specs.Prelude.{◌≡◌, ℕ, ◌+◌, min, Bool, false, ◌==◌, nat_lt, if◌then◌else◌, List, [], ◌∷◌, length, reverse, Option}
-use Rattle.std.specs.Prelude.{Some, None, option_map, slice_get}
+use Rattle.std.specs.Prelude.{◌≡◌, ◌<◌, ℕ, ◌+◌, min, Bool, false, ◌==◌, nat_lt, if◌then◌else◌, List, [], ◌∷◌, length, reverse}
+use Rattle.std.specs.Prelude.{Option, Some, None, IfSome, option_map, slice_get, slice_index_or}
 use Rattle.std.specs.List.{find, filter_map, list_any}
 use Rattle.std.specs.Option.{option_flatten, option_map_or}
 use Rattle.std.specs.declared.sync.Arc.{Arc}
 use Rattle.std.specs.declared.alloc.Global.{Global}
+use Rattle.gw_frame.specs.Record.{IsRecord}
 use Rattle.gw_policy.specs.Filter.{Filter, filter_passes, filter_steps}
 
 -- a port, and the policy that is to be in force for it
@@ -41,6 +42,11 @@ in_force port batches = if nat_lt port 16 then last_policy port batches else Non
 abbrev pub passes : Option Filter → List ℕ → ℕ → Bool
 passes policy octets port = option_map_or (λ filter. filter_passes filter octets port) policy false
 
+-- two policies that pass the same frames
+abbrev pub PassAlike : Option Filter → Option Filter → Type 0
+PassAlike one other =
+    (octets : List ℕ) (port : ℕ) → IsRecord octets → port < 256 → passes one octets port ≡ passes other octets port
+
 abbrev pub steps : Option Filter → List ℕ → ℕ → ℕ
 steps policy octets port = option_map_or (λ filter. filter_steps filter octets port) policy 1
 
@@ -51,6 +57,11 @@ pub record PortPolicies : Type 0 where
 
 abbrev pub policy_at : ℕ → PortPolicies → Option Filter
 policy_at port set = option_flatten (slice_get set.policies port)
+
+-- by port, one before it whose policy passes the same frames, if one is known
+abbrev pub AreAlike : PortPolicies → List (Option ℕ) → Type 0
+AreAlike set alike = (port : ℕ) → port < 16
+    → IfSome (slice_index_or alike port None) (λ before. (before < port) × PassAlike (policy_at before set) (policy_at port set))
 
 -- the policies in force after these batches
 pub record StandsAfter (set : PortPolicies) (batches : List (List Pair)) : Type 0 where

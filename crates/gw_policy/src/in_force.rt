@@ -20,7 +20,7 @@ ghost use Rattle.std.specs.Prelude.{
 use crate::batch::Batch;
 use crate::policy::Policy;
 use gw_frame::Frame;
-use gw_ledger::MAX_PORTS;
+use gw_ledger::{MAX_PORTS, PortSet};
 use std::alloc::AllocError;
 use std::clone::Clone;
 use std::marker::Model;
@@ -31,18 +31,21 @@ use std::sync::Arc;
 #[derive(Drop)]
 pub struct PolicySet {
     policies: [Option<Arc<Policy>>; MAX_PORTS],
+    // By port, the nearest one before it whose policy has the same program.
+    alike: [Option<u8>; MAX_PORTS],
     front: u32,
 }
 
 impl Model for PolicySet {
     ghost use Rattle.std.specs.Prelude.{◌≡◌, length, map, option_map};
-    ghost use Rattle.gw_policy.specs.Batches.{PortPolicies};
+    ghost use Rattle.gw_policy.specs.Batches.{AreAlike, PortPolicies};
 
     ghost Value = { PortPolicies };
 
     ghost view = { λ s. record { policies = map (option_map (λ policy. policy.value)) s.policies; front = s.front } };
 
-    ghost invariant = { λ s. length s.policies ≡ 16 };
+    ghost invariant = { λ s. (length s.policies ≡ 16) × (length s.alike ≡ 16)
+        × AreAlike (record { policies = map (option_map (λ policy. policy.value)) s.policies; front = s.front }) s.alike };
 }
 
 // One owner more of each policy. The copy of an `Arc` can be refused.
@@ -54,13 +57,16 @@ impl Clone for PolicySet {
     fn clone(&self) -> Result<PolicySet, AllocError> {
         Ok(PolicySet {
             policies: self.policies.clone()?,
+            alike: self.alike,
             front: self.front,
         })
     }
 }
 
 impl PolicySet {
-    ghost use Rattle.gw_policy.specs.Batches.{Pair, passes, policy_at, Absorbs, StandsAfter};
+    ghost use Rattle.std.specs.Prelude.{◌≢◌, ◌≤◌, ◌&&◌, not, IfSome, IsTrue};
+    ghost use Rattle.gw_ledger.specs.Ports.{has_port, ports_below};
+    ghost use Rattle.gw_policy.specs.Batches.{Pair, PassAlike, passes, policy_at, Absorbs, StandsAfter};
 
     /// The opening block at each port, before any batch.
     pub fn new() -> PolicySet
@@ -70,6 +76,7 @@ impl PolicySet {
     {
         PolicySet {
             policies: Default::default(),
+            alike: [None; MAX_PORTS],
             front: 0,
         }
     }
@@ -89,6 +96,15 @@ impl PolicySet {
             → OnOk result (StandsAfter self.new (batch.now ∷ batches)) }
         ensures unchanged { OnErr result (self.new ≡ self.old) }
     {
+        self.put_all(batch)?;
+        self.note_alike();
+        Ok(())
+    }
+
+    fn put_all(&mut self, batch: &Batch) -> Result<(), AllocError>
+        ensures absorbed { OnOk result (Absorbs self.old batch.now self.new) }
+        ensures unchanged { OnErr result (self.new ≡ self.old) }
+    {
         for pair in batch.copies()? {
             if let Some((port, policy)) = pair {
                 self.put(port, policy);
@@ -96,6 +112,39 @@ impl PolicySet {
         }
         self.front = self.front.saturating_add(1);
         Ok(())
+    }
+
+    // Notes which ports have the programs of ports before them. So a frame's path need not judge them.
+    fn note_alike(&mut self)
+        ensures { self.new ≡ self.old }
+    {
+        for port in 0..MAX_PORTS {
+            self.alike[port] = self.nearest_alike(port);
+        }
+    }
+
+    // The nearest port before this one whose policy has the same program.
+    fn nearest_alike(&self, port: usize) -> Option<u8>
+        requires { port < 16 }
+        ensures { IfSome result (λ before. (before < port)
+            × PassAlike (policy_at before self.now) (policy_at port self.now)) }
+    {
+        for before in (0..port).rev() {
+            if self.has_one_program(before as u8, port as u8) {
+                return Some(before as u8);
+            }
+        }
+        None
+    }
+
+    // Whether two ports have policies of the same program.
+    fn has_one_program(&self, one: u8, other: u8) -> bool
+        ensures { IsTrue result → PassAlike (policy_at one self.now) (policy_at other self.now) }
+    {
+        match (self.get(one), self.get(other)) {
+            (Some(one), Some(other)) => one.has_program_of(other),
+            _ => false,
+        }
     }
 
     /// The policy in force for a port, `None` for the opening block and for a port above 15.
@@ -115,6 +164,59 @@ impl PolicySet {
         }
     }
 
+    /// The ports below a number, but for `from`, at which a frame may leave that was taken at the port `from`. Ports that have
+    /// the same program are judged once.
+    pub fn egress_ports(&self, ports: u8, frame: &Frame, from: u8) -> PortSet
+        requires { ports ≤ 16 }
+        ensures { result ≡ ports_below ports (λ port. not (port == from) && passes (policy_at port self.now) frame.now from) }
+    {
+        let mut egress = PortSet::new();
+        for port in 0..ports {
+            if self.may_leave(port, egress, frame, from) {
+                egress.add(port);
+            }
+        }
+        egress
+    }
+
+    // The verdict of a port, by those of the ports before it where one of them is its own too.
+    fn may_leave(&self, port: u8, judged: PortSet, frame: &Frame, from: u8) -> bool
+        requires port { port < 16 }
+        requires judged { (before : ℕ) → before < port → before ≢ from
+            → has_port before judged ≡ passes (policy_at before self.now) frame.now from }
+        ensures { result ≡ (not (port == from) && passes (policy_at port self.now) frame.now from) }
+    {
+        if port == from {
+            return false;
+        }
+        let _octets = frame.bytes();
+        match self.judged_alike(port, from) {
+            Some(before) => judged.has(before),
+            None => self.verdict(port, frame, from),
+        }
+    }
+
+    // A port before this one whose policy passes the same frames. The ingress port is not judged, so its own stands in for it.
+    fn judged_alike(&self, port: u8, from: u8) -> Option<u8>
+        requires { (port < 16) × (port ≢ from) }
+        ensures { IfSome result (λ before. (before < port) × (before ≢ from)
+            × PassAlike (policy_at before self.now) (policy_at port self.now)) }
+    {
+        match self.alike_before(port) {
+            Some(before) if before == from => self.alike_before(from),
+            before => before,
+        }
+    }
+
+    // A port before this one whose policy passes the same frames.
+    fn alike_before(&self, port: u8) -> Option<u8>
+        requires { port < 16 }
+        ensures { IfSome result (λ before. (before < port)
+            × PassAlike (policy_at before self.now) (policy_at port self.now)) }
+    {
+        self.alike[usize::from(port)]
+    }
+
     // Replaces the policy of a port; one above 15 is ignored.
     fn put(&mut self, port: u8, policy: Arc<Policy>)
         ensures front { self.new.front ≡ self.old.front }
@@ -123,6 +225,7 @@ impl PolicySet {
     {
         let index = usize::from(port);
         if index < MAX_PORTS {
+            self.alike = [None; MAX_PORTS];
             self.policies[index] = Some(policy);
         }
     }

@@ -1,9 +1,10 @@
 //! A policy: a program, or a table with the program that it was compiled to.
 
-ghost use Rattle.std.specs.Prelude.{◌≡◌, Some, None, IfOk, IfErr, option_copied};
+ghost use Rattle.std.specs.Prelude.{◌≡◌, Some, None, IfOk, IfErr, IsTrue, option_copied};
 ghost use Rattle.gw_table.specs.Emission.{emission};
 
 use gw_frame::Frame;
+use gw_insn::Insn;
 use gw_machine::run;
 use gw_table::{IndexedTable, Table, compile};
 use gw_verify::Program;
@@ -29,7 +30,9 @@ impl Model for Policy {
 }
 
 impl Policy {
+    ghost use Rattle.std.specs.Prelude.{Some, IsTrue};
     ghost use Rattle.gw_policy.specs.Filter.{filter_passes, IsFilter};
+    ghost use Rattle.gw_policy.specs.Batches.{PassAlike};
 
     /// The policy of a program: it passes the frames on which the program's answer is not 0.
     pub fn from_program(program: Program) -> Policy
@@ -70,6 +73,13 @@ impl Policy {
         self.table.as_ref()
     }
 
+    // Whether both have one program, and so pass the same frames.
+    pub(crate) fn has_program_of(&self, other: &Policy) -> bool
+        ensures { IsTrue result → PassAlike (Some self.now) (Some other.now) }
+    {
+        is_same_code(self.program.code(), other.program.code())
+    }
+
     /// Whether a frame that was taken at the port `from` passes. A table is judged by its index, which is faster than to run
     /// its program.
     // Inlined, so that the loop of `run` is a function of its own wherever two calls judge: what stands round it cannot move it.
@@ -82,4 +92,10 @@ impl Policy {
             None => run(&self.program, frame, from) != 0,
         }
     }
+}
+
+fn is_same_code(one: &[Insn], other: &[Insn]) -> bool
+    ensures { IsTrue result → one.now ≡ other.now }
+{
+    one == other
 }

@@ -120,22 +120,11 @@ fn allowed(set: &PolicySet, ports: u8, ingress: u8, local: bool, frame: &Frame) 
     ensures { result ≡ (if local then [] else
         ports_below ports (λ egress. not (egress == ingress) && passes (policy_at egress set.now) frame.now ingress)) }
 {
-    let mut allowed = PortSet::new();
     if local {
-        return allowed;
+        PortSet::new()
+    } else {
+        set.egress_ports(ports, frame, ingress)
     }
-    for egress in 0..ports {
-        if may_leave(set, egress, ingress, frame) {
-            allowed.add(egress);
-        }
-    }
-    allowed
-}
-
-fn may_leave(set: &PolicySet, egress: u8, ingress: u8, frame: &Frame) -> bool
-    ensures { result ≡ (not (egress == ingress) && passes (policy_at egress set.now) frame.now ingress) }
-{
-    egress != ingress && set.verdict(egress, frame, ingress)
 }
 
 // Counts a frame that was taken and is finished.

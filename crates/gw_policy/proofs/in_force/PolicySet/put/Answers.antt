@@ -19,7 +19,7 @@ put_there c after is other =
     ap (policy_at other) is
     ∙ subst (λ before. P c.args.port before) c.self.view_is
     (subst (λ p. P p (record { policies = map policy_of c.self.inside.policies; front = c.self.inside.front }))
-    c.from-index.ensures (put_within c.self.inside.policies port (Some c.args.policy) c.self.invariant
+    c.from-index.ensures (put_within c.self.inside.policies port (Some c.args.policy) c.self.invariant.0
     c.if-index-lt-MAX_PORTS.true other))
 
 pub returns-then-index-lt-MAX_PORTS-clause-policies : goal.returns-then-index-lt-MAX_PORTS-clause-policies
@@ -35,4 +35,4 @@ returns-else-index-lt-MAX_PORTS-clause-policies c = λ other.
     let P : PortPolicies → Type 0 = λ set. policy_at other set ≡ sixteen_after c.args.port (Some c.args.policy.value) other
     (policy_at other set) in
     let beyond : 16 ≤ c.args.port = omega (arith, c.from-index.ensures, c.if-index-lt-MAX_PORTS.false) in
-    subst P c.self.view_is (put_beyond c.self.inside.policies c.args.port (Some c.args.policy) c.self.invariant beyond other)
+    subst P c.self.view_is (put_beyond c.self.inside.policies c.args.port (Some c.args.policy) c.self.invariant.0 beyond other)

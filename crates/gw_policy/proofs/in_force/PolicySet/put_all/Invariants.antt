@@ -1,6 +1,6 @@
 use Rattle.std.proofs.Common.{◌≡◌, ℕ, ◌<◌, ◌++◌}
 use Rattle.gw_policy.specs.Batches.{pairs_of, policy_at, policy_after}
-use Rattle.gw_policy.proofs.in_force.PolicySet.absorb.Given as goal
+use Rattle.gw_policy.proofs.in_force.PolicySet.put_all.Given as goal
 
 abbrev pub invariant-loop-pair : goal.invariant-loop-pair
 invariant-loop-pair l = record {
