@@ -87,6 +87,44 @@ pub fn for_ports(ports: u8, policy: &Arc<Policy>) -> Result<Batch, Fault> {
     Ok(batch)
 }
 
+/// A batch with these policies, of port 0 first.
+pub fn for_each(policies: &[Arc<Policy>]) -> Result<Batch, Fault> {
+    let mut batch = Batch::new();
+    let mut port: u8 = 0;
+    for policy in policies {
+        add(&mut batch, port, policy)?;
+        port = port.saturating_add(1);
+    }
+    Ok(batch)
+}
+
+/// A policy so many times.
+pub fn same(alloc: Global, ports: u8, policy: &Arc<Policy>) -> Result<Vec<Arc<Policy>>, Fault> {
+    let mut policies = Vec::new(alloc);
+    for _ in 0..ports {
+        policies.push(Arc::try_clone(policy)?)?;
+    }
+    Ok(policies)
+}
+
+/// So many policies, each of a text's table with a rule more of its own.
+pub fn unlike(alloc: Global, ports: u8, text: &str) -> Result<Vec<Arc<Policy>>, Fault> {
+    let mut policies = Vec::new(alloc);
+    for port in 0..ports {
+        policies.push(own_table(alloc, text, port)?)?;
+    }
+    Ok(policies)
+}
+
+fn own_table(alloc: Global, text: &str, port: u8) -> Result<Arc<Policy>, Fault> {
+    let mut own = String::new(alloc);
+    write!(
+        own,
+        "{text}\n[[rule]]\naction = \"pass\"\npgn = 65280\nsource = {port}\n"
+    )?;
+    table(alloc, own.as_str())
+}
+
 /// Adds a policy for each of so many ports.
 fn add_to_first(batch: &mut Batch, ports: u8, policy: &Arc<Policy>) -> Result<(), Fault> {
     for port in 0..ports {

@@ -2,7 +2,7 @@
 
 use crate::ends::publish;
 use crate::fault::Fault;
-use crate::policies::for_ports;
+use crate::policies::{for_ports, table};
 use crate::rounds::{drain, opened};
 use gw_board::Operator;
 use gw_frame::Frame;
@@ -170,4 +170,71 @@ fn replace_until_over<R: Wait + Clock>(
         }
     }
     Ok(replacements)
+}
+
+/// The time in nanoseconds of an offer at the first port, which took a frame before so many replacements. Each has a policy of
+/// its own, so the offer is the last to have those that it replaces there.
+pub fn time_first_offer<R: Wait + Clock>(
+    rt: &R,
+    alloc: Global,
+    text: &str,
+    frames: &[Frame],
+    replacements: u32,
+) -> Result<u64, Fault> {
+    let Parts {
+        mut operator,
+        mut ins,
+        outs: _outs,
+    } = opened(rt, alloc, 2, &table(alloc, text)?)?;
+    let time = replace_and_offer(
+        rt,
+        alloc,
+        &mut operator,
+        &mut ins,
+        text,
+        frames,
+        replacements,
+    );
+    operator.end(rt);
+    time
+}
+
+fn replace_and_offer<R: Wait + Clock>(
+    rt: &R,
+    alloc: Global,
+    operator: &mut Operator,
+    ins: &mut [PortIn],
+    text: &str,
+    frames: &[Frame],
+    replacements: u32,
+) -> Result<u64, Fault> {
+    let (Some(port), Some(frame)) = (ins.first_mut(), frames.first()) else {
+        return Err(Fault::Unprepared);
+    };
+    time_offer(rt, port, *frame)?;
+    replace(rt, alloc, operator, text, replacements)?;
+    time_offer(rt, port, *frame)
+}
+
+/// Replaces the policy of both ports so often, by a new one each time.
+fn replace<R: Wait>(
+    rt: &R,
+    alloc: Global,
+    operator: &mut Operator,
+    text: &str,
+    replacements: u32,
+) -> Result<(), Fault> {
+    for _ in 0..replacements {
+        publish(rt, operator, for_ports(2, &table(alloc, text)?)?)?;
+    }
+    Ok(())
+}
+
+/// The time of one offer, in nanoseconds.
+fn time_offer<R: Clock>(rt: &R, port: &mut PortIn, frame: Frame) -> Result<u64, Fault> {
+    let start = Instant::now(rt)?;
+    if port.offer(frame).is_err() {
+        return Err(Fault::Unprepared);
+    }
+    Ok(u64::try_from(start.elapsed(rt)?.as_nanos()).unwrap_or(u64::MAX))
 }

@@ -2,11 +2,11 @@
 
 use crate::ends::{open, publish};
 use crate::fault::Fault;
-use crate::policies::for_ports;
+use crate::policies::{for_each, for_ports};
 use gw_board::{Watch, board};
 use gw_frame::Frame;
 use gw_ledger::Limits;
-use gw_policy::{Policy, PolicySet};
+use gw_policy::{Batch, Policy, PolicySet};
 use gw_ports::{Parts, PortIn, PortOut};
 use std::alloc::Global;
 use std::sync::{Arc, Wait};
@@ -31,8 +31,13 @@ pub fn opened<R: Wait>(
     ports: u8,
     policy: &Arc<Policy>,
 ) -> Result<Parts, Fault> {
+    opened_with(rt, alloc, ports, for_ports(ports, policy)?)
+}
+
+/// The parts of a gateway of so many ports that begins with a batch.
+fn opened_with<R: Wait>(rt: &R, alloc: Global, ports: u8, first: Batch) -> Result<Parts, Fault> {
     let limits = Limits::new(u32::from(ports), LANE, 65535, u32::MAX).map_err(|_| Fault::TooMany)?;
-    open(rt, alloc, limits, for_ports(ports, policy)?)
+    open(rt, alloc, limits, first)
 }
 
 /// Takes all copies out at a port, and answers how many there were.
@@ -61,23 +66,23 @@ fn time_drain<R: Clock>(rt: &R, port: &mut PortOut) -> Result<u64, Fault> {
     tenths_since(rt, start, copies)
 }
 
-/// An offer at one port, and the verdicts of its frame for all others.
+/// An offer at the first of so many ports that have these policies, and the verdicts of its frame for the others, one by one.
 pub fn time_offers<R: Wait + Clock>(
     rt: &R,
     alloc: Global,
     ports: u8,
-    policy: &Arc<Policy>,
+    policies: &[Arc<Policy>],
     frames: &[Frame],
 ) -> Result<(u64, u64), Fault> {
-    let set = set_for(ports, policy)?;
-    let mut parts = opened(rt, alloc, ports, policy)?;
+    let set = set_of(policies)?;
+    let mut parts = opened_with(rt, alloc, ports, for_each(policies)?)?;
     offer_rounds(rt, &mut parts.ins, &mut parts.outs, &set, ports, frames)
 }
 
-/// The policies in force where each of so many ports has the policy.
-fn set_for(ports: u8, policy: &Arc<Policy>) -> Result<PolicySet, Fault> {
+/// The policies in force where the ports have these policies.
+fn set_of(policies: &[Arc<Policy>]) -> Result<PolicySet, Fault> {
     let mut set = PolicySet::new();
-    set.absorb(&for_ports(ports, policy)?)?;
+    set.absorb(&for_each(policies)?)?;
     Ok(set)
 }
 

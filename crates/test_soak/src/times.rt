@@ -1,11 +1,9 @@
 //! The times of the ends, as a table in markdown.
 
-ghost use Rattle.std.specs.Prelude.{◌<◌};
-
 use crate::fault::Fault;
 use crate::frames::pool;
-use crate::policies::table;
-use crate::replacing::{Offers, time_replacing};
+use crate::policies::{same, table, unlike};
+use crate::replacing::{Offers, time_first_offer, time_replacing};
 use crate::rounds::{time_offers, time_readings, time_sendings};
 use gw_frame::Frame;
 use gw_policy::Policy;
@@ -42,11 +40,51 @@ pub fn time<R: Threads + Wait + Clock + Sync, W: Write>(
 ) -> Result<(), Fault> {
     let policy = table(alloc, text)?;
     let frames = pool(alloc)?;
+    tell_offers(rt, alloc, text, &policy, &frames, output)?;
     tell_calls(rt, alloc, &policy, &frames, output)?;
-    tell_replacing(rt, alloc, &policy, &frames, output)
+    tell_replacing(rt, alloc, &policy, &frames, output)?;
+    tell_first_offer(rt, alloc, text, &frames, output)
 }
 
-/// Writes the times of single calls.
+/// Writes the times of offers, where all ports have the policy, and where each has one of its own.
+fn tell_offers<R: Wait + Clock, W: Write>(
+    rt: &R,
+    alloc: Global,
+    text: &str,
+    policy: &Arc<Policy>,
+    frames: &[Frame],
+    output: &mut W,
+) -> Result<(), Fault> {
+    writeln!(
+        output,
+        "\n| `offer`, other ports | policies | ns | verdicts one by one, ns | more than these, ns a port |\n|---|---|---|---|---|"
+    )?;
+    for ports in [2, 16] {
+        let one = same(alloc, ports, policy)?;
+        tell_offer(rt, alloc, "one", ports, one.as_slice(), frames, output)?;
+        let each = unlike(alloc, ports, text)?;
+        tell_offer(rt, alloc, "unlike", ports, each.as_slice(), frames, output)?;
+    }
+    Ok(())
+}
+
+fn tell_offer<R: Wait + Clock, W: Write>(
+    rt: &R,
+    alloc: Global,
+    name: &str,
+    ports: u8,
+    policies: &[Arc<Policy>],
+    frames: &[Frame],
+    output: &mut W,
+) -> Result<(), Fault> {
+    let (offers, verdicts) = time_offers(rt, alloc, ports, policies, frames)?;
+    let others = ports.saturating_sub(1).max(1);
+    let more = offers.saturating_sub(verdicts) / u64::from(others);
+    write!(output, "| {others} | {name} ")?;
+    tell_tenths(&[offers, verdicts, more], output)
+}
+
+/// Writes the times of other calls.
 fn tell_calls<R: Wait + Clock, W: Write>(
     rt: &R,
     alloc: Global,
@@ -54,34 +92,12 @@ fn tell_calls<R: Wait + Clock, W: Write>(
     frames: &[Frame],
     output: &mut W,
 ) -> Result<(), Fault> {
-    writeln!(
-        output,
-        "\n| call | other ports | ns | verdicts alone, ns | more than these, ns a port |\n|---|---|---|---|---|"
-    )?;
-    tell_offers(rt, alloc, 2, policy, frames, output)?;
-    tell_offers(rt, alloc, 16, policy, frames, output)?;
+    writeln!(output, "\n| call | other ports | ns |\n|---|---|---|")?;
     tell_sendings(rt, alloc, 1, policy, frames, output)?;
     tell_sendings(rt, alloc, 15, policy, frames, output)?;
     let reading = Tenths(time_readings(rt, alloc, policy)?);
-    writeln!(output, "| a reading of the board | | {reading} | | |")?;
+    writeln!(output, "| a reading of the board | | {reading} |")?;
     Ok(())
-}
-
-fn tell_offers<R: Wait + Clock, W: Write>(
-    rt: &R,
-    alloc: Global,
-    ports: u8,
-    policy: &Arc<Policy>,
-    frames: &[Frame],
-    output: &mut W,
-) -> Result<(), Fault>
-    requires { 1 < ports }
-{
-    let (offers, verdicts) = time_offers(rt, alloc, ports, policy, frames)?;
-    let others = ports - 1;
-    let more = offers.saturating_sub(verdicts) / u64::from(others);
-    write!(output, "| `offer` | {others} ")?;
-    tell_tenths(&[offers, verdicts, more], output)
 }
 
 fn tell_sendings<R: Wait + Clock, W: Write>(
@@ -94,7 +110,7 @@ fn tell_sendings<R: Wait + Clock, W: Write>(
 ) -> Result<(), Fault> {
     let ports = others.saturating_add(1);
     let sending = Tenths(time_sendings(rt, alloc, ports, policy, frames)?);
-    writeln!(output, "| `next` | {others} | {sending} | | |")?;
+    writeln!(output, "| `next` | {others} | {sending} |")?;
     Ok(())
 }
 
@@ -133,4 +149,27 @@ fn tell_long<W: Write>(name: &str, offers: Offers, output: &mut W) -> Result<(),
     let replacements = offers.replacements;
     write!(output, "| {name} | {replacements} ")?;
     tell_tenths(&[offers.all / 100_000, offers.slowest / 100], output)
+}
+
+/// Writes what an offer takes at a port that took no frame for many replacements.
+fn tell_first_offer<R: Wait + Clock, W: Write>(
+    rt: &R,
+    alloc: Global,
+    text: &str,
+    frames: &[Frame],
+    output: &mut W,
+) -> Result<(), Fault> {
+    writeln!(
+        output,
+        "\n| replacements before a port's offer | the offer, microseconds |\n|---|---|"
+    )?;
+    for replacements in [0, 1, 10_000] {
+        let mut least = u64::MAX;
+        for _ in 0..REPEATS {
+            least = least.min(time_first_offer(rt, alloc, text, frames, replacements)?);
+        }
+        let tenths = Tenths(least / 100);
+        writeln!(output, "| {replacements} | {tenths} |")?;
+    }
+    Ok(())
 }
