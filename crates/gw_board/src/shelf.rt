@@ -146,7 +146,7 @@ impl Shelf {
     }
 }
 
-// In each place the others turn the word at most twice while one of them copies: they come once each, and go.
+// More than the others turn a word while one watch copies: each of fifteen comes once for a version, and goes.
 const MOST_TRIES: usize = 4 * MAX_PORTS;
 
 fn copy_from(place: &Place) -> Option<Version>

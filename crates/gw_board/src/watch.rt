@@ -140,7 +140,8 @@ impl Watch {
     }
 
     // How many batches are published, as found at the one step of entering. The policies after them are taken in before it
-    // leaves: the operator waits with the next version but one, which has their place.
+    // leaves: the operator shows the next version but one only then, and lays another in their place after that.
+    // Inlined, as the reader's two calls are, and `catch_up` is not: else a reading that finds nothing new takes twice as long.
     #[inline(always)]
     fn enter(&mut self) -> Result<u64, NoReading>
         ensures known { (self.new.board ≡ self.old.board) × (self.new.batches ≡ self.old.batches) }
