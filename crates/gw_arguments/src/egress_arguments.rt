@@ -7,8 +7,8 @@ use crate::source_arguments::{Usage, name_files};
 use crate::taking_arguments::asked_interfaces;
 use clap::{Arg, ArgMatches, Error};
 use gw_commands::{PolicyKind, PolicySource};
+use gw_judge::NamedInterface;
 use gw_ledger::MAX_PORTS;
-use gw_run::NamedInterface;
 use std::alloc::{AllocError, Global};
 
 /// What is asked of a log of several interfaces.

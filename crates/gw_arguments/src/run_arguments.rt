@@ -10,8 +10,8 @@ use crate::taking_arguments::asked_interfaces;
 use clap::error::ErrorKind;
 use clap::{Arg, ArgAction, ArgMatches, Command, Error, value_parser};
 use gw_commands::{PolicyKind, PolicySource};
+use gw_judge::NamedInterface;
 use gw_ledger::{Limits, MAX_PORTS};
-use gw_run::{NamedInterface, Shown};
 use std::alloc::{AllocError, Global};
 use std::convert::AsStr;
 
@@ -33,8 +33,11 @@ pub struct RunRequest<'a> {
     pub inputs: Vec<Option<&'a str>>,
     /// Whether a copy that finds its lane full waits for room.
     pub waits: bool,
-    /// What the run is told by.
-    pub shown: Shown,
+    /// Whether the lines of policies are asked for, and those of lanes.
+    pub policies: bool,
+    pub lanes: bool,
+    /// Whether one object is, in place of lines.
+    pub json: bool,
     pub progress: bool,
 }
 
@@ -171,21 +174,11 @@ fn asked<'a>(alloc: Global, run: &ArgMatches<'a>) -> Result<RunRequest<'a>, Erro
         interfaces,
         inputs,
         waits: run.get_flag("wait"),
-        shown: asked_shown(run),
+        policies: run.get_flag("policies"),
+        lanes: run.get_flag("lanes"),
+        json: run.get_flag("json"),
         progress: run.get_flag("progress"),
     })
-}
-
-/// What the run is told by.
-fn asked_shown(run: &ArgMatches) -> Shown {
-    if run.get_flag("json") {
-        Shown::Json
-    } else {
-        Shown::Lines {
-            policies: run.get_flag("policies"),
-            lanes: run.get_flag("lanes"),
-        }
-    }
 }
 
 /// The limits of the gateway.

@@ -2,7 +2,7 @@
 
 use crate::source_arguments::Usage;
 use clap::{ArgMatches, Error};
-use gw_run::NamedInterface;
+use gw_judge::NamedInterface;
 use std::alloc::{AllocError, Global};
 
 /// The interfaces of a log that are named for so many ports.

@@ -1,6 +1,6 @@
 -- What is done for the arguments of a command line: `before` and `after` are what the reader has left, `old` and `new` what
 -- the output took, `told_old` and `told_new` what stderr took. Which arguments ask for what is not said here.
-use Rattle.std.specs.Prelude.{◌≡◌, ℕ, ◌⊎◌, Bool, true, false, List, Option, Err, is_some, vec_len}
+use Rattle.std.specs.Prelude.{◌≡◌, ℕ, ◌⊎◌, Bool, true, false, if◌then◌else◌, List, Option, Err, is_some, vec_len}
 use Rattle.std.specs.List.{list_any}
 use Rattle.clap.specs.declared.error.kind.ErrorKind.{ErrorKind}
 use Rattle.clap.specs.declared.error.kind.ErrorKind.TheVariants.{DisplayHelp, DisplayVersion}
@@ -8,6 +8,8 @@ use Rattle.gw_arguments.specs.declared.run_arguments.RunRequest.{RunRequest}
 use Rattle.gw_commands.specs.Commands.{Does, Writes, WritesText}
 use Rattle.gw_run.specs.Forwarding.{ForwardsNamed}
 use Rattle.gw_run.specs.PortInputs.{ForwardsFiles}
+use Rattle.gw_run.specs.declared.lines.Shown.{Shown}
+use Rattle.gw_run.specs.declared.lines.Shown.TheVariants.{Lines, Json}
 use Rattle.gw_run.specs.declared.taking.Taking.{Taking}
 use Rattle.gw_run.specs.Egress.{WritesEgressNamed}
 use Rattle.gw_judge.specs.declared.interfaces.NamedInterface.{NamedInterface}
@@ -59,15 +61,19 @@ DoesWords before after failed reads old new write_failed told_old told_new tell_
     ⊎ ((strict : Bool) × Replays strict before after failed reads old new write_failed status)
     ⊎ OnlyAnswersWords before after old new write_failed told_old told_new tell_failed status
 
+-- what a run is told by: one object where that is asked for, and else lines
+abbrev pub shown_by : RunRequest → Shown
+shown_by run = if run.json then Json else Lines run.policies run.lanes
+
 -- what is asked of `run` is done by a gateway of these limits, under the policies of each port's source: where no file is named
 -- for a port, the input was forwarded; else those files were, and nothing was read. Where copies are asked to wait none was lost
 abbrev pub DoesRun : RunRequest → Option (List ℕ) → Option (List ℕ) → Bool → ℕ → Option (List ℕ) → Option (List ℕ) → Bool → ℕ
     → Type 0
 DoesRun run before after failed reads old new write_failed status =
     ((taking : Taking) × (list_any is_some run.inputs.items ≡ false)
-    × ForwardsNamed taking run.limits run.sources.items run.waits run.shown before after failed reads old new write_failed status)
+    × ForwardsNamed taking run.limits run.sources.items run.waits (shown_by run) before after failed reads old new write_failed status)
     ⊎ ((list_any is_some run.inputs.items ≡ true) × (after ≡ before)
-    × ForwardsFiles run.limits run.sources.items run.inputs.items run.waits run.shown old new write_failed status)
+    × ForwardsFiles run.limits run.sources.items run.inputs.items run.waits (shown_by run) old new write_failed status)
 
 -- what was asked of `run` was done, for a request that has a source and maybe a file for each port; or the arguments were
 -- answered and nothing was read

@@ -3,13 +3,13 @@
 ghost use Rattle.std.specs.Prelude.{◌≡◌, false, is_some, vec_len};
 ghost use Rattle.std.specs.List.{list_any};
 ghost use Rattle.gw_io.specs.Tries.{inner_of, has_failed, reads_of, unended_reads};
-ghost use Rattle.gw_cli.specs.Asked.{DoesRun, RunsWords};
+ghost use Rattle.gw_cli.specs.Asked.{DoesRun, RunsWords, shown_by};
 
 use crate::dispatch::answer_words;
 use gw_arguments::{RunRequest, read_run};
 use gw_io::Tried;
 use gw_run::{
-    NamedInterface, NoObserver, Observer, ProgressOnStderr, Taking, Waiting, forward_files,
+    NamedInterface, NoObserver, Observer, ProgressOnStderr, Shown, Taking, Waiting, forward_files,
     forward_named,
 };
 use std::alloc::Global;
@@ -157,7 +157,7 @@ where
         (has_failed input.new) (unended_reads input.old input.new)
         (W.contents (inner_of output.old)) (W.contents (inner_of output.new)) (has_failed output.new) result }
 {
-    let (limits, sources, shown) = (run.limits, run.sources.as_slice(), run.shown);
+    let (limits, sources, shown) = (run.limits, run.sources.as_slice(), shown(run));
     let files = run.inputs.as_slice();
     if names_file(files) {
         return forward_files(
@@ -168,6 +168,20 @@ where
     forward_named(
         rt, alloc, limits, sources, &taking, shown, observer, input, output, faults,
     )
+}
+
+/// What the run is told by.
+fn shown(run: &RunRequest) -> Shown
+    ensures { result ≡ shown_by run.now }
+{
+    if run.json {
+        Shown::Json
+    } else {
+        Shown::Lines {
+            policies: run.policies,
+            lanes: run.lanes,
+        }
+    }
 }
 
 /// Whether a file is named for a port.
