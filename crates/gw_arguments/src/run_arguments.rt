@@ -33,10 +33,11 @@ pub struct RunRequest<'a> {
     pub inputs: Vec<Option<&'a str>>,
     /// Whether a copy that finds its lane full waits for room.
     pub waits: bool,
-    /// Whether the lines of policies are asked for, and those of lanes.
+    /// Whether the lines of the ports' policies are asked for.
     pub policies: bool,
+    /// Whether those of the lanes are.
     pub lanes: bool,
-    /// Whether one object is, in place of lines.
+    /// Whether one JSON object is, in place of lines.
     pub json: bool,
     pub progress: bool,
 }

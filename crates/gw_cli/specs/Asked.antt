@@ -71,7 +71,8 @@ abbrev pub DoesRun : RunRequest → Option (List ℕ) → Option (List ℕ) → 
     → Type 0
 DoesRun run before after failed reads old new write_failed status =
     ((taking : Taking) × (list_any is_some run.inputs.items ≡ false)
-    × ForwardsNamed taking run.limits run.sources.items run.waits (shown_by run) before after failed reads old new write_failed status)
+    × ForwardsNamed taking run.limits run.sources.items run.waits (shown_by run) before after failed reads old new write_failed
+    status)
     ⊎ ((list_any is_some run.inputs.items ≡ true) × (after ≡ before)
     × ForwardsFiles run.limits run.sources.items run.inputs.items run.waits (shown_by run) old new write_failed status)
 
