@@ -51,3 +51,10 @@ maps_agree {A} {B} {C} {D} f g f' g' (x ∷ xs) each =
     ap (λ (d : D). d ∷ map g (map f xs)) (each zero x (omega arith) (λ d. refl))
     ∙ ap (λ (l : List D). g' (f' x) ∷ l)
     (maps_agree f g f' g' xs (λ k y below is. each (suc k) y (omega arith) is))
+
+-- two maps in turn
+pub map_twice : {A B C : Type 0} (f : A → B) (g : B → C) (h : A → C) → ((x : A) → g (f x) ≡ h x) → (xs : List A)
+    → map g (map f xs) ≡ map h xs
+map_twice f g h same [] = refl
+map_twice {A} {B} {C} f g h same (x ∷ xs) =
+    ap (λ (c : C). c ∷ map g (map f xs)) (same x) ∙ ap (λ (l : List C). h x ∷ l) (map_twice f g h same xs)

@@ -15,6 +15,9 @@ pub mod Finishing
 pub mod OneGateway
 pub mod Elementwise
 pub mod Runs
+pub mod Gathering
+pub mod Feeding
+pub mod Sinks
 pub mod Room
 pub mod Opening
 pub mod Judged
@@ -26,5 +29,6 @@ pub mod ReportOutcomes
 pub mod ReportLanes
 pub mod ReportCounts
 pub mod Reports
+pub mod Kept
 pub mod ReportLists
 pub mod ReportExamples

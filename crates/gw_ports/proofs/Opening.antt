@@ -9,10 +9,8 @@ use Rattle.gw_policy.specs.Batches.{Pair}
 use Rattle.gw_lanes.specs.Ends.{new_outlet}
 use Rattle.gw_ports.specs.Ends.{Ingress, Egress, EndIn, EndOut, end_in, end_out, lane_to}
 use Rattle.gw_ports.specs.Making.{AreEnds, AreNewEnds, AreOfOneGateway, IsNewIngress, new_egress}
-use Rattle.gw_ports.specs.Running.{HasTaken, IsDone, IsReady, Pairwise}
-use Rattle.gw_ports.specs.declared.running.feed.Done.{Done}
+use Rattle.gw_ports.specs.Running.{Drained, Fed, Feeding, HasTaken, IsDone, IsReady, Pairwise}
 use Rattle.gw_ports.specs.declared.running.feed.Feed.{Feed}
-use Rattle.gw_ports.specs.declared.running.drain.Drain.{Drain}
 
 map_same : {B : Type 0} (f : Ingress → B) (ins now : List Ingress) → length now ≡ length ins
     → ((k : ℕ) (d : Ingress) → k < length ins → f (get_or now k d) ≡ f (get_or ins k d)) → map f now ≡ map f ins
@@ -54,11 +52,11 @@ new_ends_know ports frames room told ins now outs new size told_at = record {
 
 -- the ports that are to offer frames are those of the gateway, with their inputs
 
-pub ready_ports : {S : Type 0} (limits : Bounds) (ins : List Ingress) (outs : List Egress) (feeds : List (Feed S))
+pub ready_ports : {S O : Type 0} (limits : Bounds) (ins : List Ingress) (outs : List Egress) (feeds : List (Feed S O))
     → AreNewEnds limits.ports limits.frames limits.lane ins outs → map (λ o. o.port) feeds ≡ ins
     → All (λ o. IsReady o.port × (o.port.frames ≡ limits.frames)) feeds
-ready_ports {S} limits ins outs feeds new is k d below =
-    let port : Feed S → Ingress = λ o. o.port in
+ready_ports {S} {O} limits ins outs feeds new is k d below =
+    let port : Feed S O → Ingress = λ o. o.port in
     let size = length-map feeds port in
     let all = ap length is in
     let at : (get_or feeds k d).port ≡ get_or ins k d.port =
@@ -66,37 +64,32 @@ ready_ports {S} limits ins outs feeds new is k d below =
     let made = new.ingress k d.port (omega arith) in
     subst (λ (i : Ingress). IsReady i × (i.frames ≡ limits.frames)) (sym at) ((made.claims, made.ledger), made.most)
 
-pub input_at : {S : Type 0} (P : ℕ → S → Type 0) (inputs : List S) (feeds : List (Feed S))
-    → map (λ o. o.input) feeds ≡ inputs → ((k : ℕ) (s : S) → k < length inputs → P k (get_or inputs k s))
-    → (k : ℕ) (d : Feed S) → k < length feeds → P k (get_or feeds k d).input
-input_at {S} P inputs feeds is each k d below =
-    let input : Feed S → S = λ o. o.input in
-    let size = length-map feeds input in
-    let all = ap length is in
-    let at : (get_or feeds k d).input ≡ get_or inputs k d.input =
-    sym (get_or-map input feeds k d d.input below) ∙ ap (λ l. get_or l k d.input) is in
-    subst (P k) (sym at) (each k d.input (omega arith))
+-- of what the ports are given, each has its own
+pub given_is : {F A : Type 0} (of_feed : F → A) (given : List A) (feeds : List F) → map of_feed feeds ≡ given
+    → (k : ℕ) (d : F) → k < length feeds → of_feed (get_or feeds k d) ≡ get_or given k (of_feed d)
+given_is {F} {A} of_feed given feeds is k d below =
+    sym (get_or-map of_feed feeds k d (of_feed d) below) ∙ ap (λ (l : List A). get_or l k (of_feed d)) is
 
 -- the threads hand back the ends that they were given
 
-pub ends_after_offers : {S : Type 0} (steps : S → Option (List ℕ) → S → Type 0) (feeds : List (Feed S)) (done : List Done)
+pub ends_after_offers : {S : Type 0} (steps : S → Option (List ℕ) → S → Type 0) (feeds : List (Feeding S)) (done : List (Fed S))
     → Pairwise (IsDone steps) feeds done
     → map end_in (map (λ one. one.port) done) ≡ map end_in (map (λ o. o.port) feeds)
 ends_after_offers steps [] [] pairs = refl
 ends_after_offers steps [] (one ∷ done) pairs = absurd pairs
 ends_after_offers steps (o ∷ feeds) [] pairs = absurd pairs
 ends_after_offers {S} steps (o ∷ feeds) (one ∷ done) pairs =
-    ap (λ e. e ∷ map end_in (map (λ (d : Done). d.port) done)) pairs.0.same
+    ap (λ e. e ∷ map end_in (map (λ (d : Fed S). d.port) done)) pairs.0.same
     ∙ ap (λ l. end_in o.port ∷ l) (ends_after_offers steps feeds done pairs.1)
 
-pub ends_after_takes : (drains drained : List Drain) → Pairwise HasTaken drains drained
-    → map end_out (map (λ one. one.port) drained) ≡ map end_out (map (λ t. t.port) drains)
+pub ends_after_takes : (outs : List Egress) (drained : List Drained) → Pairwise HasTaken outs drained
+    → map end_out (map (λ one. one.port) drained) ≡ map end_out outs
 ends_after_takes [] [] pairs = refl
 ends_after_takes [] (one ∷ drained) pairs = absurd pairs
-ends_after_takes (t ∷ drains) [] pairs = absurd pairs
-ends_after_takes (t ∷ drains) (one ∷ drained) pairs =
-    ap (λ e. e ∷ map end_out (map (λ (x : Drain). x.port) drained)) pairs.0.same
-    ∙ ap (λ l. end_out t.port ∷ l) (ends_after_takes drains drained pairs.1)
+ends_after_takes (e ∷ outs) [] pairs = absurd pairs
+ends_after_takes (e ∷ outs) (one ∷ drained) pairs =
+    ap (λ x. x ∷ map end_out (map (λ (x : Drained). x.port) drained)) pairs.0.same
+    ∙ ap (λ l. end_out e ∷ l) (ends_after_takes outs drained pairs.1)
 
 pub same_gateway : (operator now : Publishing) (ins ins' : List Ingress) (outs outs' : List Egress)
     → AreOfOneGateway operator ins outs → (now.board ≡ operator.board) × (now.ports ≡ operator.ports)

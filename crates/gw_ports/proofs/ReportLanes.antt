@@ -1,5 +1,5 @@
 -- The lanes of a run's report: which there are, and that the copies that outcomes placed on each were taken out, or are left.
-use Rattle.std.proofs.Common.{◌≡◌, ◌∙◌, ℕ, ◌<◌, ◌≤◌, List, [], ◌++◌, length, map, get_or, Vec, Global, Option, Some, None}
+use Rattle.std.proofs.Common.{◌≡◌, ◌∙◌, ℕ, ◌<◌, ◌≤◌, List, [], ◌++◌, length, map, get_or, Option, Some, None}
 use Rattle.std.proofs.Common.{sym, ap, subst, refl, arith, option_map, ⊎_elim}
 use Rattle.std.proofs.Math.Nat.{zero-add}
 use Rattle.std.proofs.lemmas.Bool.{cases_lt}
@@ -14,13 +14,10 @@ use Rattle.gw_lanes.specs.Ends.{Inlet, Outlet, new_outlet}
 use Rattle.gw_ports.specs.Closing.{AreLeft, columns_of, lanes_of, rows_of}
 use Rattle.gw_ports.specs.Ends.{EndIn, EndOut, Ingress, Egress, end_in, end_out, lane_at, lane_to, ring_from, ring_to}
 use Rattle.gw_ports.specs.Making.{lanes_from, new_egress}
-use Rattle.gw_ports.specs.Running.{HasTaken}
+use Rattle.gw_ports.specs.Running.{Drained, Fed, HasTaken}
 use Rattle.gw_ports.specs.Runs.{IsRun}
-use Rattle.gw_ports.specs.Reports.{copies_of, copies_to, frames_of, from_port, lanes_between, outcomes_of}
+use Rattle.gw_ports.specs.Reports.{Ran, copies_of, copies_to, frames_of, from_port, lanes_between, outcomes_of}
 use Rattle.gw_ports.specs.declared.closing.LaneLeft.{LaneLeft}
-use Rattle.gw_ports.specs.declared.running.RunReport.{RunReport}
-use Rattle.gw_ports.specs.declared.running.feed.Done.{Done}
-use Rattle.gw_ports.specs.declared.running.drain.Drain.{Drain}
 use Rattle.gw_ports.proofs.Copied.{AreOwn, copies_of_more, placed_from, placed_list, placed_to, taken_from_port, taken_list}
 use Rattle.gw_ports.proofs.Elementwise.{pairwise_at, there}
 use Rattle.gw_ports.proofs.Judged.{as_many_outcomes}
@@ -30,112 +27,90 @@ use Rattle.gw_ports.proofs.Lanes.{left_at, left_of_each, no_inlet, none_placed, 
 use Rattle.gw_ports.proofs.ReportOutcomes.{PortInOf, many_ins}
 use Rattle.gw_ports.proofs.Runs.{pairwise_length}
 
-abbrev copy_list : Vec FrameCopy Global → List FrameCopy
-copy_list v = v.items
-
 module _ {S : Type 0} {steps : S → Option (List ℕ) → S → Type 0} {limits : Bounds} {first : List Pair} {inputs : List S}
-    {batches : List (List Pair)} {report : RunReport} (run : IsRun steps limits first inputs batches report) where
+    {batches : List (List Pair)} {rests : List S} {ran : Ran} (run : IsRun steps limits first inputs batches rests ran) where
   -- the ports out
 
-  pub many_outs : (length run.drains ≡ limits.ports) × (length run.drained ≡ limits.ports)
+  pub many_outs : (length run.outs ≡ limits.ports) × (length run.drained ≡ limits.ports)
   many_outs =
-      let ports = length-map run.drains (λ (t : Drain). t.port) in
-      let all = ap length run.outs_are in
       let outs = run.opened.ends.enough_outs in
-      let drained = pairwise_length HasTaken run.drains run.drained run.took in
-      (omega arith, omega arith)
+      let drained = pairwise_length HasTaken run.outs run.drained run.took in
+      (outs, omega arith)
 
   -- a port out, before the run and after it: it was new, and nothing was taken from its lanes
   pub record PortOutOf (port : ℕ) : Type 0 where
-    pub before : Drain
-    pub before_is : (d : Drain) → get_or run.drains port d ≡ before
-    pub new : before.port ≡ new_egress port (lanes_from port run.ins)
-    pub after : Drain
-    pub after_is : (d : Drain) → get_or run.drained port d ≡ after
+    pub before : Egress
+    pub before_is : (d : Egress) → get_or run.outs port d ≡ before
+    pub new : before ≡ new_egress port (lanes_from port run.ins)
+    pub after : Drained
+    pub after_is : (d : Drained) → get_or run.drained port d ≡ after
     pub took : HasTaken before after
-    pub copies_are : copies_of report port ≡ after.out.items
+    pub copies_are : copies_of ran port ≡ after.copies
 
   pub port_out : (port : ℕ) → port < limits.ports → PortOutOf port
   port_out port below =
       let n = many_outs.0 in
       let m = many_outs.1 in
-      let many = run.opened.ends.enough_outs in
-      let outs = length-map run.drained (λ (x : Drain). x.out) in
-      let t = there run.drains port (omega arith) in
+      let t = there run.outs port (omega arith) in
       let w = there run.drained port (omega arith) in
       record {
         before = t.0;
         before_is = t.1;
-        new =
-            sym (ap (λ (l : List Egress). get_or l port t.0.port) (sym run.outs_are)
-            ∙ get_or-map (λ (x : Drain). x.port) run.drains port t.0 t.0.port (omega arith)
-            ∙ ap (λ (x : Drain). x.port) (t.1 t.0))
-            ∙ run.opened.ends.egress port t.0.port (omega arith);
+        new = sym (t.1 t.0) ∙ run.opened.ends.egress port t.0 (omega arith);
         after = w.0;
         after_is = w.1;
-        took =
-            pairwise_at HasTaken run.drains run.drained port t.0 w.0 run.took (omega arith) t.1 w.1;
+        took = pairwise_at HasTaken run.outs run.drained port t.0 w.0 run.took (omega arith) t.1 w.1;
         copies_are =
-            ap (λ (l : List (Vec FrameCopy Global)). get_or (map copy_list l) port []) run.out_is
-            ∙ get_or-map copy_list (map (λ (x : Drain). x.out) run.drained) port w.0.out [] (omega arith)
-            ∙ ap copy_list (get_or-map (λ (x : Drain). x.out) run.drained port w.0 w.0.out (omega arith)
-            ∙ ap (λ (x : Drain). x.out) (w.1 w.0));
+            ap (λ (l : List (List FrameCopy)). get_or l port []) run.out_is
+            ∙ get_or-map (λ (x : Drained). x.copies) run.drained port w.0 [] (omega arith)
+            ∙ ap (λ (x : Drained). x.copies) (w.1 w.0);
       }
 
-  out_is : (q : ℕ) (below : q < limits.ports)
-      → get_or run.outs q (port_out q below).before.port ≡ (port_out q below).before.port
-  out_is q below =
-      let n = many_outs.0 in
-      let it = port_out q below in
-      ap (λ (l : List Egress). get_or l q it.before.port) (sym run.outs_are)
-      ∙ get_or-map (λ (x : Drain). x.port) run.drains q it.before it.before.port (omega arith)
-      ∙ ap (λ (x : Drain). x.port) (it.before_is it.before)
-
   nothing_taken : (q : ℕ) (below : q < limits.ports) (s : ℕ)
-      → taken_list (lane_at (port_out q below).before.port.lanes s) ≡ []
+      → taken_list (lane_at (port_out q below).before.lanes s) ≡ []
   nothing_taken q below s =
       ap (λ (e : Egress). taken_list (lane_at e.lanes s)) (port_out q below).new ∙ none_taken q run.ins s
 
   -- the lanes, as a row for each port in and as a column for each port out
 
   rows : List (List (Option Inlet))
-  rows = rows_of (map (λ (x : Done). x.port) run.done)
+  rows = rows_of (map (λ (x : Fed S). x.port) run.done)
 
   columns : List (List (Option Outlet))
-  columns = columns_of (map (λ (x : Drain). x.port) run.drained)
+  columns = columns_of (map (λ (x : Drained). x.port) run.drained)
 
   column_is : (q : ℕ) (below : q < limits.ports) → get_or columns q [] ≡ (port_out q below).after.port.lanes
   unfolding columns
   column_is q below =
       let n = many_outs.1 in
-      let ports = length-map run.drained (λ (x : Drain). x.port) in
+      let ports = length-map run.drained (λ (x : Drained). x.port) in
       let it = port_out q below in
-      get_or-map (λ (e : Egress). e.lanes) (map (λ (x : Drain). x.port) run.drained) q it.after.port [] (omega arith)
-      ∙ ap (λ (e : Egress). e.lanes) (get_or-map (λ (x : Drain). x.port) run.drained q it.after it.after.port (omega arith)
-      ∙ ap (λ (x : Drain). x.port) (it.after_is it.after))
+      get_or-map (λ (e : Egress). e.lanes) (map (λ (x : Drained). x.port) run.drained) q it.after.port [] (omega arith)
+      ∙ ap (λ (e : Egress). e.lanes) (get_or-map (λ (x : Drained). x.port) run.drained q it.after it.after.port (omega arith)
+      ∙ ap (λ (x : Drained). x.port) (it.after_is it.after))
 
   column_width : (q : ℕ) (below : q < limits.ports) → length (port_out q below).after.port.lanes ≡ limits.ports
   column_width q below =
       let it = port_out q below in
       sym (length-map it.after.port.lanes ring_from)
       ∙ ap (λ (x : EndOut). length x.rings) it.took.same
-      ∙ length-map it.before.port.lanes ring_from
+      ∙ length-map it.before.lanes ring_from
       ∙ ap (λ (e : Egress). length e.lanes) it.new
       ∙ length-map run.ins (λ i. option_map new_outlet (lane_to q i)) ∙ run.opened.ends.enough_ins
 
   enough_rows : length rows ≡ limits.ports
   unfolding rows
   enough_rows =
-      length-map (map (λ (x : Done). x.port) run.done) (λ (i : Ingress). i.lanes)
-      ∙ length-map run.done (λ (x : Done). x.port) ∙ (many_ins run).1
+      length-map (map (λ (x : Fed S). x.port) run.done) (λ (i : Ingress). i.lanes)
+      ∙ length-map run.done (λ (x : Fed S). x.port) ∙ (many_ins run).1
 
   enough_columns : length columns ≡ limits.ports
   unfolding columns
   enough_columns =
-      length-map (map (λ (x : Drain). x.port) run.drained) (λ (e : Egress). e.lanes)
-      ∙ length-map run.drained (λ (x : Drain). x.port) ∙ many_outs.1
+      length-map (map (λ (x : Drained). x.port) run.drained) (λ (e : Egress). e.lanes)
+      ∙ length-map run.drained (λ (x : Drained). x.port) ∙ many_outs.1
 
-  lefts_are : AreLeft (lanes_of 0 rows columns) report.report.lanes.items
+  lefts_are : AreLeft (lanes_of 0 rows columns) ran.report.lanes.items
   unfolding rows columns
   lefts_are = run.closed.left
 
@@ -144,11 +119,11 @@ module _ {S : Type 0} {steps : S → Option (List ℕ) → S → Type 0} {limits
     unfolding rows
     row_is p below =
         let n = (many_ins run).1 in
-        let ports = length-map run.done (λ (x : Done). x.port) in
+        let ports = length-map run.done (λ (x : Fed S). x.port) in
         let it = port_in p below in
-        get_or-map (λ (i : Ingress). i.lanes) (map (λ (x : Done). x.port) run.done) p it.one.port [] (omega arith)
-        ∙ ap (λ (i : Ingress). i.lanes) (get_or-map (λ (x : Done). x.port) run.done p it.one it.one.port (omega arith)
-        ∙ ap (λ (x : Done). x.port) (it.one_is it.one))
+        get_or-map (λ (i : Ingress). i.lanes) (map (λ (x : Fed S). x.port) run.done) p it.one.port [] (omega arith)
+        ∙ ap (λ (i : Ingress). i.lanes) (get_or-map (λ (x : Fed S). x.port) run.done p it.one it.one.port (omega arith)
+        ∙ ap (λ (x : Fed S). x.port) (it.one_is it.one))
 
     row_width : (p : ℕ) (below : p < limits.ports) → length (port_in p below).one.port.lanes ≡ limits.ports
     row_width p below =
@@ -159,14 +134,14 @@ module _ {S : Type 0} {steps : S → Option (List ℕ) → S → Type 0} {limits
 
     -- what was placed on the lane between two ports
     placed_is : (p : ℕ) (below : p < limits.ports) (q : ℕ) → placed_list (lane_at (port_in p below).one.port.lanes q)
-        ≡ copies_to p q (port_in p below).did.frames (port_in p below).one.outcomes.items
+        ≡ copies_to p q (port_in p below).did.frames (port_in p below).one.outcomes
     placed_is p below q =
         let it = port_in p below in
         let given = it.did.frames in
-        placed_to q [] it.feed.port given it.one.outcomes.items it.one.port it.did.done
-        ∙ ap (λ (l : List FrameCopy). l ++ copies_to it.feed.port.port q given it.one.outcomes.items)
+        placed_to q [] it.feed.port given it.one.outcomes it.one.port it.did.done
+        ∙ ap (λ (l : List FrameCopy). l ++ copies_to it.feed.port.port q given it.one.outcomes)
         (none_placed limits.lane it.feed.port.lanes it.new.empty q)
-        ∙ ap (λ n. copies_to n q given it.one.outcomes.items) it.new.number
+        ∙ ap (λ n. copies_to n q given it.one.outcomes) it.new.number
 
     -- both ends of a lane are of one ring
     rings_match : (p q : ℕ) (below : p < limits.ports) (below' : q < limits.ports)
@@ -175,7 +150,7 @@ module _ {S : Type 0} {steps : S → Option (List ℕ) → S → Type 0} {limits
         let it = port_in p below in
         let to = port_out q below' in
         let i = it.feed.port in
-        let e = to.before.port in
+        let e = to.before in
         let ins = run.opened.ends.enough_ins in
         let outs = run.opened.ends.enough_outs in
         let ports : run.operator.ports ≡ limits.ports = ap (λ (x : Publishing). x.ports) run.opened.published in
@@ -185,7 +160,7 @@ module _ {S : Type 0} {steps : S → Option (List ℕ) → S → Type 0} {limits
         (sym (get_or-map end_in run.ins p i (end_in i) (omega arith) ∙ ap end_in (it.port_is i)))
         ∙ run.opened.one.lanes p q (end_in i) (end_out e) (omega arith) (omega arith)
         ∙ ap (λ (x : EndOut). lane_at x.rings p)
-        (get_or-map end_out run.outs q e (end_out e) (omega arith) ∙ ap end_out (out_is q below'))
+        (get_or-map end_out run.outs q e (end_out e) (omega arith) ∙ ap end_out (to.before_is e))
         ∙ ap (λ (x : EndOut). lane_at x.rings p) (sym to.took.same)
         ∙ ring_at ring_from refl to.after.port.lanes p
 
@@ -217,11 +192,11 @@ module _ {S : Type 0} {steps : S → Option (List ℕ) → S → Type 0} {limits
         (rings_match s q inner below)
         (λ i e is is'.
         holds_between (λ (x : Inlet) (y : Outlet). (left : LaneLeft) × (y.taken ++ left.left.items ≡ x.placed)) 0 rows columns
-        (left_of_each (lanes_of 0 rows columns) report.report.lanes.items lefts_are) s q i e
+        (left_of_each (lanes_of 0 rows columns) ran.report.lanes.items lefts_are) s q i e
         (ap (λ (r : List (Option Inlet)). lane_at r q) (row_is s inner) ∙ is)
         (ap (λ (r : List (Option Outlet)). lane_at r s) (column_is q below) ∙ is'))
         (subst (λ (l : List FrameCopy). All (λ (c : FrameCopy). c.from ≡ s) l) (sym (placed_is s inner q))
-        (placed_from s q (port_in s inner).did.frames (port_in s inner).one.outcomes.items)))
+        (placed_from s q (port_in s inner).did.frames (port_in s inner).one.outcomes)))
         (λ (outer : limits.ports ≤ s).
         subst (λ (x : Option Outlet). All (λ (c : FrameCopy). c.from ≡ s) (taken_list x))
         (sym (get_or_past (port_out q below).after.port.lanes s None (let n = column_width q below in omega arith)))
@@ -229,35 +204,35 @@ module _ {S : Type 0} {steps : S → Option (List ℕ) → S → Type 0} {limits
         (cases_lt s limits.ports)
 
     taken_are : (q : ℕ) (below : q < limits.ports) (s : ℕ)
-        → taken_list (lane_at (port_out q below).after.port.lanes s) ≡ from_port s (copies_of report q)
+        → taken_list (lane_at (port_out q below).after.port.lanes s) ≡ from_port s (copies_of ran q)
     taken_are q below s =
         let it = port_out q below in
-        taken_from_port it.before.port it.after.out.items it.after.port it.took.takes (own q below) s
-        ∙ ap (λ (l : List FrameCopy). l ++ from_port s it.after.out.items) (nothing_taken q below s)
+        taken_from_port it.before it.after.copies it.after.port it.took.takes (own q below) s
+        ∙ ap (λ (l : List FrameCopy). l ++ from_port s it.after.copies) (nothing_taken q below s)
         ∙ ap (from_port s) (sym it.copies_are)
 
     -- on the lane between two ports
     copied_between : (p q : ℕ) (below : p < limits.ports) (below' : q < limits.ports) (inlet : Inlet) (outlet : Outlet)
         (left : List FrameCopy) → lane_at (port_in p below).one.port.lanes q ≡ Some inlet
         → lane_at (port_out q below').after.port.lanes p ≡ Some outlet → outlet.taken ++ left ≡ inlet.placed
-        → from_port p (copies_of report q) ++ left ≡ copies_to p q (frames_of frames p) (outcomes_of report p)
+        → from_port p (copies_of ran q) ++ left ≡ copies_to p q (frames_of frames p) (outcomes_of ran p)
     copied_between p q below below' inlet outlet left is is' copies =
         let it = port_in p below in
         let given = it.did.frames in
-        let many = as_many_outcomes [] it.feed.port given it.one.outcomes.items it.one.port it.did.done in
+        let many = as_many_outcomes [] it.feed.port given it.one.outcomes it.one.port it.did.done in
         ap (λ (l : List FrameCopy). l ++ left) (sym (sym (ap taken_list is') ∙ taken_are q below' p))
         ∙ copies ∙ sym (ap placed_list is) ∙ placed_is p below q
-        ∙ sym (copies_of_more p q given it.did.whole.0.0 it.one.outcomes.items (omega arith))
-        ∙ ap (λ (l : List (List ℕ)). copies_to p q l it.one.outcomes.items) it.did.whole.0.1
+        ∙ sym (copies_of_more p q given it.did.whole.0.0 it.one.outcomes (omega arith))
+        ∙ ap (λ (l : List (List ℕ)). copies_to p q l it.one.outcomes) it.did.whole.0.1
         ∙ ap (λ (l : List Outcome). copies_to p q (frames_of frames p) l) (sym it.outcomes_are)
 
     -- of each lane, the copies that were taken out and those that are left are those that were placed
-    pub copied : All (λ left. from_port left.from (copies_of report left.to) ++ left.left.items
-        ≡ copies_to left.from left.to (frames_of frames left.from) (outcomes_of report left.from)) report.report.lanes.items
+    pub copied : All (λ left. from_port left.from (copies_of ran left.to) ++ left.left.items
+        ≡ copies_to left.from left.to (frames_of frames left.from) (outcomes_of ran left.from)) ran.report.lanes.items
     copied k d below =
-        let left = get_or report.report.lanes.items k d in
+        let left = get_or ran.report.lanes.items k d in
         let at =
-        left_at (IsAmong 0 rows columns) (lanes_of 0 rows columns) report.report.lanes.items lefts_are
+        left_at (IsAmong 0 rows columns) (lanes_of 0 rows columns) ran.report.lanes.items lefts_are
         (all_among 0 rows columns) k d below in
         let lane = at.0 in
         let among = at.2 in
@@ -274,15 +249,15 @@ module _ {S : Type 0} {steps : S → Option (List ℕ) → S → Type 0} {limits
         copied_between p q below_p below_q lane.inlet lane.outlet left.left.items
         (ap (λ (r : List (Option Inlet)). lane_at r q) (sym (row_is p below_p)) ∙ among.inlet)
         (ap (λ (r : List (Option Outlet)). lane_at r p) (sym (column_is q below_q)) ∙ among.outlet) at.1.copies in
-        subst (λ f. from_port f (copies_of report left.to) ++ left.left.items
-        ≡ copies_to f left.to (frames_of frames f) (outcomes_of report f)) (sym from)
-        (subst (λ to. from_port p (copies_of report to) ++ left.left.items
-        ≡ copies_to p to (frames_of frames p) (outcomes_of report p)) (sym at.1.egress) all)
+        subst (λ f. from_port f (copies_of ran left.to) ++ left.left.items
+        ≡ copies_to f left.to (frames_of frames f) (outcomes_of ran f)) (sym from)
+        (subst (λ to. from_port p (copies_of ran to) ++ left.left.items
+        ≡ copies_to p to (frames_of frames p) (outcomes_of ran p)) (sym at.1.egress) all)
 
     -- there is a lane from each port to each other
-    pub lanes_are : map (λ left. (left.from, left.to)) report.report.lanes.items ≡ lanes_between limits.ports
+    pub lanes_are : map (λ left. (left.from, left.to)) ran.report.lanes.items ≡ lanes_between limits.ports
     lanes_are =
-        same_ports (lanes_of 0 rows columns) report.report.lanes.items lefts_are
+        same_ports (lanes_of 0 rows columns) ran.report.lanes.items lefts_are
         ∙ all_ports limits.ports 0 rows columns
         (λ k d below.
         let n = enough_rows in

@@ -12,8 +12,7 @@ use Rattle.gw_ledger.specs.Bounds.{Bounds}
 use Rattle.gw_policy.specs.Batches.{Pair}
 use Rattle.gw_ports.specs.Running.{with_batches}
 use Rattle.gw_ports.specs.Runs.{IsRun}
-use Rattle.gw_ports.specs.Reports.{RefusesNext, batches_of}
-use Rattle.gw_ports.specs.declared.running.RunReport.{RunReport}
+use Rattle.gw_ports.specs.Reports.{Ran, RefusesNext, batches_of}
 
 -- what the operator has published at the end
 published_after : (operator closing : Publishing) (first : List Pair) (batches : List (List Pair)) (fronts : List ℕ)
@@ -93,42 +92,42 @@ fronts_from_2 fronts published one numbered =
     omega arith)
 
 module _ {S : Type 0} {steps : S → Option (List ℕ) → S → Type 0} {limits : Bounds} {first : List Pair} {inputs : List S}
-    {batches : List (List Pair)} {report : RunReport} (run : IsRun steps limits first inputs batches report) where
+    {batches : List (List Pair)} {rests : List S} {ran : Ran} (run : IsRun steps limits first inputs batches rests ran) where
   -- the operator's list at the close is that of the batches that have a front
-  pub published_is : run.closing.published ≡ batches_of first batches report
+  pub published_is : run.closing.published ≡ batches_of first batches ran
   published_is =
-      published_after run.operator run.closing first batches report.fronts.items report.refused
+      published_after run.operator run.closing first batches ran.fronts ran.refused
       (ap (λ (o : Publishing). o.published) run.opened.published) run.published.published
 
-  pub fronts_are : report.fronts.items ≡ range_with_len 2 (length report.fronts.items)
+  pub fronts_are : ran.fronts ≡ range_with_len 2 (length ran.fronts)
   fronts_are =
-      fronts_from_2 report.fronts.items (length run.operator.published)
+      fronts_from_2 ran.fronts (length run.operator.published)
       (ap (λ (o : Publishing). length o.published) run.opened.published) run.published.numbered
 
   -- all batches were published, or the next one was refused
-  pub published_until : MatchOption report.refused
-      (length report.fronts.items ≡ length batches)
-      (λ why. (length report.fronts.items < length batches)
-      × RefusesNext limits (1 + length report.fronts.items) (get_or batches (length report.fronts.items) []) why)
+  pub published_until : MatchOption ran.refused
+      (length ran.fronts ≡ length batches)
+      (λ why. (length ran.fronts < length batches)
+      × RefusesNext limits (1 + length ran.fronts) (get_or batches (length ran.fronts) []) why)
   published_until =
-      published_why limits run.operator run.closing first batches report.fronts.items report.refused run.opened.published
+      published_why limits run.operator run.closing first batches ran.fronts ran.refused run.opened.published
       run.published.published
 
-  few_fronts : length report.fronts.items ≤ length batches
-  few_fronts = few report.refused run.published.published
+  few_fronts : length ran.fronts ≤ length batches
+  few_fronts = few ran.refused run.published.published
     where
       few : (refused : Option ReplaceRefusal) → MatchOption refused
-          ((length report.fronts.items ≡ length batches) × (run.closing ≡ with_batches run.operator batches))
-          (λ why. (length report.fronts.items < length batches)
-          × Refuses (with_batches run.operator (take (length report.fronts.items) batches))
-          (get_or batches (length report.fronts.items) []) why run.closing)
-          → length report.fronts.items ≤ length batches
+          ((length ran.fronts ≡ length batches) × (run.closing ≡ with_batches run.operator batches))
+          (λ why. (length ran.fronts < length batches)
+          × Refuses (with_batches run.operator (take (length ran.fronts) batches))
+          (get_or batches (length ran.fronts) []) why run.closing)
+          → length ran.fronts ≤ length batches
       few None all = let n = all.0 in omega arith
       few (Some why) some = let n = some.0 in omega arith
 
-  pub front_is : report.report.front ≡ 1 + length report.fronts.items
+  pub front_is : ran.report.front ≡ 1 + length ran.fronts
   front_is =
-      let a : report.report.front ≡ suc (length (take (length report.fronts.items) batches)) =
+      let a : ran.report.front ≡ suc (length (take (length ran.fronts) batches)) =
       run.closed.front_is ∙ ap length published_is in
-      let b = length-take-le (length report.fronts.items) batches few_fronts in
+      let b = length-take-le (length ran.fronts) batches few_fronts in
       omega arith

@@ -2,19 +2,14 @@
 use Rattle.std.proofs.Common.{◌≡◌, ◌∙◌, ℕ, suc, ◌+◌, ◌<◌, ◌≤◌, List, [], ◌∷◌, length, map, get_or, min, slice_set, take, Vec}
 use Rattle.std.proofs.Common.{Global, Option, vec_capacity, ⊎_elim, sym, ap, arith}
 use Rattle.std.proofs.lemmas.Bool.{cases_eq}
-use Rattle.std.proofs.lemmas.List.{get_or-map, get_or-set_other, get_or-set_same, length-map, length-set}
+use Rattle.std.proofs.lemmas.List.{ext_get_or, get_or-map, get_or-set_other, get_or-set_same, length-map, length-set}
 use Rattle.std.proofs.lemmas.List.Sums.{sum_by-cons, sum_by_more}
 use Rattle.std.specs.List.{sum}
 use Rattle.gw_ledger.specs.declared.outcome.FrameCopy.{FrameCopy}
 use Rattle.gw_ledger.specs.declared.outcome.Outcome.{Outcome}
 use Rattle.gw_ports.specs.Reports.{HasRoom, sum_of_others}
-use Rattle.gw_ports.specs.Running.{HasTaken, IsDone, Pairwise}
 use Rattle.gw_ports.specs.declared.running.RunReport.{RunReport}
-use Rattle.gw_ports.specs.declared.running.feed.Done.{Done}
-use Rattle.gw_ports.specs.declared.running.feed.Feed.{Feed}
-use Rattle.gw_ports.specs.declared.running.drain.Drain.{Drain}
-use Rattle.gw_ports.proofs.Elementwise.{pairwise_at, there}
-use Rattle.gw_ports.proofs.Runs.{pairwise_length}
+use Rattle.gw_ports.proofs.Elementwise.{there}
 
 -- one port more of the sum
 pub other_counted : (counts : List ℕ) (egress port count copies : ℕ) → port < length counts → get_or counts port 0 ≡ count
@@ -64,62 +59,41 @@ sum_of_others_le port xs ys size each =
     omega arith)
     (cases_eq k port))
 
-module _ {S : Type 0} (steps : S → Option (List ℕ) → S → Type 0) (frames : ℕ) (sizes : List ℕ) (feeds : List (Feed S))
-    (done : List Done) (drains drained : List Drain) where
-  abbrev Most : List ℕ
-  Most = map (λ size. min size frames) sizes
+-- the rooms of lists
+pub rooms_are : {A : Type 0} (lists : List (Vec A Global)) (rooms : List ℕ) → length lists ≡ length rooms
+    → ((k : ℕ) (d : Vec A Global) → k < length lists → vec_capacity (get_or lists k d) ≡ get_or rooms k 0)
+    → map (λ list. vec_capacity list) lists ≡ rooms
+rooms_are {A} lists rooms many each =
+    let size = length-map lists (λ (v : Vec A Global). vec_capacity v) in
+    ext_get_or 0 (map (λ (v : Vec A Global). vec_capacity v) lists) rooms (size ∙ many) (λ k below.
+    let v = there lists k (omega arith) in
+    get_or-map (λ (v : Vec A Global). vec_capacity v) lists k v.0 0 (omega arith) ∙ each k v.0 (omega arith))
 
-  abbrev counts_of : List (Vec Outcome Global) → List ℕ
-  counts_of outcomes = map (λ (v : Vec Outcome Global). length v.items) outcomes
-
-  -- a port has no more outcomes than frames that it may take
-  pub few_outcomes : Pairwise (IsDone steps) feeds done → length sizes ≡ length feeds
-      → ((k : ℕ) (d : Feed S) → k < length feeds → vec_capacity (get_or feeds k d).outcomes ≡ min (get_or sizes k 0) frames)
-      → (k : ℕ) → k < length done
-      → get_or (counts_of (map (λ (x : Done). x.outcomes) done)) k 0 ≤ get_or Most k 0
-  few_outcomes offered many room k below =
-      let as_many = pairwise_length (IsDone steps) feeds done offered in
-      let feed = there feeds k (omega arith) in
-      let one = there done k below in
-      let is = pairwise_at (IsDone steps) feeds done k feed.0 one.0 offered (omega arith) feed.1 one.1 in
-      let outcomes = length-map done (λ (x : Done). x.outcomes) in
-      let count =
-      get_or-map (λ (v : Vec Outcome Global). length v.items) (map (λ (x : Done). x.outcomes) done) k one.0.outcomes 0
-      (omega arith)
-      ∙ ap (λ (v : Vec Outcome Global). length v.items) (get_or-map (λ (x : Done). x.outcomes) done k one.0 one.0.outcomes below)
-      ∙ ap (λ (x : Done). length x.outcomes.items) (one.1 one.0) in
-      let most = get_or-map (λ size. min size frames) sizes k 0 0 (omega arith) in
-      let cap = ap (λ (o : Feed S). vec_capacity o.outcomes) (sym (feed.1 feed.0)) ∙ room k feed.0 (omega arith) in
-      let fits = is.room in
-      omega arith
-
-  pub has_room : (ports : ℕ) (report : RunReport) → Pairwise (IsDone steps) feeds done → Pairwise HasTaken drains drained
-      → length sizes ≡ length feeds → length drains ≡ ports
-      → ((k : ℕ) (d : Feed S) → k < length feeds → vec_capacity (get_or feeds k d).outcomes ≡ min (get_or sizes k 0) frames)
-      → ((k : ℕ) (d : Drain) → k < length drains → sum_of_others k Most ≡ vec_capacity (get_or drains k d).out)
-      → report.outcomes.items ≡ map (λ one. one.outcomes) done → report.out.items ≡ map (λ one. one.out) drained
-      → HasRoom ports report
-  has_room ports report offered took many ports_are room copies outcomes_are out_is egress below =
-      let drain = there drains egress (omega arith) in
-      let as_many = pairwise_length HasTaken drains drained took in
-      let one = there drained egress (omega arith) in
-      let is = pairwise_at HasTaken drains drained egress drain.0 one.0 took (omega arith) drain.1 one.1 in
-      let all = pairwise_length (IsDone steps) feeds done offered in
-      let sized = length-map sizes (λ size. min size frames) in
-      let counts = length-map (map (λ (x : Done). x.outcomes) done) (λ (v : Vec Outcome Global). length v.items) in
-      let outcomes = length-map done (λ (x : Done). x.outcomes) in
-      let le =
-      sum_of_others_le egress (counts_of (map (λ (x : Done). x.outcomes) done)) Most (omega arith)
-      (λ k inside. few_outcomes offered many room k (omega arith)) in
-      let here = copies egress drain.0 (omega arith) ∙ ap (λ (t : Drain). vec_capacity t.out) (drain.1 drain.0) in
-      let outs = length-map drained (λ (x : Drain). x.out) in
-      let cap =
-      ap (λ (l : List (Vec FrameCopy Global)). get_or (map (λ (v : Vec FrameCopy Global). vec_capacity v) l) egress 0) out_is
-      ∙ get_or-map (λ (v : Vec FrameCopy Global). vec_capacity v) (map (λ (x : Drain). x.out) drained) egress one.0.out 0
-      (omega arith)
-      ∙ ap (λ (v : Vec FrameCopy Global). vec_capacity v)
-      (get_or-map (λ (x : Drain). x.out) drained egress one.0 one.0.out (omega arith))
-      ∙ ap (λ (x : Drain). vec_capacity x.out) (one.1 one.0) in
-      let kept = is.room in
-      let same = ap (λ l. sum_of_others egress (counts_of l)) outcomes_are in
-      omega arith
+-- where no list has more items than its room, and those for outcomes have room for what the ports can take, there was room for
+-- all copies
+pub has_room : (ports frames : ℕ) (sizes : List ℕ) (report : RunReport) → length sizes ≡ ports
+    → map (λ list. vec_capacity list) report.outcomes.items ≡ map (λ size. min size frames) sizes
+    → ((k : ℕ) → k < length sizes → sum_of_others k (map (λ size. min size frames) sizes)
+    ≡ get_or (map (λ list. vec_capacity list) report.out.items) k 0)
+    → HasRoom ports report
+has_room ports frames sizes report many taken enough egress below =
+    let lists = report.outcomes.items in
+    let counts = map (λ (v : Vec Outcome Global). length v.items) lists in
+    let size = length-map lists (λ (v : Vec Outcome Global). length v.items) in
+    let size' = length-map lists (λ (v : Vec Outcome Global). vec_capacity v) in
+    let rooms = ap length taken in
+    let le =
+    sum_of_others_le egress counts (map (λ size. min size frames) sizes) (omega arith)
+    (λ k inside.
+    let v = there lists k (omega arith) in
+    let count = get_or-map (λ (v : Vec Outcome Global). length v.items) lists k v.0 0 (omega arith) in
+    let room = get_or-map (λ (v : Vec Outcome Global). vec_capacity v) lists k v.0 0 (omega arith) in
+    let at = ap (λ (l : List ℕ). get_or l k 0) taken in
+    let one = v.1 v.0 in
+    let count' = count ∙ ap (λ (v : Vec Outcome Global). length v.items) one in
+    let room' = room ∙ ap (λ (v : Vec Outcome Global). vec_capacity v) one in
+    let few = v.0.ok.1 in
+    let is = v.0.ok.0 in
+    omega arith) in
+    let all = enough egress (omega arith) in
+    omega arith

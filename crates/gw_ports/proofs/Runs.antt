@@ -1,8 +1,9 @@
 -- The threads of a run, one step more.
 use Rattle.std.proofs.Common.{◌≡◌, ◌∙◌, ℕ, List, [], ◌∷◌, ◌++◌, Option, Some, sym, ap, subst, refl}
-use Rattle.std.proofs.Common.{suc, map, ◌+◌, ◌<◌, ◌≤◌, length, take, get_or, ⊎_elim, arith, append_assoc, length-append}
+use Rattle.std.proofs.Common.{suc, map, ◌+◌, ◌<◌, ◌≤◌, length, take, get_or, ⊎_elim, arith, append-nil, append_assoc}
+use Rattle.std.proofs.Common.{length-append}
 use Rattle.std.proofs.lemmas.Bool.{cases_lt}
-use Rattle.std.proofs.lemmas.List.{map-append, get_or_append_left, get_or_at, get_or_push, take_at}
+use Rattle.std.proofs.lemmas.List.{map-append, get_or_append_left, get_or_at, get_or_push, length-map, nil_from_length, take_at}
 use Rattle.std.specs.Iterator.{Yields}
 use Rattle.std.specs.List.{All}
 use Rattle.gw_board.specs.Ends.{Publishing}
@@ -140,3 +141,26 @@ each_push {A} Q xs xs' x is each here k d below =
 
 pub all_push : {A : Type 0} (P : A → Type 0) (xs xs' : List A) (x : A) → xs' ≡ xs ++ x ∷ [] → All P xs → P x → All P xs'
 all_push P xs xs' x is all here = each_push (λ k. P) xs xs' x is all here
+
+-- ---- a list that is made of another one, at its end
+
+pub list_made : {A B : Type 0} (f : A → B) (xs : List A) (rest all : List B) → rest ≡ [] → map f xs ++ rest ≡ all → map f xs ≡ all
+list_made {A} {B} f xs rest all none made =
+    sym (append-nil (map f xs)) ∙ ap (λ (l : List B). map f xs ++ l) (sym none) ∙ made
+
+-- a second one, which has as many elements
+pub other_made : {A B C : Type 0} (f : A → B) (g : A → C) (xs : List A) (rest all : List B) (rest' all' : List C) → rest ≡ []
+    → map f xs ++ rest ≡ all → map g xs ++ rest' ≡ all' → length all' ≡ length all → map g xs ≡ all'
+other_made f g xs rest all rest' all' none made made' many =
+    let first = ap length made in
+    let second = ap length made' in
+    let parts = length-append (map f xs) rest in
+    let parts' = length-append (map g xs) rest' in
+    let size = length-map xs f in
+    let size' = length-map xs g in
+    let ended = ap length none in
+    list_made g xs rest' all' (nil_from_length rest' (omega arith)) made'
+
+-- what holds of all holds of the first, and of those behind it
+pub all_tail : {A : Type 0} (P : A → Type 0) (x : A) (xs : List A) → All P (x ∷ xs) → P x × All P xs
+all_tail P x xs all = (all 0 x (omega arith), λ k d below. all (suc k) d (omega arith))

@@ -5,6 +5,7 @@ pub mod Sending
 pub mod Making
 pub mod Refusals
 pub mod Closing
+pub mod Sinks
 pub mod Running
 pub mod Runs
 pub mod Reports

@@ -4,7 +4,7 @@ use Rattle.std.specs.Prelude.{◌≡◌, ℕ, ◌+◌, ◌<◌, ◌≤◌, List,
 use Rattle.std.specs.Prelude.{Option, Some, None, IfSome, MatchOption, All, filter, flat_map, not, replicate, sum_by, ◌++◌, ◌==◌}
 use Rattle.std.specs.Prelude.{count_by, false, if◌then◌else◌, IsTrue, slice_index, slice_set, sum, vec_capacity}
 use Rattle.std.specs.List.{range_with_len}
-use Rattle.std.specs.Iterator.{Drains, Yields}
+use Rattle.std.specs.Iterator.{Yields, YieldsThen}
 use Rattle.gw_board.specs.Refusals.{PortsBelow}
 use Rattle.gw_board.specs.declared.refusals.ReplaceRefusal.{ReplaceRefusal}
 use Rattle.gw_board.specs.declared.refusals.ReplaceRefusal.TheVariants.{NoSuchPort, VersionsSpent, Stopped, OutOfMemory}
@@ -19,23 +19,44 @@ use Rattle.gw_policy.specs.Allowed.{allowed_ports}
 use Rattle.gw_policy.specs.Batches.{Pair}
 use Rattle.gw_ports.specs.Making.{nothing_counted}
 use Rattle.gw_ports.specs.Sending.{sent_with}
+use Rattle.gw_ports.specs.declared.closing.Report.{Report}
 use Rattle.gw_ports.specs.declared.refusals.OfferRefusal.{OfferRefusal}
 use Rattle.gw_ports.specs.declared.refusals.OfferRefusal.TheVariants.{FramesSpent, NoReading}
 use Rattle.gw_ports.specs.declared.running.RunReport.{RunReport}
+
+-- what a run did: by port, what became of the frames, why the port stopped, and the copies that were taken out there; the number
+-- of batches that were published after each batch, and why the next was refused; and what the gateway was at its end
+pub record Ran : Type 0 where
+  pub outcomes : List (List Outcome)
+  pub stops : List (Option OfferRefusal)
+  pub fronts : List ℕ
+  pub refused : Option ReplaceRefusal
+  pub out : List (List FrameCopy)
+  pub report : Report
+
+abbrev pub ran_of : RunReport → Ran
+ran_of report = record {
+  outcomes = map (λ outcomes. outcomes.items) report.outcomes.items;
+  stops = report.stops.items;
+  fronts = report.fronts.items;
+  refused = report.refused;
+  out = map (λ copies. copies.items) report.out.items;
+  report = report.report;
+}
 
 -- of a port: the frames of its input, its outcomes, and why it stopped, if it did
 abbrev pub frames_of : List (List (List ℕ)) → ℕ → List (List ℕ)
 frames_of inputs port = slice_index_or inputs port []
 
-abbrev pub outcomes_of : RunReport → ℕ → List Outcome
-outcomes_of report port = slice_index_or (map (λ outcomes. outcomes.items) report.outcomes.items) port []
+abbrev pub outcomes_of : Ran → ℕ → List Outcome
+outcomes_of ran port = slice_index_or ran.outcomes port []
 
-abbrev pub stop_of : RunReport → ℕ → Option OfferRefusal
-stop_of report port = slice_index_or report.stops.items port None
+abbrev pub stop_of : Ran → ℕ → Option OfferRefusal
+stop_of ran port = slice_index_or ran.stops port None
 
 -- the copies that were taken out at a port, and those of them that are from one ingress port
-abbrev pub copies_of : RunReport → ℕ → List FrameCopy
-copies_of report port = slice_index_or (map (λ copies. copies.items) report.out.items) port []
+abbrev pub copies_of : Ran → ℕ → List FrameCopy
+copies_of ran port = slice_index_or ran.out port []
 
 abbrev pub from_port : ℕ → List FrameCopy → List FrameCopy
 from_port ingress copies = filter (λ copy. copy.from == ingress) copies
@@ -88,8 +109,8 @@ abbrev pub sent_by : List FrameCopy → OutLedger
 sent_by copies = fold and_sent nothing_sent copies
 
 -- the batches that were published in a run: the first one, and those after it that have a front
-abbrev pub batches_of : List Pair → List (List Pair) → RunReport → List (List Pair)
-batches_of first batches report = first ∷ take (length report.fronts.items) batches
+abbrev pub batches_of : List Pair → List (List Pair) → Ran → List (List Pair)
+batches_of first batches ran = first ∷ take (length ran.fronts) batches
 
 -- the outcome of the frame that was taken at the port after `heard`, newest first: it was judged by the first `front` of the
 -- published batches
@@ -130,39 +151,37 @@ RefusesNext limits published batch (OutOfMemory back) =
     IfSome back (λ same. same ≡ batch) × PortsBelow limits.ports batch × (published < limits.versions)
 
 -- the report of a run whose ports were given these frames
-pub record IsReport (limits : Bounds) (first : List Pair) (inputs : List (List (List ℕ))) (batches : List (List Pair))
-    (report : RunReport) : Type 0 where
-  pub ports : (length report.outcomes.items ≡ limits.ports) × (length report.stops.items ≡ limits.ports)
+pub record IsReport (limits : Bounds) (first : List Pair) (inputs : List (List (List ℕ))) (batches : List (List Pair)) (ran : Ran)
+    : Type 0 where
+  pub ports : (length ran.outcomes ≡ limits.ports) × (length ran.stops ≡ limits.ports)
   pub judged : (port : ℕ) → port < limits.ports
-      → AreJudged limits.ports port (batches_of first batches report) (frames_of inputs port) (outcomes_of report port)
-  pub lost : (port : ℕ) → port < limits.ports → LosesOnFullLanes limits.lane (outcomes_of report port)
+      → AreJudged limits.ports port (batches_of first batches ran) (frames_of inputs port) (outcomes_of ran port)
+  pub lost : (port : ℕ) → port < limits.ports → LosesOnFullLanes limits.lane (outcomes_of ran port)
   pub stops : (port : ℕ) → port < limits.ports
-      → EndsAt limits (frames_of inputs port) (outcomes_of report port) (stop_of report port)
-  pub fronts : report.fronts.items ≡ range_with_len 2 (length report.fronts.items)
-  pub published : MatchOption report.refused
-      (length report.fronts.items ≡ length batches)
-      (λ why. (length report.fronts.items < length batches)
-      × RefusesNext limits (1 + length report.fronts.items) (slice_index_or batches (length report.fronts.items) []) why)
-  pub front : report.report.front ≡ 1 + length report.fronts.items
-  pub counted : report.report.ins.items
-      ≡ map (λ outcomes. fold ledger_with nothing_counted outcomes.items) report.outcomes.items
-  pub sent : report.report.outs.items ≡ map (λ copies. sent_by copies.items) report.out.items
-  pub lanes : map (λ lane. (lane.from, lane.to)) report.report.lanes.items ≡ lanes_between limits.ports
-  pub copies : All (λ lane. from_port lane.from (copies_of report lane.to) ++ lane.left.items
-      ≡ copies_to lane.from lane.to (frames_of inputs lane.from) (outcomes_of report lane.from)) report.report.lanes.items
-  pub room : HasRoom limits.ports report
-  pub balances : AreBalanced report.report.ins.items report.report.outs.items
-      (sum_by (λ lane. length lane.left.items) report.report.lanes.items)
+      → EndsAt limits (frames_of inputs port) (outcomes_of ran port) (stop_of ran port)
+  pub fronts : ran.fronts ≡ range_with_len 2 (length ran.fronts)
+  pub published : MatchOption ran.refused
+      (length ran.fronts ≡ length batches)
+      (λ why. (length ran.fronts < length batches)
+      × RefusesNext limits (1 + length ran.fronts) (slice_index_or batches (length ran.fronts) []) why)
+  pub front : ran.report.front ≡ 1 + length ran.fronts
+  pub counted : ran.report.ins.items ≡ map (fold ledger_with nothing_counted) ran.outcomes
+  pub sent : ran.report.outs.items ≡ map sent_by ran.out
+  pub lanes : map (λ lane. (lane.from, lane.to)) ran.report.lanes.items ≡ lanes_between limits.ports
+  pub copies : All (λ lane. from_port lane.from (copies_of ran lane.to) ++ lane.left.items
+      ≡ copies_to lane.from lane.to (frames_of inputs lane.from) (outcomes_of ran lane.from)) ran.report.lanes.items
+  pub balances : AreBalanced ran.report.ins.items ran.report.outs.items
+      (sum_by (λ lane. length lane.left.items) ran.report.lanes.items)
 
--- the frames that a port asked its iterator for: all that it had, or those up to the one that was refused
-abbrev pub Asks : {S : Type 0} → (S → Option (List ℕ) → S → Type 0) → S → Option OfferRefusal → List (List ℕ) → Type 0
-Asks steps input None frames = Drains steps input frames
-Asks {S} steps input (Some why) frames = (rest : S) × Yields steps input frames rest
+-- the frames that a port asked its iterator for, all that it had, or those up to the one that was refused, and what is left of it
+abbrev pub AsksUpTo : {S : Type 0} → (S → Option (List ℕ) → S → Type 0) → S → Option OfferRefusal → List (List ℕ) → S → Type 0
+AsksUpTo steps input None frames rest = YieldsThen steps input frames None rest
+AsksUpTo steps input (Some why) frames rest = Yields steps input frames rest
 
--- the report of a run whose ports asked these iterators for their frames
+-- the report of a run whose ports asked these iterators for their frames, and left these of them
 pub record IsReportOf {S : Type 0} (steps : S → Option (List ℕ) → S → Type 0) (limits : Bounds) (first : List Pair)
-    (inputs : List S) (batches : List (List Pair)) (report : RunReport) : Type 0 where
+    (inputs : List S) (batches : List (List Pair)) (rests : List S) (ran : Ran) : Type 0 where
   pub frames : List (List (List ℕ))
   pub asked : (port : ℕ) (d : S) → port < limits.ports
-      → Asks steps (slice_index_or inputs port d) (stop_of report port) (frames_of frames port)
-  pub reported : IsReport limits first frames batches report
+      → AsksUpTo steps (slice_index_or inputs port d) (stop_of ran port) (frames_of frames port) (slice_index_or rests port d)
+  pub reported : IsReport limits first frames batches ran

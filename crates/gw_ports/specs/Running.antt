@@ -1,7 +1,8 @@
 -- What the threads of a run do.
 use Rattle.std.specs.Prelude.{◌≡◌, ℕ, ◌+◌, ◌<◌, List, [], ◌∷◌, ◌++◌, length, take, slice_index, slice_index_or, Option, Some}
-use Rattle.std.specs.Prelude.{None, IsTrue, MatchOption, All, ◌≤◌, min, vec_capacity, vec_len}
-use Rattle.std.specs.Iterator.{Count, Drains, IsFinite, Yields, size}
+use Rattle.std.specs.Prelude.{None, Bool, IsTrue, MatchOption, All, ◌≤◌, map, min, Vec, vec_capacity, vec_len}
+use Rattle.std.specs.declared.alloc.Global.{Global}
+use Rattle.std.specs.Iterator.{Count, IsFinite, Yields, YieldsThen, size}
 use Rattle.gw_board.specs.Ends.{Publishing}
 use Rattle.gw_board.specs.Refusals.{Refuses}
 use Rattle.gw_board.specs.declared.refusals.ReplaceRefusal.{ReplaceRefusal}
@@ -12,12 +13,16 @@ use Rattle.gw_policy.specs.Batches.{Pair}
 use Rattle.gw_ports.specs.Ends.{Ingress, Egress, end_in, end_out}
 use Rattle.gw_ports.specs.Making.{nothing_counted}
 use Rattle.gw_ports.specs.Offers.{IsPlaced, Offered}
+use Rattle.gw_ports.specs.Reports.{sum_of_others}
 use Rattle.gw_ports.specs.Sending.{Sends}
+use Rattle.gw_ports.specs.Sinks.{Handed, HasRoomFor}
 use Rattle.gw_ports.specs.declared.refusals.OfferRefusal.{OfferRefusal}
 use Rattle.gw_ports.specs.declared.refusals.OfferRefusal.TheVariants.{FramesSpent}
 use Rattle.gw_ports.specs.declared.running.feed.Done.{Done}
 use Rattle.gw_ports.specs.declared.running.feed.Feed.{Feed}
 use Rattle.gw_ports.specs.declared.running.feed.Intake.{Intake}
+use Rattle.gw_ports.specs.declared.running.gathering.EgressPorts.{EgressPorts}
+use Rattle.gw_ports.specs.declared.running.gathering.IngressPorts.{IngressPorts}
 use Rattle.gw_ports.specs.declared.running.drain.Drain.{Drain}
 use Rattle.gw_ports.specs.declared.running.drain.Work.{Work}
 
@@ -34,52 +39,123 @@ Offers heard old (octets ∷ frames) (outcome ∷ outcomes) new =
 abbrev pub IsReady : Ingress → Type 0
 IsReady ingress = HoldsAfter ingress.claims [] × (ingress.ledger ≡ nothing_counted)
 
--- an ingress port that may offer the frames of its input: the input ends, and there is room for the outcome of each frame that
--- the port can take
-pub record CanOffer {S : Type 0} (can_next : S → Type 0) (remaining : S → Count) (feed : Feed S) : Type 0 where
+-- ---- an ingress port
+
+-- an ingress port that is to offer the frames of its input, and whether a copy waits for room
+pub record Feeding (S : Type 0) : Type 0 where
+  pub port : Ingress
+  pub input : S
+  pub waits : Bool
+
+-- what it did: the outcomes of its frames, why it stopped before they were at an end, and what is left of its input
+pub record Fed (S : Type 0) : Type 0 where
+  pub port : Ingress
+  pub outcomes : List Outcome
+  pub stop : Option OfferRefusal
+  pub rest : S
+
+-- an input gave these frames and ended; or, where the port stopped, it gave one more
+abbrev pub Gives : {S : Type 0} → (S → Option (List ℕ) → S → Type 0) → S → List (List ℕ) → Option OfferRefusal → S → Type 0
+Gives steps input frames None rest = YieldsThen steps input frames None rest
+Gives steps input frames (Some why) rest = (refused : List ℕ) × Yields steps input (frames ++ refused ∷ []) rest
+
+-- the port offered the frames of its input, up to the one that was refused; where it waits no copy was lost
+pub record IsDone {S : Type 0} (steps : S → Option (List ℕ) → S → Type 0) (feed : Feeding S) (done : Fed S) : Type 0 where
+  pub frames : List (List ℕ)
+  pub gave : Gives steps feed.input frames done.stop done.rest
+  pub offers : Offers [] feed.port frames done.outcomes done.port
+  pub same : end_in done.port ≡ end_in feed.port
+  pub spent : done.stop ≡ Some FramesSpent → done.port.ledger.taken ≡ done.port.frames
+  pub all : IsTrue feed.waits → All IsPlaced done.outcomes
+
+-- ---- its thread
+
+-- an ingress port that may offer the frames of its input: the input ends, and its sink has room for the outcome of each frame
+-- that the port can take
+pub record CanOffer {S O : Type 0} (can_next : S → Type 0) (remaining : S → Count) (room_of : O → Count) (feed : Feed S O)
+    : Type 0 where
   pub input : can_next feed.input × IsFinite (remaining feed.input)
-  pub room : min (size (remaining feed.input)) feed.port.frames ≤ vec_capacity feed.outcomes
-  pub new : IsReady feed.port × (feed.outcomes.items ≡ [])
+  pub room : HasRoomFor (room_of feed.outcomes) (min (size (remaining feed.input)) feed.port.frames)
+  pub new : IsReady feed.port
 
 -- each ingress port may, while batches are published, and there is room for the ports once they have and for the fronts
-pub record CanFeed {S : Type 0} (can_next : S → Type 0) (remaining : S → Count) (intake : Intake S) : Type 0 where
-  pub each : All (CanOffer can_next remaining) intake.feeds.items
+pub record CanFeed {S O : Type 0} (can_next : S → Type 0) (remaining : S → Count) (room_of : O → Count) (intake : Intake S O)
+    : Type 0 where
+  pub each : All (CanOffer can_next remaining room_of) intake.feeds.items
   pub gathered : (intake.done.items ≡ []) × (vec_len intake.feeds ≤ vec_capacity intake.done)
   pub fronts : intake.publishing.fronts.items ≡ []
   pub enough : vec_len intake.publishing.batches ≤ vec_capacity intake.publishing.fronts
 
--- what the threads of a run begin with: the ports may offer, no copy is taken out yet, and there is room for the egress ports
-pub record CanRun {S : Type 0} (can_next : S → Type 0) (remaining : S → Count) (work : Work S) : Type 0 where
-  pub feeds : CanFeed can_next remaining work.intake
-  pub empty : All (λ drain. drain.out.items ≡ []) work.drains.items
+-- what the threads of a run begin with: the ports may offer, and there is room for the egress ports
+pub record CanRun {S O C : Type 0} (can_next : S → Type 0) (remaining : S → Count) (room_of : O → Count) (work : Work S O C)
+    : Type 0 where
+  pub feeds : CanFeed can_next remaining room_of work.intake
   pub gathered : (work.drained.items ≡ []) × (vec_len work.drains ≤ vec_capacity work.drained)
 
--- an input gave these frames and ended; or, where the port stopped, it gave one more
-abbrev pub Gives : {S : Type 0} → (S → Option (List ℕ) → S → Type 0) → S → List (List ℕ) → Option OfferRefusal → Type 0
-Gives steps input frames None = Drains steps input frames
-Gives {S} steps input frames (Some why) = (refused : List ℕ) × (rest : S) × Yields steps input (frames ++ refused ∷ []) rest
+abbrev pub feeding_of : {S O : Type 0} → Feed S O → Feeding S
+feeding_of feed = record { port = feed.port; input = feed.input; waits = feed.waits }
 
--- the port offered the frames of its input, up to the one that was refused, and there was room for their outcomes; where it waits
--- no copy was lost
-pub record IsDone {S : Type 0} (steps : S → Option (List ℕ) → S → Type 0) (feed : Feed S) (done : Done) : Type 0 where
-  pub frames : List (List ℕ)
-  pub gave : Gives steps feed.input frames done.stop
-  pub offers : Offers [] feed.port frames done.outcomes.items done.port
-  pub same : end_in done.port ≡ end_in feed.port
-  pub spent : done.stop ≡ Some FramesSpent → done.port.ledger.taken ≡ done.port.frames
-  pub room : length done.outcomes.items ≤ vec_capacity feed.outcomes
-  pub all : IsTrue feed.waits → All IsPlaced done.outcomes.items
+-- the thread did that, and handed the outcomes to its sink
+pub record HasFed {S O : Type 0} (steps : S → Option (List ℕ) → S → Type 0) (takes : O → Outcome → O → Type 0) (feed : Feed S O)
+    (done : Done S O) : Type 0 where
+  pub outcomes : List Outcome
+  pub did : IsDone steps (feeding_of feed)
+      (record { port = done.port; outcomes = outcomes; stop = done.stop; rest = done.input })
+  pub handed : Handed takes feed.outcomes outcomes done.outcomes
+
+-- the inputs end, and the sink of each port has room for the outcome of each frame of its input that the port can take
+abbrev pub CanFeedAll : {S O : Type 0} → (S → Type 0) → (S → Count) → (O → Count) → ℕ → List S → List O → Type 0
+CanFeedAll {S} {O} can_next remaining room_of frames inputs outcomes = (k : ℕ) (d : S) (e : O) → k < length inputs
+    → can_next (slice_index_or inputs k d) × IsFinite (remaining (slice_index_or inputs k d))
+    × HasRoomFor (room_of (slice_index_or outcomes k e)) (min (size (remaining (slice_index_or inputs k d))) frames)
+
+-- empty lists for each port of inputs of these sizes: room for the outcomes of its frames, of which it takes so many at most, and
+-- for the copies that the other ports can enqueue for it
+pub record AreRoomFor (frames : ℕ) (sizes : List ℕ) (outcomes : List (Vec Outcome Global)) (out : List (Vec FrameCopy Global))
+    : Type 0 where
+  pub empty : All (λ list. list.items ≡ []) outcomes × All (λ list. list.items ≡ []) out
+  pub taken : map (λ list. vec_capacity list) outcomes ≡ map (λ size. min size frames) sizes
+  pub copied : length out ≡ length sizes
+  pub enough : (k : ℕ) → k < length sizes
+      → sum_of_others k (map (λ size. min size frames) sizes) ≡ slice_index (map (λ list. vec_capacity list) out) k
+
+-- ---- an egress port
 
 -- the copies left the port one after another
 abbrev pub Takes : Egress → List FrameCopy → Egress → Type 0
 Takes old [] new = new ≡ old
 Takes old (copy ∷ copies) new = (ingress : ℕ) × (next : Egress) × Sends ingress old copy next × Takes next copies new
 
--- the port took copies out, into the room that was made for them
-pub record HasTaken (before after : Drain) : Type 0 where
-  pub takes : Takes before.port after.out.items after.port
-  pub same : end_out after.port ≡ end_out before.port
-  pub room : vec_capacity after.out ≡ vec_capacity before.out
+-- what an egress port did: the copies that left there
+pub record Drained : Type 0 where
+  pub port : Egress
+  pub copies : List FrameCopy
+
+-- the port took copies out
+pub record HasTaken (before : Egress) (after : Drained) : Type 0 where
+  pub takes : Takes before after.copies after.port
+  pub same : end_out after.port ≡ end_out before
+
+-- the thread did that, and handed the copies to its sink
+pub record HasDrained {C : Type 0} (takes : C → FrameCopy → C → Type 0) (before after : Drain C) : Type 0 where
+  pub copies : List FrameCopy
+  pub took : HasTaken before.port (record { port = after.port; copies = copies })
+  pub handed : Handed takes before.out copies after.out
+
+-- ---- what the threads did, by port
+
+-- an empty list with room for so many items
+abbrev pub IsRoomFor : {A : Type 0} → ℕ → Vec A Global → Type 0
+IsRoomFor items list = (list.items ≡ []) × (items ≤ vec_capacity list)
+
+abbrev pub HasRoomIn : {S O : Type 0} → ℕ → IngressPorts S O → Type 0
+HasRoomIn count ports =
+    IsRoomFor count ports.ports × IsRoomFor count ports.inputs × IsRoomFor count ports.outcomes × IsRoomFor count ports.stops
+
+abbrev pub HasRoomOut : {C : Type 0} → ℕ → EgressPorts C → Type 0
+HasRoomOut count ports = IsRoomFor count ports.ports × IsRoomFor count ports.out
+
+-- ---- the operator
 
 -- the operator with more batches published
 abbrev pub with_batches : Publishing → List (List Pair) → Publishing
@@ -94,6 +170,8 @@ pub record Publishes (old : Publishing) (batches : List (List Pair)) (fronts : L
       ((length fronts ≡ length batches) × (new ≡ with_batches old batches))
       (λ why. (length fronts < length batches)
       × Refuses (with_batches old (take (length fronts) batches)) (slice_index_or batches (length fronts) []) why new)
+
+-- ---- lists by port
 
 -- a relation holds of each element and what stands at its place in the other list
 abbrev pub Pairwise : {A B : Type 0} → (A → B → Type 0) → List A → List B → Type 0

@@ -9,6 +9,7 @@ mod port_in;
 mod port_out;
 mod refusals;
 mod running;
+mod sink;
 
 pub use closing::{CloseRefusal, LaneLeft, Report, close};
 pub use gate::Gate;
@@ -16,4 +17,5 @@ pub use parts::{Parts, gateway};
 pub use port_in::PortIn;
 pub use port_out::PortOut;
 pub use refusals::{MakeRefusal, OfferRefusal};
-pub use running::{RunRefusal, RunReport, run, run_from};
+pub use running::{Ended, RunRefusal, RunReport, run, run_from, run_with};
+pub use sink::Sink;

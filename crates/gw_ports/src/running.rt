@@ -1,27 +1,29 @@
 //! Running a gateway in threads of its own.
 
-ghost use Rattle.std.specs.Prelude.{◌≡◌, ◌<◌, ◌⊎◌, ℕ, List, [], All, IfErr, IfOk, OnOk, length, map, slice_index, slice_index_or};
-ghost use Rattle.std.specs.Prelude.{IsTrue, vec_len};
+ghost use Rattle.std.specs.Prelude.{◌≡◌, ◌<◌, ◌⊎◌, ℕ, List, IfErr, IfOk, OnOk, IsTrue, length, map, slice_index, slice_index_or};
+ghost use Rattle.std.specs.Prelude.{vec_len};
 ghost use Rattle.std.specs.Vec.Iter.{into_iter_items, into_iter_len, into_iter_steps};
 ghost use Rattle.std.specs.Iterator.{UpTo};
 ghost use Rattle.std.specs.declared.vec.IntoIter.{IntoIter};
 ghost use Rattle.std.specs.declared.alloc.Global.{Global};
 ghost use Rattle.gw_board.specs.Refusals.{PortsBelow};
-ghost use Rattle.gw_ports.specs.Ends.{Ingress};
-ghost use Rattle.gw_ports.specs.Reports.{IsReport, IsReportOf};
-ghost use Rattle.gw_ports.specs.Runs.{IsOpened, IsRun, NoneLost, RefusesRun};
+ghost use Rattle.gw_policy.specs.Batches.{Pair};
+ghost use Rattle.gw_ports.specs.Reports.{HasRoom, IsReport, IsReportOf, ran_of};
+ghost use Rattle.gw_ports.specs.Running.{CanFeedAll};
+ghost use Rattle.gw_ports.specs.Runs.{IsOpened, IsRun, IsRunWith, NoneLost, RefusesRun};
 ghost use Rattle.gw_ports.specs.declared.running.RunRefusal.TheVariants.{OutOfMemory};
 
 use crate::closing::{CloseRefusal, close_ends};
-use crate::{Gate, MakeRefusal, OfferRefusal, Parts, PortIn, Report, gateway};
+use crate::{Gate, MakeRefusal, OfferRefusal, Parts, Report, Sink};
 use drain::{Work, start_drains};
 use feed::Intake;
-use gw_board::{ReplaceRefusal, Told};
+use gw_board::ReplaceRefusal;
 use gw_frame::Frame;
 use gw_ledger::{FrameCopy, Limits, Outcome};
 use gw_policy::Batch;
+use opening::open;
 use publishing::Publishing;
-use room::{Prepared, prepare};
+use room::{Prepared, kept_lists, prepare};
 use std::alloc::{AllocError, Global};
 use std::error::Error;
 use std::fmt;
@@ -34,6 +36,7 @@ use std::vec::IntoIter;
 mod drain;
 mod feed;
 mod gathering;
+mod opening;
 mod publishing;
 mod room;
 
@@ -50,6 +53,25 @@ pub struct RunReport {
     pub refused: Option<ReplaceRefusal>,
     /// By port, the copies that were taken out there, in order.
     pub out: Vec<Vec<FrameCopy>>,
+    /// What the gateway was at its end.
+    pub report: Report,
+}
+
+/// What a run did that handed its outcomes and copies to sinks.
+#[derive(Drop)]
+pub struct Ended<I, O, C> {
+    /// By port, what is left of its input.
+    pub inputs: Vec<I>,
+    /// By port, the sink that took the outcomes of its frames, in order.
+    pub outcomes: Vec<O>,
+    /// By port, why it stopped before its frames were at an end.
+    pub stops: Vec<Option<OfferRefusal>>,
+    /// How many batches were published after each of the batches.
+    pub fronts: Vec<u32>,
+    /// Why the batch after those was not published.
+    pub refused: Option<ReplaceRefusal>,
+    /// By port, the sink that took the copies that were taken out there, in order.
+    pub out: Vec<C>,
     /// What the gateway was at its end.
     pub report: Report,
 }
@@ -125,12 +147,14 @@ pub fn run<R: Threads + Wait + Sync, G: Gate>(
     gate: &G,
 ) -> Result<RunReport, RunRefusal>
     requires { vec_len inputs ≡ limits.ports }
-    ensures ran { IfOk result (λ report. (made : List (IntoIter (List ℕ) Global))
+    ensures ran { IfOk result (λ report. (made rests : List (IntoIter (List ℕ) Global))
         × (map into_iter_items made ≡ map (λ list. list.items) inputs.items)
-        × IsRun into_iter_steps limits first made batches.items report) }
-    ensures reported { IfOk result (IsReport limits first (map (λ list. list.items) inputs.items) batches.items) }
+        × IsRun into_iter_steps limits first made batches.items rests (ran_of report)) }
+    ensures reported { IfOk result (λ report.
+        IsReport limits first (map (λ list. list.items) inputs.items) batches.items (ran_of report)) }
+    ensures room { IfOk result (HasRoom limits.ports) }
     ensures ports { OnOk result (PortsBelow limits.ports first) }
-    ensures none_lost { IsTrue G.waits → IfOk result NoneLost }
+    ensures none_lost { IsTrue G.waits → IfOk result (λ report. NoneLost (ran_of report)) }
     // Memory for the lists' iterators is wanted before the first batch is looked at.
     ensures refused { IfErr result (λ why. (why ≡ OutOfMemory) ⊎ RefusesRun limits first why) }
 {
@@ -175,16 +199,99 @@ pub fn run_from<R: Threads + Wait + Sync, G: Gate, I: Iterator<Item = Frame> + S
     requires count { (vec_len inputs ≡ limits.ports) × (vec_len sizes ≡ limits.ports) }
     requires inputs { (k : ℕ) (d : I) → k < length inputs.items → I.can_next (slice_index_or inputs.items k d)
         × UpTo (I.remaining (slice_index_or inputs.items k d)) (slice_index sizes.items k) }
-    ensures ran { IfOk result (IsRun I.next_gives limits first inputs.items batches.items) }
-    ensures reported { IfOk result (IsReportOf I.next_gives limits first inputs.items batches.items) }
+    ensures ran { IfOk result (λ report. (rests : List I)
+        × IsRun I.next_gives limits first inputs.items batches.items rests (ran_of report)) }
+    ensures reported { IfOk result (λ report. (rests : List I)
+        × IsReportOf I.next_gives limits first inputs.items batches.items rests (ran_of report)) }
+    ensures room { IfOk result (HasRoom limits.ports) }
     ensures ports { OnOk result (PortsBelow limits.ports first) }
-    ensures none_lost { IsTrue G.waits → IfOk result NoneLost }
+    ensures none_lost { IsTrue G.waits → IfOk result (λ report. NoneLost (ran_of report)) }
     ensures refused { IfErr result (RefusesRun limits first) }
 {
     let parts = match open(rt, alloc, limits, first) {
         Ok(parts) => parts,
         Err(why) => return Err(why),
     };
+    let Ok((outcomes, out)) = kept_lists(alloc, limits, &sizes) else {
+        parts.operator.end(rt);
+        return Err(RunRefusal::OutOfMemory);
+    };
+    match run_opened(
+        rt, alloc, limits, parts, inputs, outcomes, out, batches, gate,
+    ) {
+        Ok(ended) => Ok(RunReport {
+            outcomes: ended.outcomes,
+            stops: ended.stops,
+            fronts: ended.fronts,
+            refused: ended.refused,
+            out: ended.out,
+            report: ended.report,
+        }),
+        Err(why) => Err(why),
+    }
+}
+
+/// Runs a gateway as `run_from` does, and hands what it would report to a sink of each port: to one of `outcomes` what became of
+/// the frames that were taken there, and to one of `out` the copies that left there. So it takes no memory that grows with the
+/// frames. It refuses as `run_from` does, and what it was given is dropped then. It may wait.
+pub fn run_with<R, G, I, O, C>(
+    rt: &R,
+    alloc: Global,
+    limits: Limits,
+    first: Batch,
+    inputs: Vec<I>,
+    outcomes: Vec<O>,
+    out: Vec<C>,
+    batches: Vec<Batch>,
+    gate: &G,
+) -> Result<Ended<I, O, C>, RunRefusal>
+where
+    R: Threads + Wait + Sync,
+    G: Gate,
+    I: Iterator<Item = Frame> + Send,
+    O: Sink<Outcome> + Send,
+    C: Sink<FrameCopy> + Send,
+    requires count { (vec_len inputs ≡ limits.ports) × (vec_len outcomes ≡ limits.ports) × (vec_len out ≡ limits.ports) }
+    requires inputs { CanFeedAll I.can_next I.remaining O.room limits.frames inputs.items outcomes.items }
+    ensures ran { IfOk result
+        (IsRunWith I.next_gives O.takes C.takes G.waits limits first inputs.items outcomes.items out.items batches.items) }
+    ensures ports { OnOk result (PortsBelow limits.ports first) }
+    ensures refused { IfErr result (RefusesRun limits first) }
+{
+    match open(rt, alloc, limits, first) {
+        Ok(parts) => run_opened(
+            rt, alloc, limits, parts, inputs, outcomes, out, batches, gate,
+        ),
+        Err(why) => Err(why),
+    }
+}
+
+// Runs a gateway whose ports know the first batch.
+fn run_opened<R, G, I, O, C>(
+    rt: &R,
+    alloc: Global,
+    limits: Limits,
+    parts: Parts,
+    inputs: Vec<I>,
+    outcomes: Vec<O>,
+    out: Vec<C>,
+    batches: Vec<Batch>,
+    gate: &G,
+) -> Result<Ended<I, O, C>, RunRefusal>
+where
+    R: Threads + Wait + Sync,
+    G: Gate,
+    I: Iterator<Item = Frame> + Send,
+    O: Sink<Outcome> + Send,
+    C: Sink<FrameCopy> + Send,
+    requires opened { (first : List Pair) × IsOpened limits first parts.operator parts.ins.items parts.outs.items }
+    requires count { (vec_len inputs ≡ limits.ports) × (vec_len outcomes ≡ limits.ports) × (vec_len out ≡ limits.ports) }
+    requires inputs { CanFeedAll I.can_next I.remaining O.room limits.frames inputs.items outcomes.items }
+    ensures ran { (first : List Pair) → IsOpened limits first parts.operator parts.ins.items parts.outs.items
+        → IfOk result
+        (IsRunWith I.next_gives O.takes C.takes G.waits limits first inputs.items outcomes.items out.items batches.items) }
+    ensures refused { (first : List Pair) → PortsBelow limits.ports first → IfErr result (RefusesRun limits first) }
+{
     let Parts {
         operator,
         ins,
@@ -193,11 +300,11 @@ pub fn run_from<R: Threads + Wait + Sync, G: Gate, I: Iterator<Item = Frame> + S
     let waits = gate.waits_for_room();
     let Ok(prepared) = prepare(
         alloc,
-        limits,
         ins,
         outs,
         inputs,
-        &sizes,
+        outcomes,
+        out,
         batches.len(),
         waits,
     ) else {
@@ -239,7 +346,8 @@ pub fn run_from<R: Threads + Wait + Sync, G: Gate, I: Iterator<Item = Frame> + S
     match close_ends(alloc, parts) {
         Ok((report, operator)) => {
             operator.end(rt);
-            Ok(RunReport {
+            Ok(Ended {
+                inputs: ingress.inputs,
                 outcomes: ingress.outcomes,
                 stops: ingress.stops,
                 fronts: published.fronts,
@@ -256,47 +364,5 @@ pub fn run_from<R: Threads + Wait + Sync, G: Gate, I: Iterator<Item = Frame> + S
             parts.operator.end(rt);
             Err(RunRefusal::NoReading)
         }
-    }
-}
-
-/// The parts of a new gateway, each port of which knows the first batch.
-fn open<R: Wait>(rt: &R, alloc: Global, limits: Limits, first: Batch) -> Result<Parts, RunRefusal>
-    ensures opened { IfOk result (λ parts. IsOpened limits first parts.operator parts.ins.items parts.outs.items) }
-    ensures ports { OnOk result (PortsBelow limits.ports first) }
-    ensures refused { IfErr result (RefusesRun limits first) }
-{
-    let mut parts = match gateway(alloc, limits) {
-        Ok(parts) => parts,
-        Err(why) => return Err(RunRefusal::NotMade(why)),
-    };
-    // A new operator has published nothing, may publish one batch at least, and is not stopped.
-    let _versions = limits.versions();
-    match parts.operator.replace(rt, first) {
-        Ok(_) => {}
-        Err(ReplaceRefusal::NoSuchPort(_)) => {
-            parts.operator.end(rt);
-            return Err(RunRefusal::NoSuchPort);
-        }
-        Err(ReplaceRefusal::OutOfMemory(_)) => {
-            parts.operator.end(rt);
-            return Err(RunRefusal::NotPublished);
-        }
-        Err(ReplaceRefusal::VersionsSpent(_)) => unreachable!(),
-        Err(ReplaceRefusal::Stopped(_)) => unreachable!(),
-    }
-    let told = parts.operator.tell();
-    learn_all(&mut parts.ins, &told);
-    Ok(parts)
-}
-
-// Advances ports that know nothing to the policy version that is told.
-fn learn_all(ports: &mut [PortIn], told: &Told)
-    requires { All (λ i. (i.board ≡ told.now.board) × (i.known ≡ [])) ports.old }
-    ensures size { length ports.new ≡ length ports.old }
-    ensures told { (k : ℕ) (d : Ingress) → k < length ports.old
-        → slice_index_or ports.new k d ≡ record (slice_index_or ports.old k d) { known = told.now.batches } }
-{
-    for index in 0..ports.len() {
-        ports[index].learn(told);
     }
 }

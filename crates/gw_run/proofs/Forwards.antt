@@ -12,6 +12,7 @@ use Rattle.gw_run.specs.declared.taking.Taking.{Taking}
 use Rattle.gw_run.specs.declared.refusal.ForwardRefusal.{ForwardRefusal}
 use Rattle.gw_run.specs.Forwarding.{IsFirst, IsForwarded, IsForwardRefusal, IsOctetsRun, IsTraceInput, IsTraceRun}
 use Rattle.gw_run.specs.declared.refusal.ForwardRefusal.TheVariants.{Stopped}
+use Rattle.gw_ports.specs.Reports.{ran_of}
 use Rattle.gw_ports.specs.Runs.{IsRun, NoneLost}
 use Rattle.gw_ports.specs.declared.running.RunReport.{RunReport}
 use Rattle.gw_run.specs.Forwarding.{AreShares, IsListRun, IsRunOn, IsStopOf, IsWhole, NoneStopped}
@@ -51,21 +52,25 @@ refused_of_trace taking limits first before after failed reads octets given refu
 
 -- a run on shares and one on lists, in which no batch is published
 pub run_on_shares : (limits : Bounds) (first : List Pair) (frames : List (List ℕ)) (inputs : List (List (List ℕ)))
-    (ports : ℕ) (batches : List (List Pair)) (report : RunReport) → AreShares ports frames inputs → ports ≡ limits.ports
-    → batches ≡ [] → IsRun (YieldsFirst (λ s. s)) limits first inputs batches report → IsRunOn limits first frames report
-run_on_shares limits first frames inputs ports batches report shared all none ran = record {
+    (ports : ℕ) (batches : List (List Pair)) (rests : List (List (List ℕ))) (report : RunReport) → AreShares ports frames inputs
+    → ports ≡ limits.ports → batches ≡ [] → IsRun (YieldsFirst (λ s. s)) limits first inputs batches rests (ran_of report)
+    → IsRunOn limits first frames report
+run_on_shares limits first frames inputs ports batches rests report shared all none ran = record {
   inputs = inputs;
   shared = subst (λ n. AreShares n frames inputs) all shared;
-  ran = subst (λ (b : List (List Pair)). IsRun (YieldsFirst (λ s. s)) limits first inputs b report) none ran;
+  rests = rests;
+  ran = subst (λ (b : List (List Pair)). IsRun (YieldsFirst (λ s. s)) limits first inputs b rests (ran_of report)) none ran;
 }
 
 pub run_on_lists : (limits : Bounds) (first : List Pair) (inputs : List (List (List ℕ))) (made : List (IntoIter (List ℕ) Global))
-    (batches : List (List Pair)) (report : RunReport) → map into_iter_items made ≡ inputs → batches ≡ []
-    → IsRun into_iter_steps limits first made batches report → IsListRun limits first inputs report
-run_on_lists limits first inputs made batches report items none ran = record {
+    (batches : List (List Pair)) (rests : List (IntoIter (List ℕ) Global)) (report : RunReport)
+    → map into_iter_items made ≡ inputs → batches ≡ []
+    → IsRun into_iter_steps limits first made batches rests (ran_of report) → IsListRun limits first inputs report
+run_on_lists limits first inputs made batches rests report items none ran = record {
   made = made;
   items = items;
-  ran = subst (λ (b : List (List Pair)). IsRun into_iter_steps limits first made b report) none ran;
+  rests = rests;
+  ran = subst (λ (b : List (List Pair)). IsRun into_iter_steps limits first made b rests (ran_of report)) none ran;
 }
 
 -- of a run of which a port stopped, and of one of which none did
@@ -75,6 +80,7 @@ stop_refuses Ran limits first report (Stopped port why) ran stop = (report, ran,
 stop_refuses Ran limits first report _ ran stop = absurd stop
 
 pub whole_run : (Ran : RunReport → Type 0) (waits : Bool) (report whole : RunReport) → Ran report
-    → (IsTrue waits → NoneLost report) → (whole ≡ report) × NoneStopped whole.stops.items → Ran whole × IsWhole waits whole
+    → (IsTrue waits → NoneLost (ran_of report)) → (whole ≡ report) × NoneStopped whole.stops.items
+    → Ran whole × IsWhole waits whole
 whole_run Ran waits report whole ran kept is =
-    (subst Ran (sym is.0) ran, (is.1, λ wait. subst NoneLost (sym is.0) (kept wait)))
+    (subst Ran (sym is.0) ran, (is.1, λ wait. subst (λ (r : RunReport). NoneLost (ran_of r)) (sym is.0) (kept wait)))

@@ -17,6 +17,7 @@ use Rattle.gw_ledger.specs.Bounds.{Bounds}
 use Rattle.gw_ledger.specs.Ports.{has_port}
 use Rattle.gw_ledger.specs.declared.ledger.InLedger.{InLedger}
 use Rattle.gw_ledger.specs.declared.outcome.Outcome.{Outcome}
+use Rattle.gw_ports.specs.Reports.{ran_of}
 use Rattle.gw_ports.specs.Runs.{IsRun, NoneLost, RefusesRun}
 use Rattle.gw_ports.specs.declared.refusals.OfferRefusal.{OfferRefusal}
 use Rattle.gw_ports.specs.declared.running.RunRefusal.TheVariants.{NoSuchPort}
@@ -94,13 +95,15 @@ pub record AreShares (ports : ℕ) (frames : List (List ℕ)) (inputs : List (Li
 pub record IsRunOn (limits : Bounds) (first : List Pair) (frames : List (List ℕ)) (report : RunReport) : Type 0 where
   pub inputs : List (List (List ℕ))
   pub shared : AreShares limits.ports frames inputs
-  pub ran : IsRun (YieldsFirst (λ s. s)) limits first inputs [] report
+  pub rests : List (List (List ℕ))
+  pub ran : IsRun (YieldsFirst (λ s. s)) limits first inputs [] rests (ran_of report)
 
 -- a gateway that begins with this batch was run on these lists of frames, one for each port, and this is its report
 pub record IsListRun (limits : Bounds) (first : List Pair) (inputs : List (List (List ℕ))) (report : RunReport) : Type 0 where
   pub made : List (IntoIter (List ℕ) Global)
   pub items : map into_iter_items made ≡ inputs
-  pub ran : IsRun into_iter_steps limits first made [] report
+  pub rests : List (IntoIter (List ℕ) Global)
+  pub ran : IsRun into_iter_steps limits first made [] rests (ran_of report)
 
 -- a gateway was run on the frames of the lines of a log whose interface is named for the ports
 abbrev pub LogRuns : List NamedInterface → Bounds → List Pair → List ℕ → RunReport → Type 0
@@ -120,7 +123,7 @@ NoneStopped stops = All (λ stop. stop ≡ None) stops
 
 -- no port of the run stopped, and where a copy that finds its lane full waits for room, none was lost
 abbrev pub IsWhole : Bool → RunReport → Type 0
-IsWhole waits report = NoneStopped report.stops.items × (IsTrue waits → NoneLost report)
+IsWhole waits report = NoneStopped report.stops.items × (IsTrue waits → NoneLost (ran_of report))
 
 -- this port is the least that stopped
 pub record IsFirstStop (stops : List (Option OfferRefusal)) (port : ℕ) (why : OfferRefusal) : Type 0 where

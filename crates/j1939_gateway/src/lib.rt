@@ -24,8 +24,8 @@ pub use gw_ledger::{BadLimit, FrameCopy, InLedger, Limits, OutLedger, Outcome, P
 pub use gw_machine::{State, one_answer, run as run_program, soundness};
 pub use gw_policy::{Batch, BatchRefusal, Policy, PolicySet};
 pub use gw_ports::{
-    CloseRefusal, Gate, LaneLeft, MakeRefusal, OfferRefusal, Parts, PortIn, PortOut, Report,
-    RunRefusal, RunReport, close, gateway, run, run_from,
+    CloseRefusal, Ended, Gate, LaneLeft, MakeRefusal, OfferRefusal, Parts, PortIn, PortOut, Report,
+    RunRefusal, RunReport, Sink, close, gateway, run, run_from, run_with,
 };
 pub use gw_replay::{ReplayFault, replay, replay_told};
 pub use gw_table::{

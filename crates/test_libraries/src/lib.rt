@@ -55,6 +55,8 @@ mod replay;
 #[cfg(test)]
 mod running;
 #[cfg(test)]
+mod sinks;
+#[cfg(test)]
 mod streams;
 #[cfg(test)]
 mod table;

@@ -18,12 +18,12 @@ ghost use Rattle.std.specs.Prelude.{
 ghost use Rattle.gw_claims.specs.Holders.{HoldsAfter};
 ghost use Rattle.gw_ports.specs.Ends.{end_in};
 ghost use Rattle.gw_ports.specs.Offers.{IsPlaced, Offered};
-ghost use Rattle.gw_ports.specs.Running.{CanFeed, CanOffer, IsDone, Pairwise, Publishes};
+ghost use Rattle.gw_ports.specs.Running.{CanFeed, CanOffer, HasFed, Pairwise, Publishes};
 ghost use Rattle.gw_ports.specs.declared.refusals.OfferRefusal.TheVariants.{FramesSpent};
 
 use super::publishing::{Published, Publishing};
 use crate::enqueue::Awaited;
-use crate::{Gate, OfferRefusal, PortIn};
+use crate::{Gate, OfferRefusal, PortIn, Sink};
 use gw_frame::Frame;
 use gw_ledger::Outcome;
 use std::marker::{Send, Sync};
@@ -31,69 +31,71 @@ use std::snapshot::Snapshot;
 use std::sync::Wait;
 use std::thread::{Promise, Scope, Threads, scope, scope_env};
 
-/// An ingress port that is to offer frames, with room for their outcomes.
+/// An ingress port that is to offer frames, and the sink that their outcomes are handed to.
 #[derive(Drop)]
-pub(super) struct Feed<I> {
+pub(super) struct Feed<I, O> {
     pub port: PortIn,
     pub input: I,
-    pub outcomes: Vec<Outcome>,
+    pub outcomes: O,
     /// Whether a copy that finds its lane full waits for room, and is not lost.
     pub waits: bool,
 }
 
 /// What the ingress threads of a run begin with, and the thread that publishes.
 #[derive(Drop)]
-pub(super) struct Intake<I> {
-    pub feeds: Vec<Feed<I>>,
+pub(super) struct Intake<I, O> {
+    pub feeds: Vec<Feed<I, O>>,
     /// Empty, with room for as many.
-    pub done: Vec<Done>,
+    pub done: Vec<Done<I, O>>,
     pub publishing: Publishing,
 }
 
-/// An ingress port that has offered its frames, up to the one that was refused.
+/// An ingress port that has offered its frames, up to the one that was refused, and what is left of them.
 #[derive(Drop)]
-pub(super) struct Done {
+pub(super) struct Done<I, O> {
     pub port: PortIn,
-    pub outcomes: Vec<Outcome>,
+    pub input: I,
+    pub outcomes: O,
     pub stop: Option<OfferRefusal>,
 }
 
 // What is known of an ingress port that has offered its frames.
 #[derive(Drop)]
-struct FeedPromise<I>(Snapshot<Feed<I>>);
+struct FeedPromise<I, O>(Snapshot<Feed<I, O>>);
 
-impl<I: Iterator<Item = Frame>> Promise<Done> for FeedPromise<I> {
-    ghost use Rattle.gw_ports.specs.Running.{IsDone};
+impl<I: Iterator<Item = Frame>, O: Sink<Outcome>> Promise<Done<I, O>> for FeedPromise<I, O> {
+    ghost use Rattle.gw_ports.specs.Running.{HasFed};
 
-    ghost kept_by = { λ p done. IsDone I.next_gives p.0.value done };
+    ghost kept_by = { λ p done. HasFed I.next_gives O.takes p.0.value done };
 }
 
 // Offers the frames of a port, until one is refused.
-fn offer_frames<R: Wait, I: Iterator<Item = Frame>, G: Gate>(
+fn offer_frames<R: Wait, I: Iterator<Item = Frame>, O: Sink<Outcome>, G: Gate>(
     rt: &R,
-    feed: Feed<I>,
+    feed: Feed<I, O>,
     gate: &G,
-) -> Done
-    requires { CanOffer I.can_next I.remaining feed }
-    ensures { IsDone I.next_gives feed result }
+) -> Done<I, O>
+    requires { CanOffer I.can_next I.remaining O.room feed }
+    ensures { HasFed I.next_gives O.takes feed result }
 {
     let Feed {
         mut port,
-        input,
+        mut input,
         mut outcomes,
         waits,
     } = feed;
     let number = port.number();
-    for frame in input {
-        let index = outcomes.len();
+    while let Some(frame) = input.next() {
+        let index = port.ledger().taken as usize;
         gate.enter(number, index);
         let offered = offer_one(rt, &mut port, frame, waits);
         gate.leave(number, index);
         match offered {
-            Ok(outcome) => outcomes.push_reserved(outcome),
+            Ok(outcome) => outcomes.take(outcome),
             Err(why) => {
                 return Done {
                     port,
+                    input,
                     outcomes,
                     stop: Some(why),
                 };
@@ -102,6 +104,7 @@ fn offer_frames<R: Wait, I: Iterator<Item = Frame>, G: Gate>(
     }
     Done {
         port,
+        input,
         outcomes,
         stop: None,
     }
@@ -130,18 +133,19 @@ fn offer_one<R: Wait>(
 }
 
 // Starts a thread for each of the ports, from the last one down, publishes, and joins them. None where no thread could be made.
-fn feed_all<'s, E, R, G, I>(
+fn feed_all<'s, E, R, G, I, O>(
     threads: &'s Scope<'s, E>,
     rt: &'s R,
     gate: &'s G,
-    mut intake: Intake<I>,
-) -> Option<(Vec<Done>, Published)>
+    mut intake: Intake<I, O>,
+) -> Option<(Vec<Done<I, O>>, Published)>
 where
     R: Threads + Wait + Sync,
     G: Gate,
     I: Iterator<Item = Frame> + Send + 's,
-    requires ready { CanFeed I.can_next I.remaining intake }
-    ensures done { IfSome result (λ r. Pairwise (IsDone I.next_gives) intake.feeds.items r.0.items
+    O: Sink<Outcome> + Send + 's,
+    requires ready { CanFeed I.can_next I.remaining O.room intake }
+    ensures done { IfSome result (λ r. Pairwise (HasFed I.next_gives O.takes) intake.feeds.items r.0.items
         × (vec_capacity r.0 ≡ vec_capacity intake.done)) }
     ensures published { IfSome result (λ r. Publishes intake.publishing.operator intake.publishing.batches.items
         r.1.fronts.items r.1.refused r.1.operator) }
@@ -152,8 +156,8 @@ where
             let promise = FeedPromise(Snapshot::of(&feed));
             let Ok(thread) = threads.spawn_with(
                 promise,
-                move || -> Done
-                    requires { CanOffer I.can_next I.remaining feed }
+                move || -> Done<I, O>
+                    requires { CanOffer I.can_next I.remaining O.room feed }
                 { offer_frames(rt, feed, gate) },
             ) else {
                 return None;
@@ -168,25 +172,26 @@ where
 }
 
 /// Starts the threads that offer, publishes, and joins them. None where no thread could be made.
-pub(super) fn start_feeds<R, G, I>(
+pub(super) fn start_feeds<R, G, I, O>(
     rt: &R,
     gate: &G,
-    intake: Intake<I>,
-) -> Option<(Vec<Done>, Published)>
+    intake: Intake<I, O>,
+) -> Option<(Vec<Done<I, O>>, Published)>
 where
     R: Threads + Wait + Sync,
     G: Gate,
     I: Iterator<Item = Frame> + Send,
-    requires ready { CanFeed I.can_next I.remaining intake }
-    ensures done { IfSome result (λ r. Pairwise (IsDone I.next_gives) intake.feeds.items r.0.items) }
+    O: Sink<Outcome> + Send,
+    requires ready { CanFeed I.can_next I.remaining O.room intake }
+    ensures done { IfSome result (λ r. Pairwise (HasFed I.next_gives O.takes) intake.feeds.items r.0.items) }
     ensures published { IfSome result (λ r. Publishes intake.publishing.operator intake.publishing.batches.items
         r.1.fronts.items r.1.refused r.1.operator) }
 {
     scope(
         scope_env(),
         rt,
-        move |threads| -> Option<(Vec<Done>, Published)>
-            requires { CanFeed I.can_next I.remaining intake }
+        move |threads| -> Option<(Vec<Done<I, O>>, Published)>
+            requires { CanFeed I.can_next I.remaining O.room intake }
         { feed_all(threads, rt, gate, intake) },
     )
 }

@@ -3,73 +3,65 @@
 use super::drain::Drain;
 use super::feed::Done;
 use crate::{OfferRefusal, PortIn, PortOut};
-use gw_ledger::{FrameCopy, Outcome};
 use std::alloc::{AllocError, Global};
 
-/// The ingress ports with what became of their frames, by port.
+/// The ingress ports by number, with what is left of their inputs, their sinks, and why they stopped.
 #[derive(Drop)]
-pub(super) struct IngressPorts {
+pub(super) struct IngressPorts<I, O> {
     pub ports: Vec<PortIn>,
-    pub outcomes: Vec<Vec<Outcome>>,
+    pub inputs: Vec<I>,
+    pub outcomes: Vec<O>,
     pub stops: Vec<Option<OfferRefusal>>,
 }
 
-impl IngressPorts {
+impl<I: Drop, O: Drop> IngressPorts<I, O> {
     ghost use Rattle.std.specs.Prelude.{◌≡◌, ◌≤◌, [], IfOk, map, vec_capacity, vec_len};
+    ghost use Rattle.gw_ports.specs.Running.{HasRoomIn};
 
     /// None yet, and room for so many.
-    pub fn with_room(alloc: Global, ports: usize) -> Result<IngressPorts, AllocError>
-        ensures empty { IfOk result (λ made. (made.ports.items ≡ []) × (made.outcomes.items ≡ []) × (made.stops.items ≡ [])) }
-        ensures room { IfOk result (λ made. (ports ≤ vec_capacity made.ports) × (ports ≤ vec_capacity made.outcomes)
-            × (ports ≤ vec_capacity made.stops)) }
+    pub fn with_room(alloc: Global, ports: usize) -> Result<IngressPorts<I, O>, AllocError>
+        ensures { IfOk result (HasRoomIn ports) }
     {
         Ok(IngressPorts {
             ports: Vec::with_capacity(alloc, ports)?,
+            inputs: Vec::with_capacity(alloc, ports)?,
             outcomes: Vec::with_capacity(alloc, ports)?,
             stops: Vec::with_capacity(alloc, ports)?,
         })
     }
 
-    pub fn gather(self, done: Vec<Done>) -> IngressPorts
-        requires empty { (self.ports.items ≡ []) × (self.outcomes.items ≡ []) × (self.stops.items ≡ []) }
-        requires room { (vec_len done ≤ vec_capacity self.ports) × (vec_len done ≤ vec_capacity self.outcomes)
-            × (vec_len done ≤ vec_capacity self.stops) }
+    pub fn gather(self, done: Vec<Done<I, O>>) -> IngressPorts<I, O>
+        requires { HasRoomIn (vec_len done) self }
         ensures ports { result.ports.items ≡ map (λ one. one.port) done.items }
+        ensures inputs { result.inputs.items ≡ map (λ one. one.input) done.items }
         ensures outcomes { result.outcomes.items ≡ map (λ one. one.outcomes) done.items }
         ensures stops { result.stops.items ≡ map (λ one. one.stop) done.items }
     {
-        let IngressPorts {
-            mut ports,
-            mut outcomes,
-            mut stops,
-        } = self;
+        let mut gathered = self;
         for one in done {
-            ports.push_reserved(one.port);
-            outcomes.push_reserved(one.outcomes);
-            stops.push_reserved(one.stop);
+            gathered.ports.push_reserved(one.port);
+            gathered.inputs.push_reserved(one.input);
+            gathered.outcomes.push_reserved(one.outcomes);
+            gathered.stops.push_reserved(one.stop);
         }
-        IngressPorts {
-            ports,
-            outcomes,
-            stops,
-        }
+        gathered
     }
 }
 
-/// The egress ports with the copies that were taken out there, by port.
+/// The egress ports by number, and their sinks.
 #[derive(Drop)]
-pub(super) struct EgressPorts {
+pub(super) struct EgressPorts<C> {
     pub ports: Vec<PortOut>,
-    pub out: Vec<Vec<FrameCopy>>,
+    pub out: Vec<C>,
 }
 
-impl EgressPorts {
+impl<C: Drop> EgressPorts<C> {
     ghost use Rattle.std.specs.Prelude.{◌≡◌, ◌≤◌, [], IfOk, map, vec_capacity, vec_len};
+    ghost use Rattle.gw_ports.specs.Running.{HasRoomOut};
 
     /// None yet, and room for so many.
-    pub fn with_room(alloc: Global, ports: usize) -> Result<EgressPorts, AllocError>
-        ensures empty { IfOk result (λ made. (made.ports.items ≡ []) × (made.out.items ≡ [])) }
-        ensures room { IfOk result (λ made. (ports ≤ vec_capacity made.ports) × (ports ≤ vec_capacity made.out)) }
+    pub fn with_room(alloc: Global, ports: usize) -> Result<EgressPorts<C>, AllocError>
+        ensures { IfOk result (HasRoomOut ports) }
     {
         Ok(EgressPorts {
             ports: Vec::with_capacity(alloc, ports)?,
@@ -77,17 +69,16 @@ impl EgressPorts {
         })
     }
 
-    pub fn gather(self, drained: Vec<Drain>) -> EgressPorts
-        requires empty { (self.ports.items ≡ []) × (self.out.items ≡ []) }
-        requires room { (vec_len drained ≤ vec_capacity self.ports) × (vec_len drained ≤ vec_capacity self.out) }
+    pub fn gather(self, drained: Vec<Drain<C>>) -> EgressPorts<C>
+        requires { HasRoomOut (vec_len drained) self }
         ensures ports { result.ports.items ≡ map (λ one. one.port) drained.items }
         ensures out { result.out.items ≡ map (λ one. one.out) drained.items }
     {
-        let EgressPorts { mut ports, mut out } = self;
+        let mut gathered = self;
         for one in drained {
-            ports.push_reserved(one.port);
-            out.push_reserved(one.out);
+            gathered.ports.push_reserved(one.port);
+            gathered.out.push_reserved(one.out);
         }
-        EgressPorts { ports, out }
+        gathered
     }
 }

@@ -10,7 +10,7 @@ returns-in-Ok-clause-ran g c =
     let ran = c.in-Ok.ensures.ran in
     IfOk-weaker c.unstopped.result _ _
     (λ whole is. whole_run (IsListRun c.args.limits c.args.first inputs) g.G.Gate.waits c.in-Ok.report whole
-    (run_on_lists c.args.limits c.args.first inputs ran.0 c.new.result.items c.in-Ok.report ran.1 c.new.ensures.items ran.2)
+    (run_on_lists c.args.limits c.args.first inputs ran.0 c.new.result.items ran.1 c.in-Ok.report ran.2 c.new.ensures.items ran.3)
     c.in-Ok.ensures.none_lost is)
     c.unstopped.ensures.whole
 
@@ -20,6 +20,6 @@ returns-in-Ok-clause-refused g c =
     let ran = c.in-Ok.ensures.ran in
     IfErr-weaker c.unstopped.result _ _
     (λ refusal stop. stop_refuses (IsListRun c.args.limits c.args.first inputs) c.args.limits c.args.first c.in-Ok.report refusal
-    (run_on_lists c.args.limits c.args.first inputs ran.0 c.new.result.items c.in-Ok.report ran.1 c.new.ensures.items ran.2)
+    (run_on_lists c.args.limits c.args.first inputs ran.0 c.new.result.items ran.1 c.in-Ok.report ran.2 c.new.ensures.items ran.3)
     stop)
     c.unstopped.ensures.stopped

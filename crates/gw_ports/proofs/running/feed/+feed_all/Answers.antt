@@ -1,6 +1,6 @@
 use Rattle.std.proofs.Common.{◌≡◌, ◌∙◌, [], rules, arith, ap, refl, subst}
 use Rattle.std.proofs.lemmas.List.{nil_from_length}
-use Rattle.gw_ports.specs.Running.{CanOffer, IsDone}
+use Rattle.gw_ports.specs.Running.{CanOffer, HasFed}
 use Rattle.gw_ports.specs.declared.running.feed.Done.{Done}
 use Rattle.gw_ports.specs.declared.running.feed.Feed.{Feed}
 use Rattle.gw_ports.proofs.Runs.{all_last, pairwise_length, pairwise_none, pairwise_push}
@@ -8,7 +8,8 @@ use Rattle.gw_ports.proofs.running.feed.+feed_all.Goals as goal
 
 pub returns-in-None-clause-done : goal.returns-in-None-clause-done
 returns-in-None-clause-done g t c =
-    let R : Feed g.row.I.Denot → Done → Type 0 = IsDone g.I.Iterator.next_gives in
+    let R : Feed g.row.I.Denot g.row.O.Denot → Done g.row.I.Denot g.row.O.Denot → Type 0 =
+    HasFed g.I.Iterator.next_gives g.O.Sink.takes in
     let size = c.args.intake.feeds.ok.0 in
     let none : c.args.intake.feeds.items ≡ [] =
     nil_from_length c.args.intake.feeds.items (let count = c.in-None.ensures.cases.0 in omega arith) in (
@@ -18,15 +19,17 @@ returns-in-None-clause-done g t c =
 
 -- What holds of all ports holds of the last, and of those before it.
 pub spawn_with-requires-clause-runs : goal.spawn_with-requires-clause-runs
-spawn_with-requires-clause-runs g t c = λ κs within.
-    let P : Feed g.row.I.Denot → Type 0 = CanOffer g.I.Iterator.can_next g.I.Iterator.remaining in
-    let all = c.requires.ready.each in
-    let last = all_last P c.pop.new.self.items c.args.intake.feeds.items c.in-Some.feed c.in-Some.ensures.items all in
-    (last.1, search rules)
+spawn_with-requires-clause-runs g t c = λ κs within. (
+  (let P : Feed g.row.I.Denot g.row.O.Denot → Type 0 =
+      CanOffer g.I.Iterator.can_next g.I.Iterator.remaining g.O.Sink.room in
+      (all_last P c.pop.new.self.items c.args.intake.feeds.items c.in-Some.feed c.in-Some.ensures.items c.requires.ready.each).1),
+  (search rules, search rules, search rules, search rules),
+)
 
 pub feed_all-others-requires-clause-ready : goal.feed_all-others-requires-clause-ready
 feed_all-others-requires-clause-ready g t c κs within =
-    let P : Feed g.row.I.Denot → Type 0 = CanOffer g.I.Iterator.can_next g.I.Iterator.remaining in
+    let P : Feed g.row.I.Denot g.row.O.Denot → Type 0 =
+    CanOffer g.I.Iterator.can_next g.I.Iterator.remaining g.O.Sink.room in
     let size = c.args.intake.feeds.ok.0 in
     let rest = c.pop.new.self.ok.0 in
     let less = c.in-Some.ensures.len in
@@ -41,7 +44,8 @@ feed_all-others-requires-clause-ready g t c κs within =
 
 pub push_reserved-requires : goal.push_reserved-requires
 push_reserved-requires g t c =
-    let R : Feed g.row.I.Denot → Done → Type 0 = IsDone g.I.Iterator.next_gives in
+    let R : Feed g.row.I.Denot g.row.O.Denot → Done g.row.I.Denot g.row.O.Denot → Type 0 =
+    HasFed g.I.Iterator.next_gives g.O.Sink.takes in
     let others = c.in_ok-done-in-Some.ensures.done in
     let many = pairwise_length R c.pop.new.self.items c.in_ok-done-in-Some.done.items others.0 in
     let room = others.1 in
@@ -53,11 +57,12 @@ push_reserved-requires g t c =
 
 pub returns-in_ok-done-in-Some-clause-done : goal.returns-in_ok-done-in-Some-clause-done
 returns-in_ok-done-in-Some-clause-done g t c =
-    let R : Feed g.row.I.Denot → Done → Type 0 = IsDone g.I.Iterator.next_gives in
+    let R : Feed g.row.I.Denot g.row.O.Denot → Done g.row.I.Denot g.row.O.Denot → Type 0 =
+    HasFed g.I.Iterator.next_gives g.O.Sink.takes in
     let others = c.in_ok-done-in-Some.ensures.done in
     let value = ap (λ p. p.0.value) c.in-Ok.ensures.ok ∙ c.of.ensures in
     let own : R c.in-Some.feed c.join-one.result =
-    subst (λ (o : Feed g.row.I.Denot). R o c.join-one.result) value c.join-one.ensures in (
+    subst (λ (o : Feed g.row.I.Denot g.row.O.Denot). R o c.join-one.result) value c.join-one.ensures in (
       pairwise_push R c.pop.new.self.items c.args.intake.feeds.items c.in_ok-done-in-Some.done.items
           c.push_reserved.new.self.items c.in-Some.feed c.join-one.result c.in-Some.ensures.items
           c.push_reserved.ensures.items others.0 own,

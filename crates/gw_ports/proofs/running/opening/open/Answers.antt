@@ -9,7 +9,7 @@ use Rattle.gw_ports.specs.Running.{with_batches}
 use Rattle.gw_ports.specs.Runs.{IsOpened}
 use Rattle.gw_ports.proofs.OneGateway.{new_gateway}
 use Rattle.gw_ports.proofs.Opening.{new_ends_know}
-use Rattle.gw_ports.proofs.running.open.Goals as goal
+use Rattle.gw_ports.proofs.running.opening.open.Goals as goal
 
 pub returns-clause-opened : goal.returns-clause-opened
 returns-clause-opened g c =

@@ -5,7 +5,7 @@ use Rattle.gw_board.specs.Lists.{longer}
 use Rattle.gw_policy.specs.Batches.{Pair}
 use Rattle.gw_ports.specs.Ends.{Ingress}
 use Rattle.gw_ports.proofs.SettlingAll.{Settles, one_more_settled}
-use Rattle.gw_ports.proofs.running.learn_all.Goals as goal
+use Rattle.gw_ports.proofs.running.opening.learn_all.Goals as goal
 
 longer_nothing : (batches : List (List Pair)) → longer [] batches ≡ batches
 longer_nothing [] = refl
