@@ -2,7 +2,7 @@
 -- writer took.
 use Rattle.std.specs.Prelude.{◌≡◌, ℕ, ◌<◌, ◌⊎◌, ◌==◌, Bool, true, false, not, ◌&&◌, if◌then◌else◌, List, [], ◌∷◌, ◌++◌, length}
 use Rattle.std.specs.Prelude.{codes, decimal, slice_get, slice_index_or, map, Option, Some, None, Result, Ok, Err, MatchResult}
-use Rattle.std.specs.Prelude.{All, Any, IsTrue}
+use Rattle.std.specs.Prelude.{◌≤◌, All, Any, IsTrue, Vec, slice_index, vec_capacity}
 use Rattle.std.specs.Option.{option_map_or}
 use Rattle.std.specs.List.{flat_map, count_by, join_by, sum_by, range_with_len}
 use Rattle.std.specs.Io.KnownBytes.{IsAtEnd, Consumes}
@@ -17,11 +17,10 @@ use Rattle.gw_ledger.specs.Bounds.{Bounds}
 use Rattle.gw_ledger.specs.Ports.{has_port}
 use Rattle.gw_ledger.specs.declared.ledger.InLedger.{InLedger}
 use Rattle.gw_ledger.specs.declared.outcome.Outcome.{Outcome}
-use Rattle.gw_ports.specs.Reports.{ran_of}
+use Rattle.gw_ports.specs.Reports.{Ran}
 use Rattle.gw_ports.specs.Runs.{IsRun, NoneLost, RefusesRun}
 use Rattle.gw_ports.specs.declared.refusals.OfferRefusal.{OfferRefusal}
 use Rattle.gw_ports.specs.declared.running.RunRefusal.TheVariants.{NoSuchPort}
-use Rattle.gw_ports.specs.declared.running.RunReport.{RunReport}
 use Rattle.gw_io.specs.Pieces.{most_reads}
 use Rattle.gw_trace.specs.Shares.{share_of}
 use Rattle.gw_trace.specs.Traces.{whole_trace}
@@ -38,6 +37,7 @@ use Rattle.gw_run.specs.declared.refusal.ForwardRefusal.TheVariants as refuses
 use Rattle.gw_run.specs.declared.refusal.ForwardRefusal.TheVariants.{Command, Trace, Run, Stopped}
 use Rattle.gw_run.specs.declared.lines.Shown.{Shown}
 use Rattle.gw_run.specs.declared.lines.Shown.TheVariants.{Lines, Json}
+use Rattle.gw_run.specs.declared.kept.Kept.{Kept}
 use Rattle.gw_run.specs.declared.policy_lines.Counted.{Counted}
 use Rattle.gw_run.specs.declared.policy_lines.Counted.TheVariants.{Judged, Passed, Lost}
 use Rattle.gw_judge.specs.declared.interfaces.NamedInterface.{NamedInterface}
@@ -91,49 +91,64 @@ pub record AreShares (ports : ℕ) (frames : List (List ℕ)) (inputs : List (Li
   pub enough : length inputs ≡ ports
   pub each : (k : ℕ) (d : List (List ℕ)) → k < ports → slice_index_or inputs k d ≡ share_of k ports frames
 
--- a gateway that begins with this batch was run on the shares of the frames, and this is its report
-pub record IsRunOn (limits : Bounds) (first : List Pair) (frames : List (List ℕ)) (report : RunReport) : Type 0 where
+-- a gateway that begins with this batch was run on the shares of the frames, and did this
+pub record IsRunOn (limits : Bounds) (first : List Pair) (frames : List (List ℕ)) (ran : Ran) : Type 0 where
   pub inputs : List (List (List ℕ))
   pub shared : AreShares limits.ports frames inputs
   pub rests : List (List (List ℕ))
-  pub ran : IsRun (YieldsFirst (λ s. s)) limits first inputs [] rests (ran_of report)
+  pub is_run : IsRun (YieldsFirst (λ s. s)) limits first inputs [] rests ran
 
--- a gateway that begins with this batch was run on these lists of frames, one for each port, and this is its report
-pub record IsListRun (limits : Bounds) (first : List Pair) (inputs : List (List (List ℕ))) (report : RunReport) : Type 0 where
+-- a gateway that begins with this batch was run on these lists of frames, one for each port, and did this
+pub record IsListRun (limits : Bounds) (first : List Pair) (inputs : List (List (List ℕ))) (ran : Ran) : Type 0 where
   pub made : List (IntoIter (List ℕ) Global)
   pub items : map into_iter_items made ≡ inputs
   pub rests : List (IntoIter (List ℕ) Global)
-  pub ran : IsRun into_iter_steps limits first made [] rests (ran_of report)
+  pub is_run : IsRun into_iter_steps limits first made [] rests ran
 
 -- a gateway was run on the frames of the lines of a log whose interface is named for the ports
-abbrev pub LogRuns : List NamedInterface → Bounds → List Pair → List ℕ → RunReport → Type 0
-LogRuns names limits first octets report =
-    (no_log octets ≡ None) × IsListRun limits first (named_inputs names limits.ports octets) report
+abbrev pub LogRuns : List NamedInterface → Bounds → List Pair → List ℕ → Ran → Type 0
+LogRuns names limits first octets ran =
+    (no_log octets ≡ None) × IsListRun limits first (named_inputs names limits.ports octets) ran
 
 -- a gateway was run on what the ports take of the octets of an input: their shares of the frames of a trace, or the frames of
 -- the lines of a log whose interface is named for them
-abbrev pub IsRunOf : Taking → Bounds → List Pair → List ℕ → RunReport → Type 0
-IsRunOf InTurn limits first octets report =
-    (frames : List (List ℕ)) × (whole_trace octets ≡ Ok frames) × IsRunOn limits first frames report
-IsRunOf (ByInterface names) limits first octets report = LogRuns names.now limits first octets report
+abbrev pub IsRunOf : Taking → Bounds → List Pair → List ℕ → Ran → Type 0
+IsRunOf InTurn limits first octets ran =
+    (frames : List (List ℕ)) × (whole_trace octets ≡ Ok frames) × IsRunOn limits first frames ran
+IsRunOf (ByInterface names) limits first octets ran = LogRuns names.now limits first octets ran
+
+-- by port, an empty list with room for the outcomes of so many frames
+pub record AreEmptyFor (sizes : List ℕ) (lists : List (Vec Outcome Global)) : Type 0 where
+  pub count : length lists ≡ length sizes
+  pub empty : All (λ list. list.items ≡ []) lists
+  pub room : (k : ℕ) (d : Vec Outcome Global) → k < length lists
+      → slice_index sizes k ≤ vec_capacity (slice_index_or lists k d)
 
 -- no port stopped before its frames were at an end
 abbrev pub NoneStopped : List (Option OfferRefusal) → Type 0
 NoneStopped stops = All (λ stop. stop ≡ None) stops
 
 -- no port of the run stopped, and where a copy that finds its lane full waits for room, none was lost
-abbrev pub IsWhole : Bool → RunReport → Type 0
-IsWhole waits report = NoneStopped report.stops.items × (IsTrue waits → NoneLost (ran_of report))
+abbrev pub IsWhole : Bool → Ran → Type 0
+IsWhole waits ran = NoneStopped ran.stops × (IsTrue waits → NoneLost ran)
+
+-- what is kept of a run is what its ports counted, and what became of their frames
+abbrev pub IsKeptOf : Kept → Ran → Type 0
+IsKeptOf kept ran = (kept.ledgers.items ≡ ran.report.ins.items) × (map (λ list. list.items) kept.outcomes.items ≡ ran.outcomes)
+
+-- what is kept is of a whole run, of which this holds
+abbrev pub KeepsRun : (Ran → Type 0) → Bool → Kept → Type 0
+KeepsRun Runs waits kept = (ran : Ran) × IsKeptOf kept ran × Runs ran × IsWhole waits ran
 
 -- this port is the least that stopped
 pub record IsFirstStop (stops : List (Option OfferRefusal)) (port : ℕ) (why : OfferRefusal) : Type 0 where
   pub stopped : slice_get stops port ≡ Some (Some why)
   pub before : (k : ℕ) (d : Option OfferRefusal) → k < port → slice_index_or stops k d ≡ None
 
--- a port of the run stopped, and this is what refuses it for that
-abbrev pub IsStopOf : RunReport → ForwardRefusal → Type 0
-IsStopOf report (Stopped port why) = IsFirstStop report.stops.items port why
-IsStopOf report _ = ⊥
+-- a port of a run stopped, and this is what refuses it for that
+abbrev pub IsStopOf : List (Option OfferRefusal) → ForwardRefusal → Type 0
+IsStopOf stops (Stopped port why) = IsFirstStop stops port why
+IsStopOf stops _ = ⊥
 
 -- ---- the lines
 
@@ -204,10 +219,9 @@ unfoldable pub policy_lines : ℕ → List (List Outcome) → List ℕ
 policy_lines ports outcomes = flat_map (policy_line outcomes) (range_with_len 0 ports)
 
 -- a line for each port, and behind them those of the policies and of the lanes that are asked for
-abbrev pub report_lines : ℕ → Bool → Bool → RunReport → List ℕ
-report_lines ports policies lanes report =
-    let outcomes = map (λ outcomes. outcomes.items) report.outcomes.items in
-    port_lines report.report.ins.items
+abbrev pub report_lines : ℕ → Bool → Bool → List InLedger → List (List Outcome) → List ℕ
+report_lines ports policies lanes ledgers outcomes =
+    port_lines ledgers
     ++ (if policies then policy_lines ports outcomes else [])
     ++ (if lanes then lane_lines ports outcomes else [])
 
@@ -263,36 +277,35 @@ abbrev pub with_commas : List (List ℕ) → List ℕ
 with_commas texts = join_by (λ text. text) (codes ",") texts
 
 -- all ports, policies and lanes as one JSON object, on a line
-abbrev pub report_json : ℕ → RunReport → List ℕ
-report_json ports report =
-    let outcomes = map (λ outcomes. outcomes.items) report.outcomes.items in
-    codes "{\"ports\":[" ++ with_commas (port_objects report.report.ins.items)
+abbrev pub report_json : ℕ → List InLedger → List (List Outcome) → List ℕ
+report_json ports ledgers outcomes =
+    codes "{\"ports\":[" ++ with_commas (port_objects ledgers)
     ++ codes "],\"policies\":[" ++ with_commas (policy_objects ports outcomes)
     ++ codes "],\"lanes\":[" ++ with_commas (lane_objects ports outcomes) ++ codes "]}\n"
 
--- what a run is told by: lines, or one object
-abbrev pub report_text : ℕ → Shown → RunReport → List ℕ
-report_text ports (Lines policies lanes) report = report_lines ports policies lanes report
-report_text ports Json report = report_json ports report
+-- what a run is told by, of what its ports counted and what became of their frames: lines, or one object
+abbrev pub report_text : ℕ → Shown → List InLedger → List (List Outcome) → List ℕ
+report_text ports (Lines policies lanes) ledgers outcomes = report_lines ports policies lanes ledgers outcomes
+report_text ports Json ledgers outcomes = report_json ports ledgers outcomes
 
 -- ---- the command
 
 -- the text of a run on what the ports take of an input's octets, which begins with this batch
 pub record IsOctetsRun (taking : Taking) (limits : Bounds) (first : List Pair) (waits : Bool) (shown : Shown)
     (octets text : List ℕ) : Type 0 where
-  pub report : RunReport
-  pub ran : IsRunOf taking limits first octets report
-  pub whole : IsWhole waits report
-  pub lines : text ≡ report_text limits.ports shown report
+  pub ran : Ran
+  pub is_run : IsRunOf taking limits first octets ran
+  pub whole : IsWhole waits ran
+  pub lines : text ≡ report_text limits.ports shown ran.report.ins.items ran.outcomes
 
 -- what refuses such a run: what refuses the gateway's run, but for a port that is not there, which no source names; or the least
 -- port's that stopped; memory may be wanting for what the ports take and for the lines
-abbrev pub RefusesInputs : (RunReport → Type 0) → Bounds → List Pair → ForwardRefusal → Type 0
-RefusesInputs Ran limits first (Run NoSuchPort) = ⊥
-RefusesInputs Ran limits first (Run why) = RefusesRun limits first why
-RefusesInputs Ran limits first (Stopped port why) = (report : RunReport) × Ran report × IsFirstStop report.stops.items port why
-RefusesInputs Ran limits first (Command OutOfMemory) = Unit {0}
-RefusesInputs Ran limits first _ = ⊥
+abbrev pub RefusesInputs : (Ran → Type 0) → Bounds → List Pair → ForwardRefusal → Type 0
+RefusesInputs Runs limits first (Run NoSuchPort) = ⊥
+RefusesInputs Runs limits first (Run why) = RefusesRun limits first why
+RefusesInputs Runs limits first (Stopped port why) = (ran : Ran) × Runs ran × IsFirstStop ran.stops port why
+RefusesInputs Runs limits first (Command OutOfMemory) = Unit {0}
+RefusesInputs Runs limits first _ = ⊥
 
 -- what refuses the octets of a log: that they are none; or what refuses a run on its frames
 abbrev pub RefusesLog : List NamedInterface → Bounds → List Pair → List ℕ → ForwardRefusal → Type 0

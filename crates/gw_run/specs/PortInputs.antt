@@ -6,7 +6,7 @@ use Rattle.gw_judge.specs.declared.head.NoLog.{NoLog}
 use Rattle.gw_judge.specs.declared.head.NoLog.TheVariants.{Pcap}
 use Rattle.gw_policy.specs.Batches.{Pair}
 use Rattle.gw_ledger.specs.Bounds.{Bounds}
-use Rattle.gw_ports.specs.declared.running.RunReport.{RunReport}
+use Rattle.gw_ports.specs.Reports.{Ran}
 use Rattle.gw_trace.specs.Traces.{whole_trace}
 use Rattle.gw_trace.specs.declared.refusal.TraceRefusal.{TraceRefusal}
 use Rattle.gw_commands.specs.declared.policies.PolicySource.{PolicySource}
@@ -63,10 +63,10 @@ pub record IsInputsRun (limits : Bounds) (first : List Pair) (inputs : List Port
     (text : List ℕ) : Type 0 where
   pub frames : List (List (List ℕ))
   pub offered : AreFramesOf inputs frames
-  pub report : RunReport
-  pub ran : IsListRun limits first frames report
-  pub whole : IsWhole waits report
-  pub lines : text ≡ report_text limits.ports shown report
+  pub ran : Ran
+  pub is_run : IsListRun limits first frames ran
+  pub whole : IsWhole waits ran
+  pub lines : text ≡ report_text limits.ports shown ran.report.ins.items ran.outcomes
 
 -- what refuses such a run: the first input that is refused; or what refuses a run on the frames of all; memory may be wanting in
 -- any case

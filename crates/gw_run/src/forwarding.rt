@@ -9,8 +9,8 @@ ghost use Rattle.gw_run.specs.Forwarding.{
   IsTraceRun,
   IsOctetsRun,
   IsRunOf,
+  KeepsRun,
   LogRuns,
-  IsWhole,
   RefusesLog,
   RefusesTrace,
   RefusesOctets,
@@ -21,6 +21,7 @@ ghost use Rattle.gw_run.specs.declared.refusal.ForwardRefusal.TheVariants.{Comma
 ghost use Rattle.gw_run.specs.declared.taking.Taking.TheVariants.{InTurn};
 
 use crate::first::first_batch;
+use crate::kept::Kept;
 use crate::lines::{Shown, report_text};
 use crate::log::{named_lists, no_log};
 use crate::log_notes::LogNotes;
@@ -35,7 +36,6 @@ use gw_io::Tried;
 use gw_judge::NamedInterface;
 use gw_ledger::Limits;
 use gw_policy::Batch;
-use gw_ports::RunReport;
 use gw_trace::Checked;
 use std::alloc::{AllocError, Global};
 use std::io::{Read, Write};
@@ -163,24 +163,25 @@ fn run_octets<R: Threads + Wait + Sync, G: Observer, F: Write>(
     ensures refused { IfErr result (RefusesOctets taking.now limits first octets.now) }
 {
     match run_taken(rt, alloc, limits, first, taking, observer, octets, faults) {
-        Ok(report) => report_octets(alloc, limits, &report, shown, faults),
+        Ok(kept) => report_octets(alloc, limits, &kept, shown, faults),
         Err(refusal) => Err(refusal),
     }
 }
 
-/// The lines of a report. A person is told of copies that were lost.
+/// The text of a run of which this was kept. A person is told of copies that were lost.
 pub(crate) fn report_octets<F: Write>(
     alloc: Global,
     limits: Limits,
-    report: &RunReport,
+    kept: &Kept,
     shown: Shown,
     faults: &mut Tried<F>,
 ) -> Result<Vec<u8>, ForwardRefusal>
-    ensures lines { IfOk result (λ text. text.items ≡ report_text limits.ports shown report.now) }
+    ensures lines { IfOk result (λ text. text.items
+        ≡ report_text limits.ports shown kept.now.ledgers.items (map (λ list. list.items) kept.now.outcomes.items)) }
     ensures refused { IfErr result (λ refusal. refusal ≡ Command OutOfMemory) }
 {
-    note_lost(&report.report.ins, faults);
-    match report_text(alloc, limits.ports() as u8, report, shown) {
+    note_lost(&kept.ledgers, faults);
+    match report_text(alloc, limits.ports() as u8, kept, shown) {
         Ok(text) => Ok(text.into_bytes()),
         Err(AllocError) => Err(ForwardRefusal::Command(Refusal::OutOfMemory)),
     }
@@ -196,9 +197,9 @@ fn run_taken<R: Threads + Wait + Sync, G: Observer, F: Write>(
     observer: &G,
     octets: &[u8],
     faults: &mut Tried<F>,
-) -> Result<RunReport, ForwardRefusal>
+) -> Result<Kept, ForwardRefusal>
     requires { All (λ pair. pair.port < limits.ports) first }
-    ensures ran { IfOk result (λ report. IsRunOf taking.now limits first octets.now report × IsWhole G.waits report) }
+    ensures ran { IfOk result (KeepsRun (IsRunOf taking.now limits first octets.now) G.waits) }
     ensures refused { IfErr result (RefusesOctets taking.now limits first octets.now) }
 {
     match taking {
@@ -218,9 +219,9 @@ fn run_trace<R: Threads + Wait + Sync, G: Observer, F: Write>(
     observer: &G,
     octets: &[u8],
     faults: &mut Tried<F>,
-) -> Result<RunReport, ForwardRefusal>
+) -> Result<Kept, ForwardRefusal>
     requires { All (λ pair. pair.port < limits.ports) first }
-    ensures ran { IfOk result (λ report. IsRunOf InTurn limits first octets.now report × IsWhole G.waits report) }
+    ensures ran { IfOk result (KeepsRun (IsRunOf InTurn limits first octets.now) G.waits) }
     ensures refused { IfErr result (RefusesOctets InTurn limits first octets.now) }
 {
     let trace = match Checked::new(octets) {
@@ -246,9 +247,9 @@ fn run_log<R: Threads + Wait + Sync, G: Observer, F: Write>(
     observer: &G,
     octets: &[u8],
     faults: &mut Tried<F>,
-) -> Result<RunReport, ForwardRefusal>
+) -> Result<Kept, ForwardRefusal>
     requires { All (λ pair. pair.port < limits.ports) first }
-    ensures ran { IfOk result (λ report. LogRuns names.now limits first octets.now report × IsWhole G.waits report) }
+    ensures ran { IfOk result (KeepsRun (LogRuns names.now limits first octets.now) G.waits) }
     ensures refused { IfErr result (RefusesLog names.now limits first octets.now) }
 {
     if let Some(why) = no_log(octets) {

@@ -90,7 +90,7 @@ fn inputs_text<R: Threads + Wait + Sync, G: Observer, F: Write>(
     };
     observer.begins(frame_count(lists.as_slice()));
     match run_lists(rt, alloc, limits, first, lists, observer) {
-        Ok(report) => report_octets(alloc, limits, &report, shown, faults),
+        Ok(kept) => report_octets(alloc, limits, &kept, shown, faults),
         Err(refusal) => Err(refusal),
     }
 }

@@ -12,23 +12,20 @@ ghost use Rattle.gw_run.specs.Forwarding.{
   report_json,
 };
 
+use crate::kept::Kept;
 use crate::lines::{lost_to, placed_to};
 use crate::policy_lines::{Counted, count_others};
 use gw_ledger::{InLedger, Outcome};
-use gw_ports::RunReport;
 use std::alloc::{AllocError, Global};
 
 /// The object of so many ports.
-pub(crate) fn report_json(
-    alloc: Global,
-    ports: u8,
-    report: &RunReport,
-) -> Result<String, AllocError>
-    ensures { IfOk result (λ text. string_bytes text ≡ report_json ports report.now) }
+pub(crate) fn report_json(alloc: Global, ports: u8, kept: &Kept) -> Result<String, AllocError>
+    ensures { IfOk result (λ text. string_bytes text
+        ≡ report_json ports kept.now.ledgers.items (map (λ list. list.items) kept.now.outcomes.items)) }
 {
-    let taken = port_objects(alloc, &report.report.ins)?.join(alloc, ",")?;
-    let judged = policy_objects(alloc, ports, &report.outcomes)?.join(alloc, ",")?;
-    let placed = lane_objects(alloc, ports, &report.outcomes)?.join(alloc, ",")?;
+    let taken = port_objects(alloc, &kept.ledgers)?.join(alloc, ",")?;
+    let judged = policy_objects(alloc, ports, &kept.outcomes)?.join(alloc, ",")?;
+    let placed = lane_objects(alloc, ports, &kept.outcomes)?.join(alloc, ",")?;
     with_arrays(alloc, &taken, &judged, &placed)
 }
 

@@ -8,6 +8,7 @@ mod forwarding;
 mod frames;
 mod inputs;
 mod json;
+mod kept;
 mod lines;
 mod log;
 mod log_notes;

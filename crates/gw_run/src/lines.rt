@@ -15,9 +15,9 @@ ghost use Rattle.gw_run.specs.Forwarding.{
 };
 
 use crate::json::report_json;
+use crate::kept::Kept;
 use crate::policy_lines::push_policies;
 use gw_ledger::{InLedger, Outcome};
-use gw_ports::RunReport;
 use std::alloc::{AllocError, Global};
 
 /// What a run is told by.
@@ -38,14 +38,15 @@ pub enum Shown {
 pub(crate) fn report_text(
     alloc: Global,
     ports: u8,
-    report: &RunReport,
+    kept: &Kept,
     shown: Shown,
 ) -> Result<String, AllocError>
-    ensures { IfOk result (λ text. string_bytes text ≡ report_text ports shown report.now) }
+    ensures { IfOk result (λ text. string_bytes text
+        ≡ report_text ports shown kept.now.ledgers.items (map (λ list. list.items) kept.now.outcomes.items)) }
 {
     match shown {
-        Shown::Lines { policies, lanes } => report_lines(alloc, ports, report, policies, lanes),
-        Shown::Json => report_json(alloc, ports, report),
+        Shown::Lines { policies, lanes } => report_lines(alloc, ports, kept, policies, lanes),
+        Shown::Json => report_json(alloc, ports, kept),
     }
 }
 
@@ -53,19 +54,20 @@ pub(crate) fn report_text(
 fn report_lines(
     alloc: Global,
     ports: u8,
-    report: &RunReport,
+    kept: &Kept,
     policies: bool,
     lanes: bool,
 ) -> Result<String, AllocError>
-    ensures { IfOk result (λ text. string_bytes text ≡ report_lines ports policies lanes report.now) }
+    ensures { IfOk result (λ text. string_bytes text
+        ≡ report_lines ports policies lanes kept.now.ledgers.items (map (λ list. list.items) kept.now.outcomes.items)) }
 {
     let mut text = String::new(alloc);
-    push_ports(&mut text, &report.report.ins)?;
+    push_ports(&mut text, &kept.ledgers)?;
     if policies {
-        push_policies(&mut text, ports, &report.outcomes)?;
+        push_policies(&mut text, ports, &kept.outcomes)?;
     }
     if lanes {
-        push_lanes(&mut text, ports, &report.outcomes)?;
+        push_lanes(&mut text, ports, &kept.outcomes)?;
     }
     Ok(text)
 }

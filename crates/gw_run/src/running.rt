@@ -3,16 +3,17 @@
 ghost use Rattle.std.specs.Prelude.{◌≡◌, ◌≤◌, ◌<◌, ℕ, List, length, map, slice_index, slice_index_or, vec_len};
 ghost use Rattle.std.specs.Prelude.{IfOk, IfErr, IfNone, IfSome, All};
 ghost use Rattle.gw_trace.specs.Shares.{share_of};
-ghost use Rattle.gw_run.specs.Forwarding.{AreShares, IsFirstStop, IsListRun, IsRunOn, IsStopOf, IsWhole, NoneStopped};
+ghost use Rattle.gw_run.specs.Forwarding.{AreShares, IsFirstStop, IsListRun, IsRunOn, IsStopOf, KeepsRun, NoneStopped};
 ghost use Rattle.gw_run.specs.Forwarding.{RefusesInputs};
 
+use crate::kept::{Kept, no_copies, outcome_lists};
 use crate::observing::Observer;
 use crate::refusal::ForwardRefusal;
 use gw_commands::Refusal;
 use gw_frame::Frame;
-use gw_ledger::Limits;
+use gw_ledger::{Limits, Outcome};
 use gw_policy::Batch;
-use gw_ports::{OfferRefusal, RunReport, run, run_from};
+use gw_ports::{OfferRefusal, Report, run, run_with};
 use gw_trace::{Checked, Share};
 use std::alloc::{AllocError, Global};
 use std::marker::Sync;
@@ -28,26 +29,20 @@ pub(crate) fn run_shares<R: Threads + Wait + Sync, G: Observer>(
     first: Batch,
     trace: &Checked,
     observer: &G,
-) -> Result<RunReport, ForwardRefusal>
+) -> Result<Kept, ForwardRefusal>
     requires { All (λ pair. pair.port < limits.ports) first }
-    ensures ran { IfOk result (λ report. IsRunOn limits first trace.now report × IsWhole G.waits report) }
+    ensures ran { IfOk result (KeepsRun (IsRunOn limits first trace.now) G.waits) }
     ensures refused { IfErr result (RefusesInputs (IsRunOn limits first trace.now) limits first) }
 {
-    let Ok((inputs, sizes)) = shares(alloc, trace, limits.ports() as usize) else {
-        return Err(ForwardRefusal::Command(Refusal::OutOfMemory));
-    };
-    let ran = run_from(
-        rt,
-        alloc,
-        limits,
-        first,
-        inputs,
-        sizes,
-        Vec::new(alloc),
-        observer,
-    );
-    match ran {
-        Ok(report) => unstopped(report),
+    let ports = limits.ports() as usize;
+    let (inputs, sizes) = shares(alloc, trace, ports)?;
+    let outcomes = outcome_lists(alloc, &sizes)?;
+    let out = no_copies(alloc, ports)?;
+    let batches = Vec::new(alloc);
+    match run_with(
+        rt, alloc, limits, first, inputs, outcomes, out, batches, observer,
+    ) {
+        Ok(ended) => unstopped(ended.stops, ended.report, ended.outcomes),
         Err(why) => Err(ForwardRefusal::Run(why)),
     }
 }
@@ -60,28 +55,35 @@ pub(crate) fn run_lists<R: Threads + Wait + Sync, G: Observer>(
     first: Batch,
     lists: Vec<Vec<Frame>>,
     observer: &G,
-) -> Result<RunReport, ForwardRefusal>
+) -> Result<Kept, ForwardRefusal>
     requires lists { vec_len lists ≡ limits.ports }
     requires first { All (λ pair. pair.port < limits.ports) first }
-    ensures ran { IfOk result (λ report. IsListRun limits first (map (λ list. list.items) lists.items) report
-        × IsWhole G.waits report) }
+    ensures ran { IfOk result
+        (KeepsRun (IsListRun limits first (map (λ list. list.items) lists.items)) G.waits) }
     ensures refused { IfErr result
         (RefusesInputs (IsListRun limits first (map (λ list. list.items) lists.items)) limits first) }
 {
     match run(rt, alloc, limits, first, lists, Vec::new(alloc), observer) {
-        Ok(report) => unstopped(report),
+        Ok(report) => unstopped(report.stops, report.report, report.outcomes),
         Err(why) => Err(ForwardRefusal::Run(why)),
     }
 }
 
-/// The report of a run of which no port stopped. A port that stopped is a refusal, the least port's first.
-fn unstopped(report: RunReport) -> Result<RunReport, ForwardRefusal>
-    ensures whole { IfOk result (λ whole. (whole ≡ report) × NoneStopped whole.stops.items) }
-    ensures stopped { IfErr result (IsStopOf report) }
+/// What is kept of a run of which no port stopped. A port that stopped is a refusal, the least port's first.
+fn unstopped(
+    stops: Vec<Option<OfferRefusal>>,
+    report: Report,
+    outcomes: Vec<Vec<Outcome>>,
+) -> Result<Kept, ForwardRefusal>
+    ensures kept { IfOk result (λ kept. (kept.ledgers ≡ report.ins) × (kept.outcomes ≡ outcomes) × NoneStopped stops.items) }
+    ensures stopped { IfErr result (IsStopOf stops.items) }
 {
-    match first_stop(&report.stops) {
+    match first_stop(&stops) {
         Some((port, why)) => Err(ForwardRefusal::Stopped { port, why }),
-        None => Ok(report),
+        None => Ok(Kept {
+            ledgers: report.ins,
+            outcomes,
+        }),
     }
 }
 

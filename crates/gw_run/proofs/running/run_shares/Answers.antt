@@ -1,23 +1,52 @@
+use Rattle.std.proofs.Common.{◌≡◌, List, Option, ap, arith, length, slice_index, slice_index_or, subst}
 use Rattle.std.proofs.lemmas.Result.{IfErr-weaker, IfOk-weaker}
-use Rattle.gw_run.specs.Forwarding.{IsRunOn}
-use Rattle.gw_run.proofs.Forwards.{run_on_shares, stop_refuses, whole_run}
+use Rattle.gw_ports.specs.declared.closing.Report.{Report}
+use Rattle.gw_ports.specs.declared.refusals.OfferRefusal.{OfferRefusal}
+use Rattle.gw_ports.proofs.Callers.{handed_lists}
+use Rattle.gw_run.specs.Forwarding.{IsRunOn, IsStopOf}
+use Rattle.gw_run.proofs.Forwards.{kept_run, run_on_shares, stop_refuses}
 use Rattle.gw_run.proofs.running.run_shares.Goals as goal
 
-pub returns-in-Ok-ran-clause-ran : goal.returns-in-Ok-ran-clause-ran
-returns-in-Ok-ran-clause-ran g c =
-    IfOk-weaker c.unstopped.result _ _
-    (λ whole is. whole_run (IsRunOn c.args.limits c.args.first c.args.trace.now) g.G.Gate.waits c.in-Ok-ran.report whole
-    (run_on_shares c.args.limits c.args.first c.args.trace.now c.in-Ok.inputs.items _ c.new.result.items c.in-Ok-ran.ensures.ran.0
-    c.in-Ok-ran.report c.in-Ok.ensures.shares.0 c.ports.ensures.ports c.new.ensures.items c.in-Ok-ran.ensures.ran.1)
-    c.in-Ok-ran.ensures.none_lost is)
-    c.unstopped.ensures.whole
+-- The list of a port has room for an outcome of each frame of its share.
+pub run_with-requires-clause-inputs : goal.run_with-requires-clause-inputs
+run_with-requires-clause-inputs g c κs within k d e below =
+    let shares = c.in_ok-inputs.ensures in
+    let lists = c.in_ok-outcomes.ensures in
+    let inputs = shares.shares.0.enough in
+    let sizes = shares.shares.1 in
+    let size = c.in_ok-inputs.sizes.ok.0 in
+    let count = lists.count in
+    let is = ap length c.deref.ensures.value in
+    let few = shares.sizes k d (omega arith) in
+    let room = lists.room k e (omega arith) in
+    let at = ap (λ l. slice_index l k) c.deref.ensures.value in
+    let empty = ap length (lists.empty k e (omega arith)) in
+    let used = (slice_index_or c.in_ok-outcomes.outcomes.items k e).ok.0 in
+    (tt, tt, λ finite. omega arith)
 
-pub returns-in-Ok-ran-clause-refused : goal.returns-in-Ok-ran-clause-refused
-returns-in-Ok-ran-clause-refused g c =
+pub returns-in-Ok-clause-ran : goal.returns-in-Ok-clause-ran
+returns-in-Ok-clause-ran g c =
+    let is = c.in-Ok.ensures.ran in
+    let ended = c.in-Ok.ended in
+    IfOk-weaker c.unstopped.result _ _
+    (λ kept whole.
+    kept_run (IsRunOn c.args.limits c.args.first c.args.trace.now) g.G.Gate.waits is.ran kept ended.report.ins ended.outcomes
+    ended.stops.items whole (ap (λ (r : Report). r.ins.items) is.told.3)
+    (handed_lists c.in_ok-outcomes.outcomes.items is.ran.outcomes ended.outcomes.items c.in_ok-outcomes.ensures.empty
+    is.outcomes_are).0 is.told.0
+    (run_on_shares c.args.limits c.args.first c.args.trace.now c.in_ok-inputs.inputs.items _ c.new-batches.result.items
+    ended.inputs.items is.ran c.in_ok-inputs.ensures.shares.0 c.ports-ports.ensures.ports c.new-batches.ensures.items is.is_run)
+    is.none_lost)
+    c.unstopped.ensures.kept
+
+pub returns-in-Ok-clause-refused : goal.returns-in-Ok-clause-refused
+returns-in-Ok-clause-refused g c =
+    let is = c.in-Ok.ensures.ran in
+    let ended = c.in-Ok.ended in
     IfErr-weaker c.unstopped.result _ _
-    (λ refusal stop. stop_refuses (IsRunOn c.args.limits c.args.first c.args.trace.now) c.args.limits c.args.first
-    c.in-Ok-ran.report refusal
-    (run_on_shares c.args.limits c.args.first c.args.trace.now c.in-Ok.inputs.items _ c.new.result.items c.in-Ok-ran.ensures.ran.0
-    c.in-Ok-ran.report c.in-Ok.ensures.shares.0 c.ports.ensures.ports c.new.ensures.items c.in-Ok-ran.ensures.ran.1)
-    stop)
+    (λ refusal stop.
+    stop_refuses (IsRunOn c.args.limits c.args.first c.args.trace.now) c.args.limits c.args.first is.ran refusal
+    (run_on_shares c.args.limits c.args.first c.args.trace.now c.in_ok-inputs.inputs.items _ c.new-batches.result.items
+    ended.inputs.items is.ran c.in_ok-inputs.ensures.shares.0 c.ports-ports.ensures.ports c.new-batches.ensures.items is.is_run)
+    (subst (λ (l : List (Option OfferRefusal)). IsStopOf l refusal) is.told.0 stop))
     c.unstopped.ensures.stopped

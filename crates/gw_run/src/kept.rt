@@ -1,0 +1,56 @@
+//! What is kept of a run, which its text tells.
+
+ghost use Rattle.std.specs.Prelude.{◌≡◌, IfOk, vec_len};
+ghost use Rattle.std.specs.Iterator.{endless};
+ghost use Rattle.gw_run.specs.Forwarding.{AreEmptyFor};
+
+use gw_ledger::{FrameCopy, InLedger, Outcome};
+use gw_ports::Sink;
+use std::alloc::{AllocError, Global};
+
+/// What the ports of a run counted, and what became of their frames. Its copies are not kept.
+#[derive(Drop)]
+pub(crate) struct Kept {
+    /// By port, what it counted.
+    pub ledgers: Vec<InLedger>,
+    /// By port, the outcomes of its frames, in order.
+    pub outcomes: Vec<Vec<Outcome>>,
+}
+
+/// Takes copies, and keeps none.
+#[derive(Drop)]
+pub(crate) struct NoCopies;
+
+impl Sink<FrameCopy> for NoCopies {
+    ghost takes = { λ _ _ _. Unit {0} };
+
+    ghost room = { λ _. endless };
+
+    fn is_full(&self) -> bool {
+        false
+    }
+
+    fn take(&mut self, _copy: FrameCopy) {}
+}
+
+/// By port, an empty list with room for the outcomes of so many frames.
+pub(crate) fn outcome_lists(alloc: Global, sizes: &[usize]) -> Result<Vec<Vec<Outcome>>, AllocError>
+    ensures { IfOk result (λ lists. AreEmptyFor sizes.now lists.items) }
+{
+    let mut lists = Vec::with_capacity(alloc, sizes.len())?;
+    for port in 0..sizes.len() {
+        lists.push_reserved(Vec::with_capacity(alloc, sizes[port])?);
+    }
+    Ok(lists)
+}
+
+/// A sink for the copies of each of so many ports.
+pub(crate) fn no_copies(alloc: Global, ports: usize) -> Result<Vec<NoCopies>, AllocError>
+    ensures { IfOk result (λ sinks. vec_len sinks ≡ ports) }
+{
+    let mut sinks = Vec::with_capacity(alloc, ports)?;
+    for _port in 0..ports {
+        sinks.push_reserved(NoCopies);
+    }
+    Ok(sinks)
+}
