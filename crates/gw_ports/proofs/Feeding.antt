@@ -1,5 +1,5 @@
 -- An ingress thread, after some of its frames.
-use Rattle.std.proofs.Common.{◌≡◌, ℕ, ◌+◌, ◌-◌, ◌≤◌, List, [], length, min, Option, All, IsTrue}
+use Rattle.std.proofs.Common.{◌≡◌, ℕ, ◌+◌, ◌-◌, ◌≤◌, List, [], length, min, All, IsTrue}
 use Rattle.std.specs.Iterator.{Count, size}
 use Rattle.gw_claims.specs.Holders.{HoldsAfter}
 use Rattle.gw_ledger.specs.declared.outcome.Outcome.{Outcome}

@@ -1,8 +1,7 @@
 -- A run whose ports wait at full lanes loses no copy.
-use Rattle.std.proofs.Common.{◌≡◌, ◌∙◌, ℕ, Bool, List, Option, IsTrue, length, map, get_or, ap, subst, sym, arith}
+use Rattle.std.proofs.Common.{◌≡◌, ◌∙◌, ℕ, Bool, List, Option, IsTrue, map, ap, subst, sym, arith}
 use Rattle.std.specs.List.{All}
 use Rattle.std.proofs.lemmas.List.{get_or-map, length-map}
-use Rattle.gw_ledger.specs.declared.outcome.Outcome.{Outcome}
 use Rattle.gw_ports.specs.Offers.{IsPlaced}
 use Rattle.gw_ports.specs.Running.{Fed, Feeding, IsDone, Pairwise}
 use Rattle.gw_ports.proofs.Elementwise.{pairwise_at, there}

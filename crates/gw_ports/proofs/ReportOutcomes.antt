@@ -1,5 +1,5 @@
 -- One ingress port of a run: the frames that it asked for, that its outcomes are judged, and how it ended.
-use Rattle.std.proofs.Common.{◌≡◌, ◌∙◌, ℕ, ◌+◌, ◌<◌, List, [], ◌∷◌, ◌++◌, length, map, get_or, Option, Some, None}
+use Rattle.std.proofs.Common.{◌≡◌, ◌∙◌, ℕ, ◌+◌, ◌<◌, List, [], ◌∷◌, ◌++◌, length, get_or, Option, Some, None}
 use Rattle.std.proofs.Common.{MatchOption, sym, ap, subst, refl, arith, length-append}
 use Rattle.std.proofs.lemmas.List.{get_or-map, length-map}
 use mathlib.Core.List.{IsPrefix}

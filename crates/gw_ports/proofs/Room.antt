@@ -1,11 +1,10 @@
 -- The room for the copies of a run: by port, as many as the frames that the other ports take.
 use Rattle.std.proofs.Common.{◌≡◌, ◌∙◌, ℕ, suc, ◌+◌, ◌<◌, ◌≤◌, List, [], ◌∷◌, length, map, get_or, min, slice_set, take, Vec}
-use Rattle.std.proofs.Common.{Global, Option, vec_capacity, ⊎_elim, sym, ap, arith}
+use Rattle.std.proofs.Common.{Global, vec_capacity, ⊎_elim, ap, arith}
 use Rattle.std.proofs.lemmas.Bool.{cases_eq}
 use Rattle.std.proofs.lemmas.List.{ext_get_or, get_or-map, get_or-set_other, get_or-set_same, length-map, length-set}
 use Rattle.std.proofs.lemmas.List.Sums.{sum_by-cons, sum_by_more}
 use Rattle.std.specs.List.{sum}
-use Rattle.gw_ledger.specs.declared.outcome.FrameCopy.{FrameCopy}
 use Rattle.gw_ledger.specs.declared.outcome.Outcome.{Outcome}
 use Rattle.gw_ports.specs.Reports.{HasRoom, sum_of_others}
 use Rattle.gw_ports.specs.declared.running.RunReport.{RunReport}

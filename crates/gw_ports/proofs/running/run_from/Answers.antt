@@ -1,6 +1,5 @@
-use Rattle.std.proofs.Common.{◌≡◌, ◌∙◌, List, Vec, Global, ap, arith, get_or, length, map, min, subst, sym, vec_capacity}
+use Rattle.std.proofs.Common.{Vec, Global, ap, arith, get_or, length, min, vec_capacity}
 use Rattle.std.proofs.lemmas.List.{get_or-map, length-map}
-use Rattle.gw_ledger.specs.declared.outcome.FrameCopy.{FrameCopy}
 use Rattle.gw_ledger.specs.declared.outcome.Outcome.{Outcome}
 use Rattle.gw_ports.specs.Ends.{end_in}
 use Rattle.gw_ports.proofs.Kept.{kept_all, kept_report, kept_room, kept_run}

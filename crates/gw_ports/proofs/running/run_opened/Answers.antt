@@ -1,9 +1,6 @@
 use Rattle.std.proofs.Common.{◌≡◌, ◌∙◌, ℕ, List, arith, ap, get_or, length, map, min, refl, subst, sym, vec_len}
 use Rattle.std.specs.Iterator.{IsFinite, size}
-use Rattle.std.specs.List.{All}
 use Rattle.std.proofs.lemmas.List.{get_or-map, length-map}
-use Rattle.gw_ledger.specs.declared.outcome.FrameCopy.{FrameCopy}
-use Rattle.gw_ledger.specs.declared.outcome.Outcome.{Outcome}
 use Rattle.gw_ports.specs.Closing.{Closes}
 use Rattle.gw_ports.specs.Ends.{Ingress, Egress, end_in, end_out}
 use Rattle.gw_ports.specs.Reports.{Ran}

@@ -1,4 +1,4 @@
-use Rattle.std.proofs.Common.{◌≡◌, ◌+◌, ◌≤◌, vec_capacity, vec_len}
+use Rattle.std.proofs.Common.{◌≡◌, ◌≤◌, vec_capacity, vec_len}
 use Rattle.gw_run.proofs.kept.no_copies.Given as goal
 
 abbrev pub invariant-loop-port : goal.invariant-loop-port

@@ -1,4 +1,4 @@
-use Rattle.std.proofs.Common.{List, map, refl}
+use Rattle.std.proofs.Common.{map, refl}
 use Rattle.std.proofs.lemmas.Result.{IfErr-weaker, IfOk-weaker}
 use Rattle.gw_ports.specs.Reports.{ran_of}
 use Rattle.gw_run.specs.Forwarding.{IsListRun}

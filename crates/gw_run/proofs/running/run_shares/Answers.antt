@@ -1,4 +1,4 @@
-use Rattle.std.proofs.Common.{◌≡◌, List, Option, ap, arith, length, slice_index, slice_index_or, subst}
+use Rattle.std.proofs.Common.{List, Option, ap, arith, length, slice_index, slice_index_or, subst}
 use Rattle.std.proofs.lemmas.Result.{IfErr-weaker, IfOk-weaker}
 use Rattle.gw_ports.specs.declared.closing.Report.{Report}
 use Rattle.gw_ports.specs.declared.refusals.OfferRefusal.{OfferRefusal}

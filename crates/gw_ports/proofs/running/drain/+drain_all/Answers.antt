@@ -1,4 +1,4 @@
-use Rattle.std.proofs.Common.{◌≡◌, ◌∙◌, arith, ap, subst}
+use Rattle.std.proofs.Common.{◌∙◌, arith, ap, subst}
 use Rattle.gw_ports.specs.Running.{HasDrained}
 use Rattle.gw_ports.specs.declared.running.drain.Drain.{Drain}
 use Rattle.gw_ports.proofs.Runs.{pairwise_length, pairwise_push}

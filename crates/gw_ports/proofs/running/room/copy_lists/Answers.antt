@@ -1,4 +1,4 @@
-use Rattle.std.proofs.Common.{◌≡◌, ◌∙◌, [], Vec, Global, ap, arith, length, map, min, sym, vec_capacity}
+use Rattle.std.proofs.Common.{◌≡◌, ◌∙◌, [], Vec, Global, ap, arith, map, min, sym, vec_capacity}
 use Rattle.std.proofs.lemmas.List.{get_or-map}
 use Rattle.gw_ledger.specs.declared.outcome.FrameCopy.{FrameCopy}
 use Rattle.gw_ports.specs.Reports.{sum_of_others}

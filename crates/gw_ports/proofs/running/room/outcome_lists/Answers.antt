@@ -1,4 +1,4 @@
-use Rattle.std.proofs.Common.{◌≡◌, ◌∙◌, [], Vec, Global, ap, arith, get_or, length, map, min, slice_index, sym, vec_capacity}
+use Rattle.std.proofs.Common.{◌≡◌, ◌∙◌, [], Vec, Global, ap, arith, map, min, slice_index, sym, vec_capacity}
 use Rattle.std.proofs.lemmas.List.{get_or-map, length-map}
 use Rattle.gw_ledger.specs.declared.outcome.Outcome.{Outcome}
 use Rattle.gw_ports.proofs.Room.{rooms_are}
