@@ -8,14 +8,14 @@ use Rattle.gw_ports.specs.Reports.{HasRoom, IsReportOf, Ran, ran_of}
 use Rattle.gw_ports.specs.Running.{AreRoomFor}
 use Rattle.gw_ports.specs.Runs.{IsRun, IsRunWith, NoneLost}
 use Rattle.gw_ports.specs.Sinks.{Appends}
-use Rattle.gw_ports.specs.declared.running.Ended.{Ended}
+use Rattle.gw_ports.specs.declared.running.RunEnd.{RunEnd}
 use Rattle.gw_ports.specs.declared.running.RunReport.{RunReport}
 use Rattle.gw_ports.proofs.Room.{has_room}
 use Rattle.gw_ports.proofs.Sinks.{handed_lists}
 
 module _ {S : Type 0} (steps : S → Option (List ℕ) → S → Type 0) (waits : Bool) (limits : Bounds) (first : List Pair)
     (inputs : List S) (outcomes : List (Vec Outcome Global)) (out : List (Vec FrameCopy Global)) (batches : List (List Pair))
-    (ended : Ended S (Vec Outcome Global) (Vec FrameCopy Global)) (sizes : List ℕ)
+    (ended : RunEnd S (Vec Outcome Global) (Vec FrameCopy Global)) (sizes : List ℕ)
     (rooms : AreRoomFor limits.frames sizes outcomes out)
     (is : IsRunWith steps Appends Appends waits limits first inputs outcomes out batches ended) where
   abbrev pub report : RunReport

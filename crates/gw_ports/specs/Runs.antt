@@ -14,7 +14,7 @@ use Rattle.gw_ports.specs.Running.{Drained, Fed, Feeding, HasTaken, IsDone, Pair
 use Rattle.gw_ports.specs.Refusals.{make_refusal_number}
 use Rattle.gw_ports.specs.Reports.{IsReportOf, Ran}
 use Rattle.gw_ports.specs.Sinks.{AllHanded}
-use Rattle.gw_ports.specs.declared.running.Ended.{Ended}
+use Rattle.gw_ports.specs.declared.running.RunEnd.{RunEnd}
 use Rattle.gw_ports.specs.declared.running.RunRefusal.{RunRefusal}
 use Rattle.gw_ports.specs.declared.running.RunRefusal.TheVariants.{NotMade, NoSuchPort, NotPublished, OutOfMemory, NoThread}
 use Rattle.gw_ports.specs.declared.running.RunRefusal.TheVariants.{NoReading}
@@ -57,7 +57,7 @@ NoneLost ran = All (All IsPlaced) ran.outcomes
 -- what a run did whose sinks are these: by port it handed its outcomes to one, and the copies that were taken out to another
 pub record IsRunWith {S O C : Type 0} (steps : S → Option (List ℕ) → S → Type 0) (takes_outcome : O → Outcome → O → Type 0)
     (takes_copy : C → FrameCopy → C → Type 0) (waits : Bool) (limits : Bounds) (first : List Pair) (inputs : List S)
-    (outcomes : List O) (out : List C) (batches : List (List Pair)) (ended : Ended S O C) : Type 0 where
+    (outcomes : List O) (out : List C) (batches : List (List Pair)) (ended : RunEnd S O C) : Type 0 where
   pub ran : Ran
   pub outcomes_are : AllHanded takes_outcome outcomes ran.outcomes ended.outcomes.items
   pub out_is : AllHanded takes_copy out ran.out ended.out.items

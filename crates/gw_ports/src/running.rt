@@ -59,7 +59,7 @@ pub struct RunReport {
 
 /// What a run did that handed its outcomes and copies to sinks.
 #[derive(Drop)]
-pub struct Ended<I, O, C> {
+pub struct RunEnd<I, O, C> {
     /// By port, what is left of its input.
     pub inputs: Vec<I>,
     /// By port, the sink that took the outcomes of its frames, in order.
@@ -244,7 +244,7 @@ pub fn run_with<R, G, I, O, C>(
     out: Vec<C>,
     batches: Vec<Batch>,
     gate: &G,
-) -> Result<Ended<I, O, C>, RunRefusal>
+) -> Result<RunEnd<I, O, C>, RunRefusal>
 where
     R: Threads + Wait + Sync,
     G: Gate,
@@ -277,7 +277,7 @@ fn run_opened<R, G, I, O, C>(
     out: Vec<C>,
     batches: Vec<Batch>,
     gate: &G,
-) -> Result<Ended<I, O, C>, RunRefusal>
+) -> Result<RunEnd<I, O, C>, RunRefusal>
 where
     R: Threads + Wait + Sync,
     G: Gate,
@@ -346,7 +346,7 @@ where
     match close_ends(alloc, parts) {
         Ok((report, operator)) => {
             operator.end(rt);
-            Ok(Ended {
+            Ok(RunEnd {
                 inputs: ingress.inputs,
                 outcomes: ingress.outcomes,
                 stops: ingress.stops,
