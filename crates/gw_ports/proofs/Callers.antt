@@ -3,10 +3,11 @@ pub use Rattle.gw_ports.proofs.OneGateway.{ends_in_stay, ends_out_stay, of_board
 pub use Rattle.gw_ports.proofs.Opening.{same_gateway}
 pub use Rattle.gw_ports.proofs.Judged.{judged_one}
 -- what a list of offers judged, counted, lost and placed
-pub use Rattle.gw_ports.proofs.Runs.{all_push, each_push, heard_after, heard_more, offers_more}
+pub use Rattle.gw_ports.proofs.Runs.{heard_after, heard_more, offers_more}
 pub use Rattle.gw_ports.proofs.Judged.{are_judged, as_many_outcomes, outcomes_counted}
 pub use Rattle.gw_ports.proofs.Losing.{lost_when_full, new_holds}
 pub use Rattle.gw_ports.proofs.Copied.{placed_list, placed_to}
 pub use Rattle.gw_ports.proofs.Lanes.{none_placed}
--- what sinks that are lists were handed
+-- sinks that are lists: their room, and what they were handed
+pub use Rattle.gw_ports.proofs.Room.{room_at}
 pub use Rattle.gw_ports.proofs.Sinks.{handed_lists}

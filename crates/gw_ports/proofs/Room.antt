@@ -1,14 +1,15 @@
 -- The room for the copies of a run: by port, as many as the frames that the other ports take.
-use Rattle.std.proofs.Common.{◌≡◌, ◌∙◌, ℕ, suc, ◌+◌, ◌<◌, ◌≤◌, List, [], ◌∷◌, length, map, get_or, min, slice_set, take, Vec}
-use Rattle.std.proofs.Common.{Global, vec_capacity, ⊎_elim, ap, arith}
+use Rattle.std.proofs.Common.{◌≡◌, ◌∙◌, ℕ, suc, ◌+◌, ◌-◌, ◌<◌, ◌≤◌, ◌++◌, List, [], ◌∷◌, length, map, get_or, min, slice_set}
+use Rattle.std.proofs.Common.{take, Vec, Global, vec_capacity, vec_len, ⊎_elim, ap, arith, subst}
 use Rattle.std.proofs.lemmas.Bool.{cases_eq}
 use Rattle.std.proofs.lemmas.List.{ext_get_or, get_or-map, get_or-set_other, get_or-set_same, length-map, length-set}
 use Rattle.std.proofs.lemmas.List.Sums.{sum_by-cons, sum_by_more}
-use Rattle.std.specs.List.{sum}
+use Rattle.std.specs.List.{All, sum}
 use Rattle.gw_ledger.specs.declared.outcome.Outcome.{Outcome}
 use Rattle.gw_ports.specs.Reports.{HasRoom, sum_of_others}
 use Rattle.gw_ports.specs.declared.running.RunReport.{RunReport}
 use Rattle.gw_ports.proofs.Elementwise.{there}
+use Rattle.gw_ports.proofs.Runs.{all_push, each_push}
 
 -- one port more of the sum
 pub other_counted : (counts : List ℕ) (egress port count copies : ℕ) → port < length counts → get_or counts port 0 ≡ count
@@ -67,6 +68,43 @@ rooms_are {A} lists rooms many each =
     ext_get_or 0 (map (λ (v : Vec A Global). vec_capacity v) lists) rooms (size ∙ many) (λ k below.
     let v = there lists k (omega arith) in
     get_or-map (λ (v : Vec A Global). vec_capacity v) lists k v.0 0 (omega arith) ∙ each k v.0 (omega arith))
+
+-- so many empty lists, of the rooms that are asked for, and room for the lists of all ports
+abbrev pub HasLists : {A : Type 0} → (ℕ → Vec A Global → Type 0) → ℕ → ℕ → Vec (Vec A Global) Global → Type 0
+HasLists {A} IsRoom ports many lists =
+    (vec_len lists ≡ many) × (ports ≤ vec_capacity lists) × All (λ list. list.items ≡ []) lists.items
+    × ((k : ℕ) (d : Vec A Global) → k < length lists.items → IsRoom k (get_or lists.items k d))
+
+-- one list more
+pub lists_push : {A : Type 0} (IsRoom : ℕ → Vec A Global → Type 0) (ports many : ℕ) (lists now : Vec (Vec A Global) Global)
+    (list : Vec A Global) → HasLists IsRoom ports many lists → now.items ≡ lists.items ++ list ∷ []
+    → vec_len now ≡ vec_len lists + 1 → vec_capacity now ≡ vec_capacity lists → list.items ≡ [] → IsRoom many list
+    → HasLists IsRoom ports (many + 1) now
+lists_push {A} IsRoom ports many lists now list has items more kept empty room =
+    let count = has.0 in
+    let size = lists.ok.0 in
+    let enough = has.1 in
+    let same : many ≡ length lists.items = omega arith in (
+      omega arith,
+      omega arith,
+      all_push (λ (v : Vec A Global). v.items ≡ []) lists.items now.items list items has.2 empty,
+      each_push IsRoom lists.items now.items list items has.3 (subst (λ n. IsRoom n list) same room),
+    )
+
+-- the list of a port has room for the outcomes of all frames that it can take
+pub room_at : {A : Type 0} (lists : List (Vec A Global)) (sizes : List ℕ) (frames : ℕ) → All (λ list. list.items ≡ []) lists
+    → map (λ list. vec_capacity list) lists ≡ map (λ size. min size frames) sizes → (k : ℕ) (d : Vec A Global) → k < length lists
+    → min (get_or sizes k 0) frames ≤ vec_capacity (get_or lists k d) - vec_len (get_or lists k d)
+room_at {A} lists sizes frames empty rooms k d below =
+    let count = length-map lists (λ (v : Vec A Global). vec_capacity v) in
+    let count' = length-map sizes (λ size. min size frames) in
+    let same = ap length rooms in
+    let at = get_or-map (λ (v : Vec A Global). vec_capacity v) lists k d 0 below in
+    let at' = get_or-map (λ size. min size frames) sizes k 0 0 (omega arith) in
+    let room = ap (λ (l : List ℕ). get_or l k 0) rooms in
+    let none = ap length (empty k d below) in
+    let used = (get_or lists k d).ok.0 in
+    omega arith
 
 -- where no list has more items than its room, and those for outcomes have room for what the ports can take, there was room for
 -- all copies

@@ -17,5 +17,5 @@ pub use parts::{Parts, gateway};
 pub use port_in::PortIn;
 pub use port_out::PortOut;
 pub use refusals::{MakeRefusal, OfferRefusal};
-pub use running::{RunEnd, RunRefusal, RunReport, run, run_from, run_with};
+pub use running::{RunEnd, RunRefusal, RunReport, outcome_lists, run, run_from, run_with};
 pub use sink::Sink;

@@ -40,6 +40,8 @@ mod opening;
 mod publishing;
 mod room;
 
+pub use room::outcome_lists;
+
 /// What a run did.
 #[derive(Drop)]
 pub struct RunReport {

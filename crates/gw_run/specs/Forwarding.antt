@@ -2,7 +2,7 @@
 -- writer took.
 use Rattle.std.specs.Prelude.{◌≡◌, ℕ, ◌<◌, ◌⊎◌, ◌==◌, Bool, true, false, not, ◌&&◌, if◌then◌else◌, List, [], ◌∷◌, ◌++◌, length}
 use Rattle.std.specs.Prelude.{codes, decimal, slice_get, slice_index_or, map, Option, Some, None, Result, Ok, Err, MatchResult}
-use Rattle.std.specs.Prelude.{◌≤◌, All, Any, IsTrue, Vec, slice_index, vec_capacity}
+use Rattle.std.specs.Prelude.{All, Any, IsTrue}
 use Rattle.std.specs.Option.{option_map_or}
 use Rattle.std.specs.List.{flat_map, count_by, join_by, sum_by, range_with_len}
 use Rattle.std.specs.Io.KnownBytes.{IsAtEnd, Consumes}
@@ -116,13 +116,6 @@ abbrev pub IsRunOf : Taking → Bounds → List Pair → List ℕ → Ran → Ty
 IsRunOf InTurn limits first octets ran =
     (frames : List (List ℕ)) × (whole_trace octets ≡ Ok frames) × IsRunOn limits first frames ran
 IsRunOf (ByInterface names) limits first octets ran = LogRuns names.now limits first octets ran
-
--- by port, an empty list with room for the outcomes of so many frames
-pub record AreEmptyFor (sizes : List ℕ) (lists : List (Vec Outcome Global)) : Type 0 where
-  pub count : length lists ≡ length sizes
-  pub empty : All (λ list. list.items ≡ []) lists
-  pub room : (k : ℕ) (d : Vec Outcome Global) → k < length lists
-      → slice_index sizes k ≤ vec_capacity (slice_index_or lists k d)
 
 -- no port stopped before its frames were at an end
 abbrev pub NoneStopped : List (Option OfferRefusal) → Type 0

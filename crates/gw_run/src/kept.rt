@@ -2,7 +2,6 @@
 
 ghost use Rattle.std.specs.Prelude.{◌≡◌, IfOk, vec_len};
 ghost use Rattle.std.specs.Iterator.{endless};
-ghost use Rattle.gw_run.specs.Forwarding.{AreEmptyFor};
 
 use gw_ledger::{FrameCopy, InLedger, Outcome};
 use gw_ports::Sink;
@@ -31,17 +30,6 @@ impl Sink<FrameCopy> for NoCopies {
     }
 
     fn take(&mut self, _copy: FrameCopy) {}
-}
-
-/// By port, an empty list with room for the outcomes of so many frames.
-pub(crate) fn outcome_lists(alloc: Global, sizes: &[usize]) -> Result<Vec<Vec<Outcome>>, AllocError>
-    ensures { IfOk result (λ lists. AreEmptyFor sizes.now lists.items) }
-{
-    let mut lists = Vec::with_capacity(alloc, sizes.len())?;
-    for port in 0..sizes.len() {
-        lists.push_reserved(Vec::with_capacity(alloc, sizes[port])?);
-    }
-    Ok(lists)
 }
 
 /// A sink for the copies of each of so many ports.

@@ -6,14 +6,14 @@ ghost use Rattle.gw_trace.specs.Shares.{share_of};
 ghost use Rattle.gw_run.specs.Forwarding.{AreShares, IsFirstStop, IsListRun, IsRunOn, IsStopOf, KeepsRun, NoneStopped};
 ghost use Rattle.gw_run.specs.Forwarding.{RefusesInputs};
 
-use crate::kept::{Kept, no_copies, outcome_lists};
+use crate::kept::{Kept, no_copies};
 use crate::observing::Observer;
 use crate::refusal::ForwardRefusal;
 use gw_commands::Refusal;
 use gw_frame::Frame;
 use gw_ledger::{Limits, Outcome};
 use gw_policy::Batch;
-use gw_ports::{OfferRefusal, Report, run, run_with};
+use gw_ports::{OfferRefusal, Report, outcome_lists, run, run_with};
 use gw_trace::{Checked, Share};
 use std::alloc::{AllocError, Global};
 use std::marker::Sync;
@@ -36,7 +36,7 @@ pub(crate) fn run_shares<R: Threads + Wait + Sync, G: Observer>(
 {
     let ports = limits.ports() as usize;
     let (inputs, sizes) = shares(alloc, trace, ports)?;
-    let outcomes = outcome_lists(alloc, &sizes)?;
+    let outcomes = outcome_lists(alloc, limits, &sizes)?;
     let out = no_copies(alloc, ports)?;
     let batches = Vec::new(alloc);
     match run_with(

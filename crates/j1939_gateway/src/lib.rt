@@ -73,6 +73,7 @@ pub use gw_ports::RunReport;
 pub use gw_ports::Sink;
 pub use gw_ports::close;
 pub use gw_ports::gateway;
+pub use gw_ports::outcome_lists;
 pub use gw_ports::run;
 pub use gw_ports::run_from;
 pub use gw_ports::run_with;

@@ -130,8 +130,9 @@ pub(super) fn kept_lists(
     ))
 }
 
-/// By ingress port, an empty list with room for the outcomes of as many frames as it can take.
-fn outcome_lists(
+/// By ingress port, an empty list with room for the outcomes of as many of so many frames as it takes: sinks of `run_with` that
+/// keep all outcomes. It fails where memory is refused.
+pub fn outcome_lists(
     alloc: Global,
     limits: Limits,
     sizes: &[usize],

@@ -1,7 +1,8 @@
 use Rattle.std.proofs.Common.{Vec, Global, ap, arith, get_or, length, min, vec_capacity}
-use Rattle.std.proofs.lemmas.List.{get_or-map, length-map}
+use Rattle.std.proofs.lemmas.List.{length-map}
 use Rattle.gw_ledger.specs.declared.outcome.Outcome.{Outcome}
 use Rattle.gw_ports.specs.Ends.{end_in}
+use Rattle.gw_ports.proofs.Room.{room_at}
 use Rattle.gw_ports.proofs.Kept.{kept_all, kept_report, kept_room, kept_run}
 use Rattle.gw_ports.proofs.running.run_from.Goals as goal
 
@@ -24,21 +25,15 @@ run_opened-requires-clause-inputs g c κs within k d e below =
     let rooms = c.in-Ok-kept_lists.ensures in
     let lists = c.in-Ok-kept_lists.outcomes.items in
     let sizes = c.deref.result.now in
-    let frames = c.args.limits.frames in
-    let of_size : _ → _ = λ size. min size frames in
     let size = c.args.inputs.ok.0 in
     let size' = c.args.sizes.ok.0 in
     let many = c.requires.count in
-    let is = ap length c.deref.ensures.value in
-    let taken = ap length rooms.taken in
+    let is = c.deref.ensures.len in
     let count = length-map lists (λ (v : Vec Outcome Global). vec_capacity v) in
-    let count' = length-map sizes of_size in
-    let at = get_or-map (λ (v : Vec Outcome Global). vec_capacity v) lists k e 0 (omega arith) in
-    let at' = get_or-map of_size sizes k 0 0 (omega arith) in
-    let room = ap (λ l. get_or l k 0) rooms.taken in
+    let count' = length-map sizes (λ size. min size c.args.limits.frames) in
+    let taken = ap length rooms.taken in
+    let room = room_at lists sizes c.args.limits.frames rooms.empty.0 rooms.taken k e (omega arith) in
     let here = ap (λ l. get_or l k 0) c.deref.ensures.value in
-    let empty = ap length (rooms.empty.0 k e (omega arith)) in
-    let used = (get_or lists k e).ok.0 in
     let most = asked.1.1 in
     (asked.0, asked.1.0, λ finite. omega arith)
 

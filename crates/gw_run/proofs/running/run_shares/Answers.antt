@@ -1,8 +1,8 @@
-use Rattle.std.proofs.Common.{List, Option, ap, arith, length, slice_index, slice_index_or, subst}
+use Rattle.std.proofs.Common.{List, Option, ap, arith, slice_index, subst}
 use Rattle.std.proofs.lemmas.Result.{IfErr-weaker, IfOk-weaker}
 use Rattle.gw_ports.specs.declared.closing.Report.{Report}
 use Rattle.gw_ports.specs.declared.refusals.OfferRefusal.{OfferRefusal}
-use Rattle.gw_ports.proofs.Callers.{handed_lists}
+use Rattle.gw_ports.proofs.Callers.{handed_lists, room_at}
 use Rattle.gw_run.specs.Forwarding.{IsRunOn, IsStopOf}
 use Rattle.gw_run.proofs.Forwards.{kept_run, run_on_shares, stop_refuses}
 use Rattle.gw_run.proofs.running.run_shares.Goals as goal
@@ -16,12 +16,11 @@ run_with-requires-clause-inputs g c κs within k d e below =
     let sizes = shares.shares.1 in
     let size = c.in_ok-inputs.sizes.ok.0 in
     let count = lists.count in
-    let is = ap length c.deref.ensures.value in
+    let is = c.deref.ensures.len in
     let few = shares.sizes k d (omega arith) in
-    let room = lists.room k e (omega arith) in
+    let room =
+    room_at c.in_ok-outcomes.outcomes.items c.deref.result.now c.args.limits.frames lists.empty lists.room k e (omega arith) in
     let at = ap (λ l. slice_index l k) c.deref.ensures.value in
-    let empty = ap length (lists.empty k e (omega arith)) in
-    let used = (slice_index_or c.in_ok-outcomes.outcomes.items k e).ok.0 in
     (tt, tt, λ finite. omega arith)
 
 pub returns-in-Ok-clause-ran : goal.returns-in-Ok-clause-ran
