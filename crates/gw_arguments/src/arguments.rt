@@ -6,7 +6,7 @@ use crate::diff_arguments::diff_arguments;
 use crate::judge_arguments::judge_arguments;
 use crate::run_arguments::{run_arguments, wrong};
 use clap::{Arg, ArgAction, ArgGroup, ArgMatches, Command, Error, value_parser};
-use gw_commands::{FrameWord, Query};
+use gw_answers::{FrameWord, Query};
 use gw_ledger::MAX_PORTS;
 use std::alloc::{AllocError, Global};
 use std::convert::AsStr;

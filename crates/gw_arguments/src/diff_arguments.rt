@@ -5,7 +5,7 @@ use crate::building::Building;
 use crate::port_files::{WordFault, name_file, told};
 use crate::run_arguments::{file_option, port_count, wrong_in};
 use clap::{Arg, ArgMatches, Command, Error};
-use gw_commands::{PortFiles, TableFiles};
+use gw_answers::{PortFiles, TableFiles};
 use std::alloc::{AllocError, Global};
 use std::convert::AsStr;
 

@@ -6,7 +6,7 @@ use crate::run_arguments::{interface_option, port_count};
 use crate::source_arguments::{Usage, name_files};
 use crate::taking_arguments::asked_interfaces;
 use clap::{Arg, ArgMatches, Error};
-use gw_commands::{PolicyKind, PolicySource};
+use gw_answers::{PolicyKind, PolicySource};
 use gw_judge::NamedInterface;
 use gw_ledger::MAX_PORTS;
 use std::alloc::{AllocError, Global};

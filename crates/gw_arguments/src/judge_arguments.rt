@@ -5,7 +5,7 @@ use crate::building::Building;
 use crate::egress_arguments::{EgressRequest, asked_egress, with_egress};
 use crate::source_arguments::Usage;
 use clap::{Arg, ArgAction, ArgGroup, ArgMatches, Command, Error};
-use gw_commands::{CountForm, Grouping, LogQuery, PolicyKind, Shown};
+use gw_answers::{CountForm, Grouping, LogQuery, PolicyKind, Shown};
 use std::alloc::{AllocError, Global};
 use std::convert::AsStr;
 

@@ -9,7 +9,7 @@ use crate::source_arguments::{Usage, name_files};
 use crate::taking_arguments::asked_interfaces;
 use clap::error::ErrorKind;
 use clap::{Arg, ArgAction, ArgMatches, Command, Error, value_parser};
-use gw_commands::{PolicyKind, PolicySource};
+use gw_answers::{PolicyKind, PolicySource};
 use gw_judge::NamedInterface;
 use gw_ledger::{Limits, MAX_PORTS};
 use std::alloc::{AllocError, Global};

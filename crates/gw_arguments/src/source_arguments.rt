@@ -6,7 +6,7 @@ use crate::judge_arguments::judge_arguments;
 use crate::port_files::{WordFault, port_file, told};
 use crate::run_arguments::{run_arguments, wrong_in};
 use clap::Error;
-use gw_commands::{PolicyKind, PolicySource};
+use gw_answers::{PolicyKind, PolicySource};
 use std::alloc::Global;
 
 /// The command whose usage stands behind what is wrong.

@@ -5,7 +5,14 @@ use Rattle.std.specs.List.{list_any}
 use Rattle.clap.specs.declared.error.kind.ErrorKind.{ErrorKind}
 use Rattle.clap.specs.declared.error.kind.ErrorKind.TheVariants.{DisplayHelp, DisplayVersion}
 use Rattle.gw_arguments.specs.declared.run_arguments.RunRequest.{RunRequest}
-use Rattle.gw_commands.specs.Commands.{Does, Writes, WritesText}
+use Rattle.gw_answers.specs.Responses.{Writes, WritesText}
+use Rattle.gw_answers.specs.declared.policies.PolicySource.{PolicySource}
+use Rattle.gw_answers.specs.Requests.{tells_blocked}
+use Rattle.gw_answers.specs.declared.requests.PortFiles.{PortFiles}
+use Rattle.gw_answers.specs.declared.requests.LogQuery.{LogQuery}
+use Rattle.gw_answers.specs.declared.requests.Query.{Query}
+use Rattle.gw_answers.specs.declared.refusal.Refusal.TheVariants.{OutOfMemory}
+use Rattle.gw_commands.specs.Commands.{Does}
 use Rattle.gw_run.specs.Forwarding.{ForwardsNamed}
 use Rattle.gw_run.specs.PortInputs.{ForwardsFiles}
 use Rattle.gw_run.specs.declared.lines.Shown.{Shown}
@@ -13,18 +20,13 @@ use Rattle.gw_run.specs.declared.lines.Shown.TheVariants.{Lines, Json}
 use Rattle.gw_run.specs.declared.taking.Taking.{Taking}
 use Rattle.gw_run.specs.Egress.{WritesEgressNamed}
 use Rattle.gw_judge.specs.declared.interfaces.NamedInterface.{NamedInterface}
-use Rattle.gw_commands.specs.declared.policies.PolicySource.{PolicySource}
 use Rattle.gw_commands.specs.Differences.{ComparesNamed}
 use Rattle.gw_commands.specs.PortDifferences.{ComparesNamedPorts}
 use Rattle.gw_commands.specs.Judgings.{JudgesNamed}
 use Rattle.gw_commands.specs.LogClaims.{TellsHolders, TellsHoldersNamed}
 use Rattle.gw_commands.specs.LogDifferences.{DiffsNamed}
 use Rattle.gw_commands.specs.Replays.{Replays}
-use Rattle.gw_commands.specs.Queries.{AnswersNamed, AnswersQuery, RefusesQuery, tells_blocked}
-use Rattle.gw_commands.specs.declared.diff_ports_command.PortFiles.{PortFiles}
-use Rattle.gw_commands.specs.declared.judge_command.LogQuery.{LogQuery}
-use Rattle.gw_commands.specs.declared.query.Query.{Query}
-use Rattle.gw_commands.specs.declared.refusal.Refusal.TheVariants.{OutOfMemory}
+use Rattle.gw_commands.specs.Queries.{AnswersNamed, AnswersQuery, RefusesQuery}
 
 -- what `clap` answers is help or the version
 abbrev pub IsHelp : ErrorKind → Type 0

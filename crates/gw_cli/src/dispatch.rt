@@ -3,16 +3,16 @@
 ghost use Rattle.std.specs.Prelude.{◌≡◌, length, false, None};
 ghost use Rattle.clap.specs.Values.{kind_of};
 ghost use Rattle.gw_io.specs.Tries.{inner_of, has_failed, reads_of, unended_reads};
-ghost use Rattle.gw_commands.specs.Commands.{Does, WritesText};
+ghost use Rattle.gw_answers.specs.Responses.{WritesText};
+ghost use Rattle.gw_commands.specs.Commands.{Does};
 ghost use Rattle.gw_commands.specs.Verdicts.{AnswersVerdict, RefusesVerdict};
 ghost use Rattle.gw_cli.specs.Asked.{AnswersWords, DoesWords};
 
 use clap::Error;
 use clap::error::ErrorKind;
+use gw_answers::{Query, Refusal, respond};
 use gw_arguments::{Request, read_arguments};
-use gw_commands::{
-    Query, Refusal, answer_named, answer_query, claims_log, claims_log_named, replay, respond,
-};
+use gw_commands::{answer_named, answer_query, claims_log, claims_log_named, replay};
 use gw_io::{Tried, WriteFault, write_all};
 use std::alloc::Global;
 use std::convert::AsStr;

@@ -5,9 +5,9 @@ use Rattle.std.proofs.Common.{arith}
 use Rattle.std.proofs.lemmas.Bool.{true≢false}
 use Rattle.gw_table.specs.declared.difference.Difference.{Difference}
 use Rattle.gw_table.specs.Difference.{AreAlike, AreDifferences}
-use Rattle.gw_commands.specs.declared.refusal.Refusal.TheVariants.{OutOfMemory}
+use Rattle.gw_answers.specs.declared.refusal.Refusal.TheVariants.{OutOfMemory}
+use Rattle.gw_answers.specs.Responses.{Writes, WritesText}
 use Rattle.gw_commands.specs.declared.stated.StatedTable.{StatedTable}
-use Rattle.gw_commands.specs.Commands.{Writes, WritesText}
 use Rattle.gw_commands.specs.Differences.{IsDifferencesText, TellsDifferences, WritesOne, found_status}
 
 -- the status of a text that was written whole

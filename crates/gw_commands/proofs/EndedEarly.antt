@@ -7,10 +7,10 @@ use Rattle.std.specs.Io.KnownBytes.{Appends}
 use Rattle.gw_replay.specs.declared.whole.ReplayFault.{ReplayFault}
 use Rattle.gw_replay.specs.declared.whole.ReplayFault.TheVariants as fault
 use Rattle.gw_replay.specs.Written.{IsPartlyReplayed, IsHalted, IsReplayFault}
-use Rattle.gw_commands.specs.declared.refusal.Refusal.{Refusal}
+use Rattle.gw_answers.specs.declared.refusal.Refusal.{Refusal}
 use Rattle.gw_io.specs.Written.{WritesPart}
-use Rattle.gw_commands.specs.Commands.{Writes}
-use Rattle.gw_commands.specs.Refusals.{refusal_text}
+use Rattle.gw_answers.specs.Responses.{Writes}
+use Rattle.gw_answers.specs.Refusals.{refusal_text}
 use Rattle.gw_commands.specs.Replays.{Replays, fault_line}
 
 -- the line was written behind the answers, or a beginning of it where a write failed

@@ -9,6 +9,5 @@ pub mod LogTexts
 pub mod PathsTold
 pub mod PlaceByPlace
 pub mod PortsTold
-pub mod RefusalTexts
 pub mod ShownTexts
 pub mod TextsInOrder

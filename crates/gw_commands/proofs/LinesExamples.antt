@@ -2,7 +2,6 @@
 use Rattle.std.proofs.Common.{◌≡◌, [], ◌∷◌, true, false, Some, refl}
 use Rattle.std.specs.Prelude.{codes}
 use Rattle.std.specs.Fmt.{digits}
-use Rattle.gw_commands.specs.Answers.{verdict_line, accepted_line, passes_line}
 use Rattle.gw_commands.specs.Checks.{path_line}
 use Rattle.gw_table.specs.declared.table.Part.TheVariants.{Default, Other}
 use Rattle.gw_commands.specs.ClaimLines.{name_digits, holder_line}
@@ -13,26 +12,9 @@ use Rattle.gw_commands.specs.Shown.{groups_text, numbers_text}
 use Rattle.gw_input.specs.Lines.{lines_of}
 use Rattle.gw_input.specs.RuleLines.{rule_lines, rule_name}
 
-pass_7 : verdict_line 7 ≡ codes "pass 7\n"
-unfolding digits
-pass_7 = refl
-
-block_on_0 : verdict_line 0 ≡ codes "block\n"
-block_on_0 = refl
-
-accepted_4096 : accepted_line 4096 ≡ codes "accepted 4096\n"
-unfolding digits
-accepted_4096 = refl
-
 path_of_three : path_line (0 ∷ 1 ∷ 2 ∷ []) ≡ codes "path 0 1 2\n"
 unfolding digits
 path_of_three = refl
-
-table_passes : passes_line true ≡ codes "pass\n"
-table_passes = refl
-
-table_blocks : passes_line false ≡ codes "block\n"
-table_blocks = refl
 
 rule_2_of_line_14 : rule_name (1 ∷ 8 ∷ 14 ∷ []) 2 ≡ codes "rule 2 (line 14)"
 unfolding digits

@@ -7,10 +7,11 @@ use Rattle.gw_judge.specs.declared.groups.Grouping.{Grouping}
 use Rattle.gw_judge.specs.declared.report.Wanted.{Wanted}
 use Rattle.gw_judge.specs.declared.tally.Tally.{Tally}
 use Rattle.gw_judge.specs.Judged.{IsJudged, IsJudgeFault, IsPartlyJudged, wanted_front}
-use Rattle.gw_commands.specs.declared.judge_command.Shown.{Shown}
-use Rattle.gw_commands.specs.Judgings.{EndsEarly, IsEnded, TellsCounts, TellsEnd, wanted_of}
+use Rattle.gw_answers.specs.declared.requests.Shown.{Shown}
+use Rattle.gw_answers.specs.Openings.{TellsEnd}
+use Rattle.gw_answers.specs.declared.requests.CountForm.{CountForm}
+use Rattle.gw_commands.specs.Judgings.{EndsEarly, IsEnded, TellsCounts, wanted_of}
 use Rattle.gw_commands.specs.ToldCounts.{told_counts}
-use Rattle.gw_commands.specs.declared.log_counts.CountForm.{CountForm}
 
 pub ended : (fate : List ℕ → Fate) (lines : List ℕ) (counts : CountForm → Tally → List ℕ) (by : Grouping)
     (shown : Shown) (strict : Bool) (before after old middle new : Option (List ℕ)) (failed : Bool) (status : ℕ) (tally : Tally)

@@ -4,8 +4,8 @@ use Rattle.gw_verify.specs.Flow.{Forms}
 use Rattle.gw_verify.specs.declared.cause.Cause.{Cause}
 use Rattle.gw_verify.specs.declared.cause.Cause.TheVariants.{UnsetWord}
 use Rattle.gw_verify.specs.declared.path.Path.{Path}
+use Rattle.gw_answers.specs.Texts.{IsPathFor}
 use Rattle.gw_commands.specs.Checks.{IsUnset, LeavesUnset}
-use Rattle.gw_commands.specs.Verdicts.{IsPathFor}
 
 -- a path that is there leaves the word unset
 pub leaves_unset : (why : Cause) (forms : Forms) (place : ℕ) (path : Path) → IsPathFor why forms place (Some path)

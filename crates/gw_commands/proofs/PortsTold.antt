@@ -7,11 +7,11 @@ use Rattle.std.proofs.lemmas.Slice.Zip.{AllZip-long}
 use Rattle.gw_table.specs.declared.crossing.Change.{Change}
 use Rattle.gw_table.specs.declared.crossing.Crossing.{Crossing}
 use Rattle.gw_table.specs.Crossings.{AreAlikeEverywhere, AreCrossings}
+use Rattle.gw_answers.specs.declared.refusal.Refusal.{Refusal}
+use Rattle.gw_answers.specs.declared.refusal.Refusal.TheVariants.{OutOfMemory}
+use Rattle.gw_answers.specs.Responses.{Writes}
 use Rattle.gw_commands.specs.declared.diff_ports_command.PortTexts.{PortTexts}
 use Rattle.gw_commands.specs.declared.stated.StatedChange.{StatedChange}
-use Rattle.gw_commands.specs.declared.refusal.Refusal.{Refusal}
-use Rattle.gw_commands.specs.declared.refusal.Refusal.TheVariants.{OutOfMemory}
-use Rattle.gw_commands.specs.Commands.{Writes}
 use Rattle.gw_commands.specs.Differences.{Appends, IsDifferenceLine, WritesOne, found_status}
 use Rattle.gw_commands.specs.PortDifferences.{AreChanges, AreStated, IsChange, IsCrossingLine, IsCrossingsText}
 use Rattle.gw_commands.specs.PortDifferences.{IsStatedChange, RefusesEitherText, RefusesFirst, TellsCrossings, port_text}

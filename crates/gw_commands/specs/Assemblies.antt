@@ -8,12 +8,12 @@ use Rattle.gw_insn.specs.Spelling.{plain_listing}
 use Rattle.gw_text.specs.Assembly.{Assembles, first_refusal}
 use Rattle.gw_text.specs.Disassembly.{disassembly}
 use Rattle.gw_text.specs.declared.refusal.AsmRefusal.TheVariants as asm
-use Rattle.gw_commands.specs.declared.answer.Answer.{Answer}
-use Rattle.gw_commands.specs.declared.answer.Answer.TheVariants.{Text}
-use Rattle.gw_commands.specs.declared.refusal.Refusal.{Refusal}
-use Rattle.gw_commands.specs.declared.refusal.Refusal.TheVariants.{Assembler, NotUtf8, OutOfMemory}
+use Rattle.gw_answers.specs.declared.answer.Answer.{Answer}
+use Rattle.gw_answers.specs.declared.answer.Answer.TheVariants.{Text}
+use Rattle.gw_answers.specs.declared.refusal.Refusal.{Refusal}
+use Rattle.gw_answers.specs.declared.refusal.Refusal.TheVariants.{Assembler, NotUtf8, OutOfMemory}
 use Rattle.gw_input.specs.Programs.{NamesProgram}
-use Rattle.gw_commands.specs.Verdicts.{IsProgramRefusal}
+use Rattle.gw_answers.specs.Texts.{IsProgramRefusal}
 
 -- the listing of the code that the text means, and a line feed
 abbrev pub AnswersAsm : List ℕ → Answer → Type 0

@@ -8,14 +8,14 @@ use Rattle.gw_verify.specs.declared.cause.Cause.TheVariants.{UnsetWord}
 use Rattle.gw_verify.specs.declared.refused.Refused.{Refused}
 use Rattle.gw_verify.specs.Flow.{Forms, forms_of, IsBarePathTo}
 use Rattle.gw_verify.specs.Accepted.{IsRefusal}
-use Rattle.gw_commands.specs.declared.answer.Answer.{Answer}
-use Rattle.gw_commands.specs.declared.answer.Answer.TheVariants.{Accepted}
-use Rattle.gw_commands.specs.declared.refusal.Refusal.{Refusal}
-use Rattle.gw_commands.specs.declared.refusal.Refusal.TheVariants.{Program, Explained, OutOfMemory}
+use Rattle.gw_answers.specs.declared.answer.Answer.{Answer}
+use Rattle.gw_answers.specs.declared.answer.Answer.TheVariants.{Accepted}
+use Rattle.gw_answers.specs.declared.refusal.Refusal.{Refusal}
+use Rattle.gw_answers.specs.declared.refusal.Refusal.TheVariants.{Program, Explained, OutOfMemory}
 use Rattle.gw_input.specs.Programs.{NamesProgram}
 use Rattle.gw_input.specs.Refused.{refused_line, cause_details}
 use Rattle.gw_verify.specs.Cause.{cause_number}
-use Rattle.gw_commands.specs.Verdicts.{IsProgramRefusal}
+use Rattle.gw_answers.specs.Texts.{IsProgramRefusal}
 
 -- the number of instructions of the accepted program
 abbrev pub AnswersCheck : List ℕ → Answer → Type 0

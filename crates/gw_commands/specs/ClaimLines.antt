@@ -8,11 +8,11 @@ use Rattle.std.specs.Fmt.{digits}
 use Rattle.hex.specs.Hex.{decode_of}
 use Rattle.gw_frame.specs.Record.{refusal_of}
 use Rattle.gw_claims.specs.Holders.{holder_of, HoldsAfter}
-use Rattle.gw_commands.specs.declared.answer.Answer.{Answer}
-use Rattle.gw_commands.specs.declared.answer.Answer.TheVariants.{Text}
+use Rattle.gw_answers.specs.declared.answer.Answer.{Answer}
+use Rattle.gw_answers.specs.declared.answer.Answer.TheVariants.{Text}
 use Rattle.gw_input.specs.declared.records.RecordFault.{RecordFault}
-use Rattle.gw_commands.specs.declared.refusal.Refusal.{Refusal}
-use Rattle.gw_commands.specs.declared.refusal.Refusal.TheVariants.{RecordOnLine, OutOfMemory}
+use Rattle.gw_answers.specs.declared.refusal.Refusal.{Refusal}
+use Rattle.gw_answers.specs.declared.refusal.Refusal.TheVariants.{RecordOnLine, OutOfMemory}
 use Rattle.gw_input.specs.Lines.{lines_of}
 use Rattle.gw_input.specs.Records.{IsRecordFault}
 

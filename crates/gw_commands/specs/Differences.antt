@@ -12,15 +12,15 @@ use Rattle.gw_table.specs.Difference.{AreAlike, AreDifferences}
 use Rattle.gw_table.specs.PairFrames.{AreClear, AsksForPair}
 use Rattle.gw_input.specs.RuleLines.{rule_name}
 use Rattle.gw_input.specs.Tables.{IsTable}
-use Rattle.gw_commands.specs.declared.refusal.Refusal.{Refusal}
-use Rattle.gw_commands.specs.declared.refusal.Refusal.TheVariants.{OutOfMemory}
-use Rattle.gw_commands.specs.Commands.{Writes, WritesText}
+use Rattle.gw_answers.specs.declared.refusal.Refusal.{Refusal}
+use Rattle.gw_answers.specs.declared.refusal.Refusal.TheVariants.{OutOfMemory}
+use Rattle.gw_answers.specs.Responses.{Writes, WritesText}
+use Rattle.gw_answers.specs.Policies.{RefusesFile}
+use Rattle.gw_answers.specs.Texts.{RefusesText}
 use Rattle.gw_commands.specs.declared.stated.StatedChange.{StatedChange}
 use Rattle.gw_commands.specs.declared.stated.StatedTable.{StatedTable}
-use Rattle.gw_commands.specs.Policies.{RefusesFile}
 use Rattle.gw_commands.specs.Shown.{asked_line}
 use Rattle.gw_commands.specs.Stated.{IsStated}
-use Rattle.gw_commands.specs.Tables.{RefusesText}
 
 -- what decides a frame: a rule, `default` or `other`
 abbrev pub part_name : StatedTable → Part → List ℕ

@@ -1,13 +1,11 @@
 -- What the command `judge` reads and writes: `before` and `after` are what its reader has left, `old` and `new` what its writer
 -- took.
-use Rattle.std.specs.Prelude.{◌≡◌, ◌≢◌, ◌⊎◌, ℕ, ◌<◌, Bool, true, false, List, [], ◌∷◌, length, Option, None, Err}
-use Rattle.std.specs.Io.KnownBytes.{Consumes}
+use Rattle.std.specs.Prelude.{◌≡◌, ◌≢◌, ◌⊎◌, ℕ, Bool, true, false, List, [], ◌∷◌, Option, None, Err}
 use Rattle.gw_insn.specs.declared.insn.Insn.{Insn}
 use Rattle.gw_table.specs.Table.{Meaning}
 use Rattle.gw_input.specs.Programs.{NamesProgram}
 use Rattle.gw_input.specs.Tables.{IsTable}
 use Rattle.gw_input.specs.Refused.{refused_line}
-use Rattle.gw_log.specs.LogFrames.{refusal_number}
 use Rattle.gw_frame.specs.Record as frame
 use Rattle.gw_trace.specs.Refusals as trace
 use Rattle.gw_trace.specs.declared.refusal.TraceRefusal.{TraceRefusal}
@@ -16,7 +14,6 @@ use Rattle.gw_judge.specs.declared.capture_fault.CaptureFault.{CaptureFault}
 use Rattle.gw_judge.specs.declared.capture_tally.CaptureTally.{CaptureTally}
 use Rattle.gw_judge.specs.declared.fate.Fate.{Fate}
 use Rattle.gw_judge.specs.declared.fault.JudgeFault.{JudgeFault}
-use Rattle.gw_judge.specs.declared.fault.JudgeFault.TheVariants as ends
 use Rattle.gw_judge.specs.declared.groups.Grouping.{Grouping}
 use Rattle.gw_judge.specs.declared.groups.Grouping.TheVariants as grouping
 use Rattle.gw_judge.specs.declared.report.Wanted.{Wanted}
@@ -24,22 +21,22 @@ use Rattle.gw_judge.specs.declared.report.Wanted.TheVariants as wanted
 use Rattle.gw_judge.specs.declared.tally.Tally.{Tally}
 use Rattle.gw_judge.specs.Captures.{IsCaptureJudged, IsCapturePartlyJudged, with_refused}
 use Rattle.gw_judge.specs.Fates.{fate_of, policy_fate, table_fate}
-use Rattle.gw_judge.specs.Judged.{IsJudged, IsPartlyJudged, fault_number, wanted_front}
+use Rattle.gw_judge.specs.Judged.{IsJudged, IsPartlyJudged, wanted_front}
 use Rattle.gw_judge.specs.FirstOctets.{Opens, is_capture}
-use Rattle.gw_commands.specs.declared.judge_command.LogQuery.{LogQuery}
-use Rattle.gw_commands.specs.declared.judge_command.PolicyKind.{PolicyKind}
-use Rattle.gw_commands.specs.declared.judge_command.PolicyKind.TheVariants as kind
-use Rattle.gw_commands.specs.declared.judge_command.Shown.{Shown}
-use Rattle.gw_commands.specs.declared.judge_command.Shown.TheVariants.{Counts, Passed, Blocked, Each}
-use Rattle.gw_commands.specs.declared.log_counts.CountForm.{CountForm}
-use Rattle.gw_commands.specs.declared.refusal.Refusal.{Refusal}
-use Rattle.gw_commands.specs.declared.refusal.Refusal.TheVariants.{OutOfMemory}
-use Rattle.gw_commands.specs.Commands.{Writes, WritesText}
-use Rattle.gw_commands.specs.Policies.{RefusesFile}
+use Rattle.gw_answers.specs.declared.requests.LogQuery.{LogQuery}
+use Rattle.gw_answers.specs.declared.requests.PolicyKind.{PolicyKind}
+use Rattle.gw_answers.specs.declared.requests.PolicyKind.TheVariants as kind
+use Rattle.gw_answers.specs.declared.requests.Shown.{Shown}
+use Rattle.gw_answers.specs.declared.requests.Shown.TheVariants.{Counts, Passed, Blocked, Each}
+use Rattle.gw_answers.specs.declared.requests.CountForm.{CountForm}
+use Rattle.gw_answers.specs.declared.refusal.Refusal.{Refusal}
+use Rattle.gw_answers.specs.declared.refusal.Refusal.TheVariants.{OutOfMemory}
+use Rattle.gw_answers.specs.Openings.{TellsEnd, HasNoLines, FailsToOpen}
+use Rattle.gw_answers.specs.Responses.{Writes, WritesText, OnlyRefuses}
+use Rattle.gw_answers.specs.Policies.{RefusesFile}
+use Rattle.gw_answers.specs.Texts.{RefusesText, IsProgramRefusal}
 use Rattle.gw_commands.specs.Stated.{known_lines}
-use Rattle.gw_commands.specs.Tables.{RefusesText}
 use Rattle.gw_commands.specs.ToldCounts.{policy_told, table_told, told_counts}
-use Rattle.gw_commands.specs.Verdicts.{IsProgramRefusal}
 
 -- which lines are written
 abbrev pub wanted_of : Shown → Wanted
@@ -48,33 +45,18 @@ wanted_of Passed = wanted.Passed
 wanted_of Blocked = wanted.Blocked
 wanted_of Each = wanted.Each
 
--- the line of what ends a log early: its number, and that of the line that is refused
-abbrev pub fault_line : JudgeFault → List ℕ
-fault_line (ends.Refused refused) = refused_line (refusal_number refused.why) (refused.line ∷ [])
-fault_line fault = refused_line (fault_number fault) []
-
--- what stands behind the lines of a log: the counts where they are asked for, and there the line of what ended it early
+-- what stands behind the lines of a log: the counts where they are asked for
 abbrev pub counts_behind : (CountForm → Tally → List ℕ) → Shown → Tally → List ℕ
 counts_behind counts (Counts form) tally = counts form tally
 counts_behind counts Passed tally = []
 counts_behind counts Blocked tally = []
 counts_behind counts Each tally = []
 
-abbrev pub fault_behind : Shown → JudgeFault → List ℕ
-fault_behind (Counts form) fault = fault_line fault
-fault_behind Passed fault = []
-fault_behind Blocked fault = []
-fault_behind Each fault = []
-
 -- the counts were written, with status 0; or memory was wanting for them
 abbrev pub TellsCounts : (CountForm → Tally → List ℕ) → Shown → Tally → Option (List ℕ) → Option (List ℕ) → Bool → ℕ → Type 0
 TellsCounts counts shown tally old new failed status =
     WritesText (counts_behind counts shown tally) 0 status old new failed
     ⊎ ((form : CountForm) × (shown ≡ Counts form) × Writes (Err OutOfMemory) status old new failed)
-
--- what ended a log early was written, with status 1
-abbrev pub TellsEnd : Shown → JudgeFault → Option (List ℕ) → Option (List ℕ) → Bool → ℕ → Type 0
-TellsEnd shown fault old new failed status = WritesText (fault_behind shown fault) 1 status old new failed
 
 -- the log was judged to its end, its frames were counted in these groups, and the counts told; a rule stands at its line
 pub record IsEnded (fate : List ℕ → Fate) (lines : List ℕ) (counts : CountForm → Tally → List ℕ) (by : Grouping) (shown : Shown)
@@ -127,11 +109,6 @@ CountsCapture fate counts by form strict first before after read_failed old new 
     (IsCaptureEnded fate counts by form strict first before after old new failed status × (read_failed ≡ false))
     ⊎ CaptureEndsEarly strict first before after read_failed old new failed status
 
--- a capture has no lines: where they are asked for, nothing more is read and nothing is written
-abbrev pub HasNoLines : Option (List ℕ) → Option (List ℕ) → Bool → Option (List ℕ) → Option (List ℕ) → Bool → ℕ → Type 0
-HasNoLines before after read_failed old new failed status =
-    (after ≡ before) × (read_failed ≡ false) × WritesText [] 1 status old new failed
-
 abbrev pub EndsCapture : (List ℕ → Fate) → (CountForm → Tally → List ℕ) → Grouping → Shown → Bool → List ℕ → Option (List ℕ)
     → Option (List ℕ) → Bool → Option (List ℕ) → Option (List ℕ) → Bool → ℕ → Type 0
 EndsCapture fate counts by (Counts form) strict first before after read_failed old new failed status =
@@ -144,15 +121,6 @@ EndsCapture fate counts by Each strict first before after read_failed old new fa
     HasNoLines before after read_failed old new failed status
 
 -- ---- any input
-
--- a read failed within the first four octets
-pub record FailsToOpen (shown : Shown) (before after : Option (List ℕ)) (read_failed : Bool) (old new : Option (List ℕ))
-    (failed : Bool) (status : ℕ) : Type 0 where
-  pub got : List ℕ
-  pub consumed : Consumes before after got
-  pub short : length got < 4
-  pub fault : read_failed ≡ true
-  pub told : TellsEnd shown ends.ReadFault old new failed status
 
 -- a log, or a capture where these first octets are a magic number
 abbrev pub EndsOpened : Bool → (List ℕ → Fate) → List ℕ → (CountForm → Tally → List ℕ) → Grouping → Shown → Bool → List ℕ
@@ -169,10 +137,6 @@ EndsInput fate lines counts by shown strict before after read_failed old new fai
     ((first : List ℕ) × (middle : Option (List ℕ)) × Opens before middle first
     × EndsOpened (is_capture first) fate lines counts by shown strict first before middle after read_failed old new failed status)
     ⊎ FailsToOpen shown before after read_failed old new failed status
-
--- a refusal was written, and nothing was read
-abbrev pub OnlyRefuses : Refusal → Option (List ℕ) → Option (List ℕ) → Option (List ℕ) → Option (List ℕ) → Bool → ℕ → Type 0
-OnlyRefuses refusal before after old new failed status = (after ≡ before) × Writes (Err refusal) status old new failed
 
 -- the same; or memory was wanting for groups that are asked for, and nothing was read
 abbrev pub JudgesGroups : (List ℕ → Fate) → List ℕ → (CountForm → Tally → List ℕ) → Grouping → Shown → Bool → Option (List ℕ)

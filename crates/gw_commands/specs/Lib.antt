@@ -1,22 +1,18 @@
 -- All of it is public meaning: what the command line promises of its input, its output and its status.
-pub mod Answers
 pub mod Assemblies
 pub mod Checks
 pub mod ClaimLines
 pub mod Commands
 pub mod Differences
 pub mod PortDifferences
-pub mod Frames
 pub mod GroupNames
 pub mod JsonCounts
 pub mod Judgings
 pub mod LogClaims
 pub mod LogCounts
 pub mod LogDifferences
-pub mod Policies
 pub mod Queries
 pub mod Questions
-pub mod Refusals
 pub mod Replays
 pub mod Shown
 pub mod Stated

@@ -10,12 +10,12 @@ use Rattle.gw_log.specs.LogLines.{Entry}
 use Rattle.gw_judge.specs.declared.listener.ListenFault.TheVariants as listening
 use Rattle.gw_judge.specs.declared.tally.Tally.{Tally}
 use Rattle.gw_judge.specs.Heard.{IsHeard, IsPartlyHeard}
-use Rattle.gw_commands.specs.declared.answer.Answer.{Answer}
-use Rattle.gw_commands.specs.declared.answer.Answer.TheVariants.{Text}
-use Rattle.gw_commands.specs.declared.refusal.Refusal.{Refusal}
-use Rattle.gw_commands.specs.declared.refusal.Refusal.TheVariants.{ReadFault, OutOfMemory}
+use Rattle.gw_answers.specs.declared.answer.Answer.{Answer}
+use Rattle.gw_answers.specs.declared.answer.Answer.TheVariants.{Text}
+use Rattle.gw_answers.specs.declared.refusal.Refusal.{Refusal}
+use Rattle.gw_answers.specs.declared.refusal.Refusal.TheVariants.{ReadFault, OutOfMemory}
+use Rattle.gw_answers.specs.Responses.{Writes}
 use Rattle.gw_commands.specs.ClaimLines.{holder_line}
-use Rattle.gw_commands.specs.Commands.{Writes}
 
 -- each name once, in the order in which they first come
 abbrev pub distinct : List (List ℕ) → List (List ℕ)

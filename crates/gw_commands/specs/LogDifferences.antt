@@ -9,11 +9,12 @@ use Rattle.gw_judge.specs.declared.report.Wanted.TheVariants as wanted
 use Rattle.gw_judge.specs.declared.tally.Tally.{Tally}
 use Rattle.gw_judge.specs.Fates.{fate_of, changed_fate}
 use Rattle.gw_judge.specs.Judged.{IsJudged, wanted_front}
-use Rattle.gw_commands.specs.declared.judge_command.Shown.TheVariants.{Each}
-use Rattle.gw_commands.specs.declared.refusal.Refusal.{Refusal}
+use Rattle.gw_answers.specs.declared.requests.Shown.TheVariants.{Each}
+use Rattle.gw_answers.specs.declared.refusal.Refusal.{Refusal}
+use Rattle.gw_answers.specs.Responses.{OnlyRefuses}
+use Rattle.gw_answers.specs.Policies.{RefusesFile}
 use Rattle.gw_commands.specs.Differences.{RefusesEither}
-use Rattle.gw_commands.specs.Judgings.{EndsEarly, OnlyRefuses}
-use Rattle.gw_commands.specs.Policies.{RefusesFile}
+use Rattle.gw_commands.specs.Judgings.{EndsEarly}
 use Rattle.gw_commands.specs.Stated.{known_lines}
 
 -- 0 where no line has a verdict, and every write succeeded

@@ -5,14 +5,14 @@ use Rattle.std.specs.List.{AllZip}
 use Rattle.gw_table.specs.declared.crossing.Change.{Change}
 use Rattle.gw_table.specs.declared.crossing.Crossing.{Crossing}
 use Rattle.gw_table.specs.Crossings.{AreAlikeEverywhere, AreCrossings}
-use Rattle.gw_commands.specs.declared.diff_ports_command.PortFiles.{PortFiles}
+use Rattle.gw_answers.specs.declared.requests.PortFiles.{PortFiles}
+use Rattle.gw_answers.specs.declared.refusal.Refusal.{Refusal}
+use Rattle.gw_answers.specs.declared.refusal.Refusal.TheVariants.{OutOfMemory}
+use Rattle.gw_answers.specs.Responses.{Writes}
+use Rattle.gw_answers.specs.Policies.{RefusesFile}
 use Rattle.gw_commands.specs.declared.diff_ports_command.PortTexts.{PortTexts}
 use Rattle.gw_commands.specs.declared.stated.StatedChange.{StatedChange}
-use Rattle.gw_commands.specs.declared.refusal.Refusal.{Refusal}
-use Rattle.gw_commands.specs.declared.refusal.Refusal.TheVariants.{OutOfMemory}
-use Rattle.gw_commands.specs.Commands.{Writes}
 use Rattle.gw_commands.specs.Differences.{AreTablesOf, IsDifferenceLine, IsTextOf, RefusesEither, WritesOne, found_status}
-use Rattle.gw_commands.specs.Policies.{RefusesFile}
 
 -- the port at which a frame leaves, in front of what is told of it
 abbrev pub port_text : ℕ → List ℕ

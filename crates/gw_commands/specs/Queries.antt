@@ -1,18 +1,21 @@
 -- What answers the input of a command that reads it whole, and which refusal is its first.
-use Rattle.std.specs.Prelude.{ℕ, ◌⊎◌, Bool, false, List, Option, Err}
-use Rattle.gw_commands.specs.declared.answer.Answer.{Answer}
-use Rattle.gw_commands.specs.declared.refusal.Refusal.{Refusal}
-use Rattle.gw_commands.specs.declared.query.Query.{Query}
-use Rattle.gw_commands.specs.declared.query.Query.TheVariants as query
-use Rattle.gw_commands.specs.declared.query.Query.TheVariants.{Verdict, Check, Asm, Claims, Table, Show, Ask}
+use Rattle.std.specs.Prelude.{ℕ, ◌⊎◌, Bool, List, Option, Err}
+use Rattle.gw_answers.specs.declared.answer.Answer.{Answer}
+use Rattle.gw_answers.specs.declared.refusal.Refusal.{Refusal}
+use Rattle.gw_answers.specs.declared.requests.Query.{Query}
+use Rattle.gw_answers.specs.declared.requests.Query.TheVariants as query
+use Rattle.gw_answers.specs.declared.requests.Query.TheVariants.{Verdict, Check, Asm, Claims, Table, Show, Ask}
+use Rattle.gw_answers.specs.Responses.{Writes}
+use Rattle.gw_answers.specs.Requests.{tells_blocked}
+use Rattle.gw_answers.specs.Policies.{RefusesFile}
+use Rattle.gw_answers.specs.Texts.{RefusesText}
 use Rattle.gw_commands.specs.Assemblies.{AnswersAsm, RefusesAsm, AnswersList, RefusesList}
 use Rattle.gw_commands.specs.Checks.{AnswersCheck, RefusesCheck}
 use Rattle.gw_commands.specs.ClaimLines.{AnswersClaims, RefusesClaims}
-use Rattle.gw_commands.specs.Commands.{DoesOn, Writes}
-use Rattle.gw_commands.specs.Policies.{RefusesFile}
+use Rattle.gw_commands.specs.Commands.{DoesOn}
 use Rattle.gw_commands.specs.Questions.{AnswersAsk}
 use Rattle.gw_commands.specs.Shown.{AnswersShow}
-use Rattle.gw_commands.specs.Tables.{AnswersTable, RefusesTable, RefusesText}
+use Rattle.gw_commands.specs.Tables.{AnswersTable, RefusesTable}
 use Rattle.gw_commands.specs.Verdicts.{AnswersVerdict, RefusesVerdict}
 
 abbrev pub AnswersQuery : Query → List ℕ → Answer → Type 0
@@ -34,12 +37,6 @@ RefusesQuery Claims input refusal = RefusesClaims input refusal
 RefusesQuery (Table port frame why tells) input refusal = RefusesTable frame input refusal
 RefusesQuery Show input refusal = RefusesText input refusal
 RefusesQuery (Ask question) input refusal = RefusesText input refusal
-
--- whether the exit status is to tell that a frame is blocked
-abbrev pub tells_blocked : Query → Bool
-tells_blocked (Verdict port word tells) = tells
-tells_blocked (Table port frame why tells) = tells
-tells_blocked _ = false
 
 -- a query was answered from a file, whatever it holds; or the file was refused
 abbrev pub AnswersNamed : Query → Option (List ℕ) → Option (List ℕ) → Bool → ℕ → Type 0

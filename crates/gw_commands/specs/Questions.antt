@@ -5,10 +5,10 @@ use Rattle.gw_table.specs.declared.question.Answer.TheVariants.{AllPass, NonePas
 use Rattle.gw_table.specs.declared.question.Question.{Question}
 use Rattle.gw_table.specs.declared.question.Sample.{Sample}
 use Rattle.gw_table.specs.Question.{IsAnswer, why_text}
+use Rattle.gw_answers.specs.declared.answer.Answer as command
+use Rattle.gw_answers.specs.declared.answer.Answer.TheVariants.{Text}
 use Rattle.gw_commands.specs.declared.stated.StatedTable.{StatedTable}
 use Rattle.gw_commands.specs.Stated.{IsStated}
-use Rattle.gw_commands.specs.declared.answer.Answer as command
-use Rattle.gw_commands.specs.declared.answer.Answer.TheVariants.{Text}
 use Rattle.gw_commands.specs.Differences.{side_text, place_text}
 
 -- the line of a frame: what decides it, whether the table passes it, the frame and its port

@@ -1,19 +1,16 @@
 -- What the command `table` answers and refuses.
 use Rattle.std.specs.Prelude.{◌≡◌, ℕ, ◌⊎◌, List, [], ◌∷◌, ◌++◌, map, Option, Some, None}
-use Rattle.std.specs.Str.{IsUtf8}
 use Rattle.gw_insn.specs.Table.{raw_of}
 use Rattle.gw_insn.specs.Spelling.{plain_listing}
 use Rattle.gw_table.specs.Table.{Meaning, table_passes}
-use Rattle.gw_table.specs.TableText.{IsTableRefusal}
 use Rattle.gw_table.specs.Emission.{emission}
-use Rattle.gw_input.specs.Places.{IsToldPlace}
 use Rattle.gw_input.specs.Tables.{IsTable}
-use Rattle.gw_commands.specs.declared.answer.Answer.{Answer}
-use Rattle.gw_commands.specs.declared.answer.Answer.TheVariants.{Passes, Text}
-use Rattle.gw_commands.specs.declared.refusal.Refusal.{Refusal}
-use Rattle.gw_commands.specs.declared.refusal.Refusal.TheVariants.{NotUtf8, Table, OutOfMemory}
-use Rattle.gw_commands.specs.declared.frames.FrameWord.{FrameWord}
-use Rattle.gw_commands.specs.Frames.{MeansFrame, RefusesFrame}
+use Rattle.gw_answers.specs.declared.answer.Answer.{Answer}
+use Rattle.gw_answers.specs.declared.answer.Answer.TheVariants.{Passes, Text}
+use Rattle.gw_answers.specs.declared.refusal.Refusal.{Refusal}
+use Rattle.gw_answers.specs.declared.frames.FrameWord.{FrameWord}
+use Rattle.gw_answers.specs.Frames.{MeansFrame, RefusesFrame}
+use Rattle.gw_answers.specs.Texts.{RefusesText}
 
 -- the listing of a table's program, and a line feed
 abbrev pub compiled_line : Meaning → List ℕ
@@ -26,13 +23,6 @@ AnswersTable (Some word) port input (Passes passes) =
     (table : Meaning) × (octets : List ℕ) × MeansFrame word octets × IsTable input table
     × (passes ≡ table_passes table octets port)
 AnswersTable _ port input _ = ⊥
-
--- what refuses a table's text; memory may be wanting for the listing of a table
-abbrev pub RefusesText : List ℕ → Refusal → Type 0
-RefusesText input NotUtf8 = IsUtf8 input → ⊥
-RefusesText input (Table why place) = IsUtf8 input × IsTableRefusal input why × IsToldPlace input why place
-RefusesText input OutOfMemory = (table : Meaning) × IsTable input table
-RefusesText input _ = ⊥
 
 -- the first refusal: the frame's, or with a frame the table's
 abbrev pub RefusesTable : Option FrameWord → List ℕ → Refusal → Type 0

@@ -5,8 +5,8 @@ use Rattle.gw_policy.specs.Filter.{Filter}
 use Rattle.gw_judge.specs.declared.groups.Grouping.{Grouping}
 use Rattle.gw_judge.specs.declared.groups.Grouping.TheVariants as by
 use Rattle.gw_judge.specs.declared.tally.Tally.{Tally}
-use Rattle.gw_commands.specs.declared.log_counts.CountForm.{CountForm}
-use Rattle.gw_commands.specs.declared.log_counts.CountForm.TheVariants.{Lines, Json}
+use Rattle.gw_answers.specs.declared.requests.CountForm.{CountForm}
+use Rattle.gw_answers.specs.declared.requests.CountForm.TheVariants.{Lines, Json}
 use Rattle.gw_commands.specs.LogCounts.{group_counts, policy_counts, table_counts}
 use Rattle.gw_commands.specs.JsonCounts.{grouped_json, policy_json, table_json}
 

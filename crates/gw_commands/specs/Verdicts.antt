@@ -1,20 +1,14 @@
 -- What a program answers on a record, both given as text.
-use Rattle.std.specs.Prelude.{◌≡◌, ℕ, ◌⊎◌, List, [], Option, Some, None, MatchOption}
+use Rattle.std.specs.Prelude.{ℕ, ◌⊎◌, List, [], Option, Some, None}
 use Rattle.gw_insn.specs.declared.insn.Insn.{Insn}
-use Rattle.gw_insn.specs.Listing.{IsListing, IsListRefusal}
-use Rattle.gw_verify.specs.declared.cause.Cause.{Cause}
-use Rattle.gw_verify.specs.declared.cause.Cause.TheVariants.{UnsetWord}
-use Rattle.gw_verify.specs.declared.path.Path.{Path}
-use Rattle.gw_verify.specs.Flow.{Forms, forms_of, IsBarePathTo}
-use Rattle.gw_verify.specs.Accepted.{IsRefusal}
 use Rattle.gw_machine.specs.Runs.{Returns}
-use Rattle.gw_commands.specs.declared.answer.Answer.{Answer}
-use Rattle.gw_commands.specs.declared.answer.Answer.TheVariants.{Verdict}
+use Rattle.gw_answers.specs.declared.answer.Answer.{Answer}
+use Rattle.gw_answers.specs.declared.answer.Answer.TheVariants.{Verdict}
 use Rattle.gw_input.specs.Programs.{NamesProgram}
-use Rattle.gw_commands.specs.declared.frames.FrameWord.{FrameWord}
-use Rattle.gw_commands.specs.Frames.{MeansFrame, RefusesFrame, RefusesRecord}
-use Rattle.gw_commands.specs.declared.refusal.Refusal.{Refusal}
-use Rattle.gw_commands.specs.declared.refusal.Refusal.TheVariants.{Listing, Program}
+use Rattle.gw_answers.specs.declared.frames.FrameWord.{FrameWord}
+use Rattle.gw_answers.specs.Frames.{MeansFrame, RefusesFrame, RefusesRecord}
+use Rattle.gw_answers.specs.declared.refusal.Refusal.{Refusal}
+use Rattle.gw_answers.specs.Texts.{IsProgramRefusal}
 use Rattle.gw_input.specs.Lines.{first_line, behind_first}
 use Rattle.gw_input.specs.Records.{NamesRecord}
 
@@ -44,20 +38,6 @@ pub record IsVerdict (word : Option FrameWord) (input : List ℕ) (port answer :
   pub judged : IsJudged word input octets
   pub listed : NamesProgram (listing_text word input) program
   pub returns : Returns program octets port answer steps
-
--- a path that leaves the word unset: for an unset word alone, and none where memory was wanting for it
-abbrev pub IsPathFor : Cause → Forms → ℕ → Option Path → Type 0
-IsPathFor (UnsetWord word) forms place path =
-    MatchOption path (Unit {0}) (λ found. IsBarePathTo forms found.places.items place word)
-IsPathFor _ forms place path = path ≡ None
-
--- what refuses a listing: its own refusal, or that of the code that it lists
-abbrev pub IsProgramRefusal : List ℕ → Refusal → Type 0
-IsProgramRefusal listing (Listing why) = IsListRefusal listing why
-IsProgramRefusal listing (Program refused path) =
-    IsListing listing refused.code.items × IsRefusal (forms_of refused.code.items) refused.why refused.place
-    × IsPathFor refused.why (forms_of refused.code.items) refused.place path
-IsProgramRefusal listing _ = ⊥
 
 -- What the command `verdict` answers and refuses, with a word of the command line for the record or without, and for a taking
 -- port.

@@ -1,13 +1,12 @@
 //! The command `ask`: what a table does to the frames of a question.
 
 ghost use Rattle.std.specs.Prelude.{IfOk, IfErr};
+ghost use Rattle.gw_answers.specs.Texts.{RefusesText};
 ghost use Rattle.gw_commands.specs.Questions.{AnswersAsk, TellsAnswer};
-ghost use Rattle.gw_commands.specs.Tables.{RefusesText};
 
-use crate::answer::Answer;
 use crate::answer_lines::table_answer_text;
-use crate::refusal::Refusal;
 use crate::stated::StatedTable;
+use gw_answers::{Answer, Refusal};
 use gw_table::Question;
 use std::alloc::{AllocError, Global};
 

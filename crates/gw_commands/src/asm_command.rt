@@ -3,8 +3,7 @@
 ghost use Rattle.std.specs.Prelude.{IfOk, IfErr};
 ghost use Rattle.gw_commands.specs.Assemblies.{AnswersAsm, RefusesAsm};
 
-use crate::answer::Answer;
-use crate::refusal::Refusal;
+use gw_answers::{Answer, Refusal};
 use gw_insn::write_listing;
 use gw_text::assemble;
 use std::alloc::Global;

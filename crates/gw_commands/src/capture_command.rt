@@ -3,13 +3,13 @@
 ghost use Rattle.std.specs.Prelude.{◌≡◌, false};
 ghost use Rattle.gw_io.specs.Tries.{inner_of, has_failed};
 ghost use Rattle.gw_judge.specs.Grouped.{no_groups};
-ghost use Rattle.gw_commands.specs.declared.judge_command.Shown.TheVariants.{Counts};
+ghost use Rattle.gw_answers.specs.declared.requests.Shown.TheVariants.{Counts};
 ghost use Rattle.gw_commands.specs.Judgings.{CountsCapture, EndsCapture, capture_line};
 
-use crate::judge_command::{LogPolicy, LogQuery, Shown, tell_counts};
-use crate::log_counts::{CountForm, TellsParts};
+use crate::judge_command::{LogPolicy, tell_counts};
+use crate::log_counts::TellsParts;
 use crate::notes::{note_no_lines, note_refused_records};
-use crate::responding::write_refusal;
+use gw_answers::{CountForm, LogQuery, Shown, write_refusal};
 use gw_input::{Line, refused};
 use gw_io::Tried;
 use gw_judge::{Groups, judge_capture};

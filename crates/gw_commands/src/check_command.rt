@@ -1,13 +1,11 @@
 //! The command `check`: whether a listing's program is accepted.
 
 ghost use Rattle.std.specs.Prelude.{◌≡◌, ◌++◌, ℕ, List, Some, None, IfOk, IfErr, string_bytes};
+ghost use Rattle.gw_answers.specs.Texts.{IsProgramRefusal};
+ghost use Rattle.gw_answers.specs.declared.refusal.Refusal.TheVariants.{Program};
 ghost use Rattle.gw_commands.specs.Checks.{AnswersCheck, RefusesCheck, explained_lines, path_line};
-ghost use Rattle.gw_commands.specs.Verdicts.{IsProgramRefusal};
-ghost use Rattle.gw_commands.specs.declared.refusal.Refusal.TheVariants.{Program};
 
-use crate::answer::Answer;
-use crate::refusal::Refusal;
-use crate::texts::program;
+use gw_answers::{Answer, Refusal, program};
 use gw_input::refused_code;
 use gw_verify::{Cause, Path, Refused};
 use std::alloc::{AllocError, Global};

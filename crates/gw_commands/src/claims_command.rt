@@ -16,9 +16,7 @@ ghost use Rattle.gw_commands.specs.ClaimLines.{
   holder_lines,
 };
 
-use crate::answer::Answer;
-use crate::notes::note_uncounted;
-use crate::refusal::Refusal;
+use gw_answers::{Answer, Refusal, note_uncounted};
 use gw_claims::Claims;
 use gw_ident::Name;
 use gw_input::{RecordFault, first_line, record};

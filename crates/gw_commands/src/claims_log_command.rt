@@ -4,11 +4,9 @@ ghost use Rattle.std.specs.Prelude.{◌≡◌, false, IfOk, IfErr};
 ghost use Rattle.gw_io.specs.Tries.{inner_of, has_failed};
 ghost use Rattle.gw_commands.specs.LogClaims.{AnswersLog, RefusesLog, TellsHolders, TellsHoldersNamed};
 
-use crate::answer::Answer;
-use crate::notes::{note_file, note_no_log, note_refused_lines, note_unread};
-use crate::refusal::Refusal;
-use crate::responding::{refuse_file, respond};
+use crate::notes::{note_no_log, note_refused_lines};
 use crate::segments::Segments;
+use gw_answers::{Answer, Refusal, note_file, note_unread, refuse_file, respond};
 use gw_io::Tried;
 use gw_judge::{Head, ListenFault, listen};
 use std::alloc::{AllocError, Global};

@@ -2,7 +2,10 @@
 
 ghost use Rattle.std.specs.Prelude.{◌≡◌, ◌⊎◌, false, Err, IfOk, IfErr};
 ghost use Rattle.gw_io.specs.Tries.{inner_of, has_failed};
-ghost use Rattle.gw_commands.specs.Commands.{Writes, WritesText};
+ghost use Rattle.gw_answers.specs.Responses.{Writes, WritesText};
+ghost use Rattle.gw_answers.specs.Policies.{RefusesFile};
+ghost use Rattle.gw_answers.specs.Texts.{RefusesText};
+ghost use Rattle.gw_answers.specs.declared.refusal.Refusal.TheVariants.{OutOfMemory};
 ghost use Rattle.gw_commands.specs.Differences.{
   AreTablesOf,
   ComparesNamed,
@@ -13,29 +16,17 @@ ghost use Rattle.gw_commands.specs.Differences.{
   TellsDifferences,
   found_status,
 };
-ghost use Rattle.gw_commands.specs.Policies.{RefusesFile};
 ghost use Rattle.gw_commands.specs.Stated.{IsStated};
-ghost use Rattle.gw_commands.specs.Tables.{RefusesText};
-ghost use Rattle.gw_commands.specs.declared.refusal.Refusal.TheVariants.{OutOfMemory};
 
 use crate::difference_lines::differences_text;
-use crate::files::read_file;
-use crate::notes::{note_file, note_program};
-use crate::refusal::Refusal;
-use crate::responding::{refuse, write_text};
+use crate::notes::note_program;
 use crate::stated::{StatedChange, StatedTable};
+use gw_answers::{Refusal, TableFiles, note_file, read_file, refuse, write_text};
 use gw_io::Tried;
 use gw_table::Difference;
 use std::alloc::{AllocError, Global};
 use std::io::Write;
 use std::rt::Files;
-
-/// The names of the files of two tables.
-#[derive(Clone, Copy, PartialEq, Eq, Debug)]
-pub struct TableFiles<'a> {
-    pub old: &'a str,
-    pub new: &'a str,
-}
 
 /// What the files of two tables hold.
 #[derive(Drop)]

@@ -3,9 +3,10 @@
 ghost use Rattle.std.specs.Prelude.{◌≡◌, ◌<◌, ◌⊎◌, false, All, Err, length, IfOk, IfErr};
 ghost use Rattle.gw_io.specs.Tries.{inner_of, has_failed};
 ghost use Rattle.gw_table.specs.Crossings.{AreCrossings, AreAlikeEverywhere};
-ghost use Rattle.gw_commands.specs.Commands.{Writes, WritesText};
+ghost use Rattle.gw_answers.specs.Responses.{Writes, WritesText};
+ghost use Rattle.gw_answers.specs.Policies.{RefusesFile};
+ghost use Rattle.gw_answers.specs.declared.refusal.Refusal.TheVariants.{OutOfMemory};
 ghost use Rattle.gw_commands.specs.Differences.{WritesOne, found_status};
-ghost use Rattle.gw_commands.specs.Policies.{RefusesFile};
 ghost use Rattle.gw_commands.specs.PortDifferences.{
   AreChanges,
   AreStated,
@@ -20,26 +21,16 @@ ghost use Rattle.gw_commands.specs.PortDifferences.{
   RefusesFirst,
   TellsCrossings,
 };
-ghost use Rattle.gw_commands.specs.declared.refusal.Refusal.TheVariants.{OutOfMemory};
 
 use crate::crossing_lines::crossings_text;
-use crate::diff_command::{TableFiles, told_file, told_tables};
-use crate::refusal::Refusal;
-use crate::responding::{refuse, write_text};
+use crate::diff_command::{told_file, told_tables};
 use crate::stated::StatedChange;
+use gw_answers::{PortFiles, Refusal, TableFiles, refuse, write_text};
 use gw_io::Tried;
 use gw_table::{Change, Crossing, crossings};
 use std::alloc::{AllocError, Global};
 use std::io::Write;
 use std::rt::Files;
-
-/// The files of an egress port's tables: before a change, and after it. Where no file is named, the table is that of an empty
-/// text, which blocks every frame.
-#[derive(Clone, Copy, PartialEq, Eq, Debug)]
-pub struct PortFiles<'a> {
-    pub old: Option<&'a str>,
-    pub new: Option<&'a str>,
-}
 
 /// The texts of an egress port's tables: before a change, and after it.
 #[derive(Drop)]

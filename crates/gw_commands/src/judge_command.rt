@@ -5,57 +5,26 @@ ghost use Rattle.std.specs.Io.KnownBytes.{Consumes};
 ghost use Rattle.gw_io.specs.Tries.{inner_of, has_failed};
 ghost use Rattle.gw_judge.specs.Fates.{fate_of, table_fate};
 ghost use Rattle.gw_judge.specs.Grouped.{no_groups};
+ghost use Rattle.gw_answers.specs.Openings.{TellsEnd, fault_line};
 ghost use Rattle.gw_commands.specs.ToldCounts.{table_told, told_counts};
-ghost use Rattle.gw_commands.specs.Judgings.{
-  EndsInput,
-  EndsLog,
-  JudgesGroups,
-  JudgesLog,
-  JudgesNamed,
-  TellsCounts,
-  TellsEnd,
-  fault_line,
-  wanted_of,
-};
+ghost use Rattle.gw_commands.specs.Judgings.{EndsInput, EndsLog, JudgesGroups, JudgesLog, JudgesNamed, TellsCounts, wanted_of};
 
 use crate::capture_command::judge_frames;
-use crate::files::read_file;
-use crate::log_counts::{CountForm, TellsParts, told_text};
+use crate::log_counts::{TellsParts, told_text};
 use crate::notes::{note_no_log, note_port_form, note_refused_lines, note_unasked_port};
-use crate::refusal::Refusal;
-use crate::responding::{refuse, refuse_file, write_refusal, write_text};
 use crate::stated::StatedTable;
-use crate::texts::program;
+use gw_answers::{
+    LogQuery, PolicyKind, Refusal, Shown, program, read_file, refuse, refuse_file, write_refusal,
+    write_text,
+};
 use gw_input::{Line, refused};
 use gw_io::{ReadFault, Tried};
-use gw_judge::{
-    Asked, FirstOctets, Grouping, Groups, Head, JudgeFault, Named, Tally, Wanted, judge_opened,
-};
+use gw_judge::{Asked, FirstOctets, Groups, Head, JudgeFault, Named, Tally, Wanted, judge_opened};
 use gw_policy::Policy;
 use gw_table::IndexedTable;
 use std::alloc::{AllocError, Global};
 use std::io::{Read, Write};
 use std::rt::Files;
-
-/// What a policy's file holds.
-#[derive(Clone, Copy, PartialEq, Eq, Debug)]
-pub enum PolicyKind {
-    Table,
-    Listing,
-}
-
-/// What is written of a log.
-#[derive(Clone, Copy, PartialEq, Eq, Debug)]
-pub enum Shown {
-    /// How many frames passed and were blocked, by which part of a table, or in which group, in this form.
-    Counts(CountForm),
-    /// The lines whose frame passes.
-    Passed,
-    /// The lines whose frame is blocked.
-    Blocked,
-    /// The lines that say a frame, each behind its verdict and what decides it.
-    Each,
-}
 
 /// What judges a log.
 #[derive(Clone, Copy)]
@@ -63,19 +32,6 @@ pub(crate) struct LogPolicy<'a, D> {
     pub(crate) decider: &'a D,
     /// The lines at which the rules of a table stand, where they are known.
     pub(crate) rule_lines: &'a [usize],
-}
-
-/// What is asked of a log.
-#[derive(Clone, Copy, PartialEq, Eq, Debug)]
-pub struct LogQuery {
-    pub kind: PolicyKind,
-    /// The port at which the frames were taken.
-    pub port: u8,
-    pub shown: Shown,
-    /// In which groups frames are counted, where counts are shown. By nothing they are counted by the parts of a table.
-    pub by: Grouping,
-    /// Whether the first line that says no classic frame, or the first record that is none, ends the command.
-    pub strict: bool,
 }
 
 /// Reads a policy's file, and judges a log by it: see `judge_log`. A file that cannot be read is 96, and one of more than 1048576

@@ -1,7 +1,6 @@
 #![tactic(auto)]
 //! The commands of the program `gw`, each over a reader and two writers, without the arguments of the command line.
 
-mod answer;
 mod answer_lines;
 mod ask_command;
 mod asm_command;
@@ -13,9 +12,6 @@ mod crossing_lines;
 mod diff_command;
 mod diff_ports_command;
 mod difference_lines;
-mod explanation;
-mod files;
-mod frames;
 mod frames_line;
 mod json_counts;
 mod judge_command;
@@ -23,32 +19,18 @@ mod list_command;
 mod log_counts;
 mod log_diff_command;
 mod notes;
-mod policies;
 mod query;
-mod refusal;
 mod replay_command;
-mod responding;
 mod segments;
 mod show_command;
 mod stated;
-mod streams;
 mod table_command;
-mod texts;
 mod verdict_command;
 
-pub use answer::Answer;
 pub use claims_log_command::{claims_log, claims_log_named};
-pub use diff_command::{TableFiles, diff_named, diff_texts};
-pub use diff_ports_command::{PortFiles, PortTexts, diff_ports, diff_ports_named};
-pub use files::read_file;
-pub use frames::FrameWord;
-pub use gw_judge::Grouping;
-pub use judge_command::{LogQuery, PolicyKind, Shown, judge_log, judge_named};
-pub use log_counts::CountForm;
+pub use diff_command::{diff_named, diff_texts};
+pub use diff_ports_command::{PortTexts, diff_ports, diff_ports_named};
+pub use judge_command::{judge_log, judge_named};
 pub use log_diff_command::{diff_log, diff_log_named};
-pub use notes::{RefusedFile, note_unread};
-pub use policies::{PolicySource, policy};
-pub use query::{Query, answer_named, answer_query};
-pub use refusal::Refusal;
+pub use query::{answer_named, answer_query};
 pub use replay_command::replay;
-pub use responding::{respond, write_refusal};

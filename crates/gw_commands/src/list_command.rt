@@ -3,9 +3,7 @@
 ghost use Rattle.std.specs.Prelude.{IfOk, IfErr};
 ghost use Rattle.gw_commands.specs.Assemblies.{AnswersList, RefusesList};
 
-use crate::answer::Answer;
-use crate::refusal::Refusal;
-use crate::texts::program;
+use gw_answers::{Answer, Refusal, program};
 use gw_text::disassemble;
 use std::alloc::{AllocError, Global};
 

@@ -4,6 +4,7 @@ ghost use Rattle.std.specs.Prelude.{◌≡◌, ◌≤◌, ℕ, List, ◌++◌, s
 ghost use Rattle.gw_judge.specs.declared.tally.Tally.{Tally};
 ghost use Rattle.gw_input.specs.RuleLines.{rule_name};
 ghost use Rattle.gw_judge.specs.Grouped.{other_group};
+ghost use Rattle.gw_answers.specs.declared.requests.CountForm.{CountForm};
 ghost use Rattle.gw_commands.specs.LogCounts.{
   action_word,
   group_counts,
@@ -20,24 +21,15 @@ ghost use Rattle.gw_commands.specs.LogCounts.{
   verdicts_text,
 };
 ghost use Rattle.gw_commands.specs.ToldCounts.{groups_told, policy_told, table_told, told_counts};
-ghost use Rattle.gw_commands.specs.declared.log_counts.CountForm.{CountForm};
 
 use crate::json_counts::{grouped_json, policy_json, table_json};
 use crate::show_command::group_name;
+use gw_answers::CountForm;
 use gw_input::line_of_rule;
 use gw_judge::{Decider, Grouping, Groups, Tally, Verdicts};
 use gw_policy::Policy;
 use gw_table::{Action, Field, IndexedTable, Rule, Span, Table};
 use std::alloc::{AllocError, Global};
-
-/// How counts are written.
-#[derive(Clone, Copy, PartialEq, Eq, Debug)]
-pub enum CountForm {
-    /// As lines of words and numbers.
-    Lines,
-    /// As one JSON object of numbers.
-    Json,
-}
 
 /// What decides the frames of a log, and tells how many each of its parts decided.
 pub trait TellsParts: Decider {

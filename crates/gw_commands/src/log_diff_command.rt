@@ -7,10 +7,10 @@ ghost use Rattle.gw_judge.specs.Grouped.{no_groups};
 ghost use Rattle.gw_judge.specs.declared.groups.Grouping.TheVariants.{Nothing};
 ghost use Rattle.gw_commands.specs.LogDifferences.{ChangesLog, DiffsLog, DiffsNamed, changed_status};
 
-use crate::diff_command::{TableFiles, told_tables, told_texts};
-use crate::judge_command::{Shown, tell_end};
+use crate::diff_command::{told_tables, told_texts};
+use crate::judge_command::tell_end;
 use crate::notes::{note_no_log, note_refused_lines};
-use crate::responding::refuse;
+use gw_answers::{Shown, TableFiles, refuse};
 use gw_io::Tried;
 use gw_judge::{Asked, Changed, Grouping, Groups, Head, Named, Tally, Wanted, judge};
 use std::alloc::Global;

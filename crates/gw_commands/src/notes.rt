@@ -1,9 +1,8 @@
 //! What a person should know of an input that is not refused.
 
-use crate::refusal::Refusal;
 use crate::stated::StatedTable;
+use gw_answers::{Refusal, note_file};
 use gw_frame::Frame;
-use gw_ident::{EXTENDED_FLAG, GREATEST_EXTENDED, GREATEST_STANDARD};
 use gw_input::line_of_rule;
 use gw_insn::read_listing;
 use gw_io::Tried;
@@ -11,42 +10,7 @@ use gw_judge::{Head, NoFrame, NoLog, Tally};
 use gw_log::LogRefusal;
 use gw_table::{Part, Rule};
 use std::alloc::Global;
-use std::fmt::{Display, Formatter};
 use std::io::Write;
-use std::{fmt, io};
-
-/// Whether the identifier word has bits above the eleven of a standard frame and no flag of an extended one: mostly an
-/// identifier that was copied from a bus monitor without the flag.
-fn lacks_flag(frame: &Frame) -> bool {
-    let word = frame.id().word();
-    word & EXTENDED_FLAG == 0 && word & GREATEST_EXTENDED > GREATEST_STANDARD
-}
-
-/// Tells that a record is that of no extended frame though its identifier is as long as one's.
-pub fn note_standard_identifier<F: Write>(frame: &Frame, faults: &mut Tried<F>) {
-    if lacks_flag(frame) {
-        let word = frame.id().word();
-        let meant = word | EXTENDED_FLAG;
-        let _ = writeln!(
-            faults,
-            "gw: the identifier {word:08X} has more than 11 bits and lacks the flag 80000000, so this is no extended frame and a \
-            table judges it by `other`; {meant:08X} may be meant"
-        );
-    }
-}
-
-/// The same of a line of claims.
-pub fn note_uncounted<F: Write>(frame: &Frame, line: usize, faults: &mut Tried<F>) {
-    if lacks_flag(frame) {
-        let word = frame.id().word();
-        let meant = word | EXTENDED_FLAG;
-        let _ = writeln!(
-            faults,
-            "gw: line {line}: the identifier {word:08X} has more than 11 bits and lacks the flag 80000000, so it does not count; \
-            {meant:08X} may be meant"
-        );
-    }
-}
 
 /// Tells which rule of a table decides a frame that was taken at a port, or that `default` or `other` does.
 pub fn note_decision<F: Write>(
@@ -83,11 +47,6 @@ fn place_of(stated: &StatedTable, part: Part) -> Option<usize> {
     }
 }
 
-/// Tells why a file cannot be opened or read.
-pub fn note_unread<F: Write>(file: &str, why: &io::Error, faults: &mut Tried<F>) {
-    let _ = writeln!(faults, "gw: {file}: {why}");
-}
-
 /// Tells of a file's name that begins with a port, as where each port has a file.
 pub fn note_port_form<F: Write>(file: &str, faults: &mut Tried<F>) {
     if let Some((port, _)) = file.split_once('=') {
@@ -109,36 +68,6 @@ pub fn note_unasked_port<F: Write>(rules: &[Rule], port: u8, faults: &mut Tried<
             "gw: the frames are judged as taken at port 0, which no rule has in its `from`; --port P names another"
         );
     }
-}
-
-/// A file's name, and behind it the line and the column where its text is refused, if they are known: `display.toml:12:3`.
-#[derive(Clone, Copy)]
-pub struct RefusedFile<'a> {
-    pub file: &'a str,
-    pub refusal: &'a Refusal,
-}
-
-impl<'a> Display for RefusedFile<'a> {
-    fn fmt<W: fmt::Write>(&self, f: &mut Formatter<W>) -> fmt::Result {
-        let file = self.file;
-        match self.refusal {
-            Refusal::Table {
-                place: Some(place),
-                ..
-            } => write!(f, "{file}:{place}"),
-            Refusal::Assembler { why, .. } => match why.line() {
-                Some(line) => write!(f, "{file}:{line}"),
-                None => f.write_str(file),
-            },
-            _ => f.write_str(file),
-        }
-    }
-}
-
-/// Tells which file is refused, before its refusal.
-pub fn note_file<F: Write>(file: &str, refusal: &Refusal, faults: &mut Tried<F>) {
-    let refused = RefusedFile { file, refusal };
-    let _ = writeln!(faults, "gw: the file {refused} is refused:");
 }
 
 /// Tells of a text that is to be a table, and lists a program.

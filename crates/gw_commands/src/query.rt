@@ -2,75 +2,24 @@
 
 ghost use Rattle.std.specs.Prelude.{◌≡◌, false, IfOk, IfErr};
 ghost use Rattle.gw_io.specs.Tries.{inner_of, has_failed};
+ghost use Rattle.gw_answers.specs.Requests.{tells_blocked};
 ghost use Rattle.gw_commands.specs.Commands.{Does, DoesOn, IsFound};
-ghost use Rattle.gw_commands.specs.Queries.{AnswersNamed, AnswersQuery, RefusesQuery, tells_blocked};
+ghost use Rattle.gw_commands.specs.Queries.{AnswersNamed, AnswersQuery, RefusesQuery};
 
-use crate::answer::Answer;
 use crate::ask_command::ask;
 use crate::asm_command::asm;
 use crate::check_command::check;
 use crate::claims_command::claims;
-use crate::files::read_file;
-use crate::frames::FrameWord;
 use crate::list_command::list;
 use crate::notes::note_refused_file;
-use crate::refusal::Refusal;
-use crate::responding::{refuse_file, respond_telling};
 use crate::show_command::show;
-use crate::streams::read_input;
 use crate::table_command::table;
 use crate::verdict_command::verdict;
+use gw_answers::{Answer, Query, Refusal, read_file, read_input, refuse_file, respond_telling};
 use gw_io::Tried;
-use gw_table::Question;
 use std::alloc::Global;
 use std::io::{Read, Write};
 use std::rt::Files;
-
-/// A command that reads its input whole, with what its arguments name.
-#[derive(Clone, Copy)]
-pub enum Query<'a> {
-    /// The verdict of a listing's program on a frame that was taken at a port. Without a word for the frame, its record stands on
-    /// the first line of the input. With `tells` the status 3 tells that the frame is blocked.
-    Verdict {
-        port: u8,
-        frame: Option<FrameWord<'a>>,
-        tells: bool,
-    },
-    /// How many instructions a listing's accepted program has. A path to the read of an unset word stands before its refusal.
-    Check,
-    /// The listing of the code that an assembler text means.
-    Asm,
-    /// The text of a listing's accepted program.
-    List,
-    /// Who holds which address after the records that were heard.
-    Claims,
-    /// The listing of a table's program, or the table's verdict on a frame that was taken at a port. With `why` a person is told
-    /// which rule decides the frame. With `tells` the status 3 tells that the frame is blocked.
-    Table {
-        port: u8,
-        frame: Option<FrameWord<'a>>,
-        why: bool,
-        tells: bool,
-    },
-    /// What the rules of a table say, in words.
-    Show,
-    /// What a table does to the frames that are asked for.
-    Ask(Question),
-}
-
-impl<'a> Query<'a> {
-    ghost use Rattle.gw_commands.specs.Queries.{tells_blocked};
-
-    /// Whether the exit status is to tell that a frame is blocked.
-    fn tells_blocked(self) -> bool
-        ensures { result ≡ tells_blocked self.entry }
-    {
-        match self {
-            Query::Verdict { tells, .. } | Query::Table { tells, .. } => tells,
-            _ => false,
-        }
-    }
-}
 
 /// Reads the input, and writes the answer to it or its first refusal. The status is 0 for an answer, 3 where it is to tell that a
 /// frame is blocked, and 1 for a refusal or where a write failed.

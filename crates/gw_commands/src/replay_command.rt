@@ -4,8 +4,7 @@ ghost use Rattle.std.specs.Prelude.{◌≡◌, false};
 ghost use Rattle.gw_io.specs.Tries.{inner_of, has_failed, reads_of, unended_reads};
 ghost use Rattle.gw_commands.specs.Replays.{Replays, replayed_status};
 
-use crate::refusal::Refusal;
-use crate::responding::respond;
+use gw_answers::{Refusal, respond};
 use gw_io::Tried;
 use gw_replay::{ReplayFault, replay_told};
 use std::alloc::Global;

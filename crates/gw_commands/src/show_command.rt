@@ -1,6 +1,7 @@
 //! The command `table --show`: what the rules of a table say, in words.
 
 ghost use Rattle.std.specs.Prelude.{◌≡◌, ◌++◌, string_bytes, IfOk, IfErr, OnOk};
+ghost use Rattle.gw_answers.specs.Texts.{RefusesText};
 ghost use Rattle.gw_commands.specs.GroupNames.{group_name};
 ghost use Rattle.gw_commands.specs.Shown.{
   AnswersShow,
@@ -19,13 +20,11 @@ ghost use Rattle.gw_commands.specs.Shown.{
   size_of,
   words_of_rules,
 };
-ghost use Rattle.gw_commands.specs.Tables.{RefusesText};
 
-use crate::answer::Answer;
 use crate::log_counts::{action_word, push_name};
 use crate::notes::note_dead_rules;
-use crate::refusal::Refusal;
 use crate::stated::StatedTable;
+use gw_answers::{Answer, Refusal};
 use gw_io::Tried;
 use gw_table::{Action, Rule, Span};
 use std::alloc::{AllocError, Global};

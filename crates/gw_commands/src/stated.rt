@@ -3,8 +3,7 @@
 ghost use Rattle.std.specs.Prelude.{◌≡◌, IfOk, IfErr};
 ghost use Rattle.gw_commands.specs.Stated.{known_lines};
 
-use crate::refusal::Refusal;
-use crate::texts::read_table;
+use gw_answers::{Refusal, read_table};
 use gw_input::rule_lines;
 use gw_table::Table;
 use std::alloc::{AllocError, Global};
@@ -26,8 +25,8 @@ pub struct StatedChange {
 
 impl StatedTable {
     ghost use Rattle.std.specs.Prelude.{◌≡◌, IfOk, IfErr};
+    ghost use Rattle.gw_answers.specs.Texts.{RefusesText};
     ghost use Rattle.gw_commands.specs.Stated.{IsStated};
-    ghost use Rattle.gw_commands.specs.Tables.{RefusesText};
 
     /// Reads a table from its text.
     pub fn read(alloc: Global, text: &[u8]) -> Result<StatedTable, Refusal>

@@ -4,11 +4,9 @@ ghost use Rattle.std.specs.Prelude.{◌≡◌, ◌≤◌, ℕ, Some, None, lengt
 ghost use Rattle.gw_insn.specs.Table.{raw_of};
 ghost use Rattle.gw_commands.specs.Tables.{AnswersTable, RefusesTable, compiled_line};
 
-use crate::answer::Answer;
-use crate::frames::{FrameWord, word_frame};
 use crate::notes::{note_dead_rules, note_decision};
-use crate::refusal::Refusal;
 use crate::stated::StatedTable;
+use gw_answers::{Answer, FrameWord, Refusal, word_frame};
 use gw_insn::{Raw, encode, write_listing};
 use gw_io::Tried;
 use gw_table::{Table, compile};

@@ -3,10 +3,7 @@
 ghost use Rattle.std.specs.Prelude.{◌≡◌, IfOk, IfErr};
 ghost use Rattle.gw_commands.specs.Verdicts.{AnswersVerdict, RefusesVerdict, IsJudged, RefusesJudged, listing_text};
 
-use crate::answer::Answer;
-use crate::frames::{FrameWord, word_frame};
-use crate::refusal::Refusal;
-use crate::texts::{noted_record, program};
+use gw_answers::{Answer, FrameWord, Refusal, noted_record, program, word_frame};
 use gw_frame::Frame;
 use gw_input::first_line;
 use gw_io::Tried;

@@ -12,13 +12,13 @@ use Rattle.std.proofs.lemmas.List.Elements.{All-append}
 use Rattle.std.proofs.lemmas.List.Folds.{list_any_none}
 use Rattle.gw_policy.specs.Filter.{Filter}
 use Rattle.gw_policy.specs.Batches.{Pair, names, names_port, policy_after}
-use Rattle.gw_commands.specs.declared.policies.PolicySource.{PolicySource}
-use Rattle.gw_commands.specs.declared.policies.PolicySource.TheVariants.{Opening}
-use Rattle.gw_commands.specs.declared.refusal.Refusal.{Refusal}
+use Rattle.gw_answers.specs.declared.policies.PolicySource.{PolicySource}
+use Rattle.gw_answers.specs.declared.policies.PolicySource.TheVariants.{Opening}
+use Rattle.gw_answers.specs.declared.refusal.Refusal.{Refusal}
 use Rattle.gw_policy.specs.BatchRefusals.{IsBatchRefusal}
 use Rattle.gw_policy.specs.declared.batch.BatchRefusal.{BatchRefusal}
 use Rattle.gw_policy.specs.declared.batch.BatchRefusal.TheVariants.{SamePortTwice, Full}
-use Rattle.gw_commands.specs.Policies.{MeansPolicy, RefusesSource}
+use Rattle.gw_answers.specs.Policies.{MeansPolicy, RefusesSource}
 use Rattle.gw_run.specs.Forwarding.{MeansAt, RefusesSources, joined}
 
 -- the last pair decides where it names the port

@@ -8,7 +8,7 @@ use Rattle.gw_ledger.specs.Bounds.{Bounds}
 use Rattle.gw_ledger.specs.declared.ledger.InLedger.{InLedger}
 use Rattle.gw_ledger.specs.declared.outcome.Outcome.{Outcome}
 use Rattle.gw_policy.specs.Batches.{Pair}
-use Rattle.gw_commands.specs.declared.policies.PolicySource.{PolicySource}
+use Rattle.gw_answers.specs.declared.policies.PolicySource.{PolicySource}
 use Rattle.gw_run.specs.declared.kept.Kept.{Kept}
 use Rattle.gw_run.specs.declared.lines.Shown.{Shown}
 use Rattle.gw_run.specs.declared.taking.Taking.{Taking}

@@ -6,11 +6,12 @@ use Rattle.gw_judge.specs.declared.interfaces.NamedInterface.{NamedInterface}
 use Rattle.gw_judge.specs.declared.fault.JudgeFault.{JudgeFault}
 use Rattle.gw_judge.specs.Egress.{WritesEgress, WritesPartOfEgress}
 use Rattle.gw_judge.specs.FirstOctets.{Opens, is_capture}
-use Rattle.gw_commands.specs.declared.judge_command.Shown.TheVariants.{Each}
-use Rattle.gw_commands.specs.declared.policies.PolicySource.{PolicySource}
-use Rattle.gw_commands.specs.declared.refusal.Refusal.{Refusal}
-use Rattle.gw_commands.specs.declared.refusal.Refusal.TheVariants.{OutOfMemory}
-use Rattle.gw_commands.specs.Judgings.{FailsToOpen, HasNoLines, OnlyRefuses}
+use Rattle.gw_answers.specs.declared.requests.Shown.TheVariants.{Each}
+use Rattle.gw_answers.specs.declared.policies.PolicySource.{PolicySource}
+use Rattle.gw_answers.specs.declared.refusal.Refusal.{Refusal}
+use Rattle.gw_answers.specs.declared.refusal.Refusal.TheVariants.{OutOfMemory}
+use Rattle.gw_answers.specs.Openings.{FailsToOpen, HasNoLines}
+use Rattle.gw_answers.specs.Responses.{OnlyRefuses}
 use Rattle.gw_run.specs.Forwarding.{IsFirst, RefusesNamed, RefusesSources}
 
 -- what leaves of a log was written, with status 0; or a beginning of it, with status 1

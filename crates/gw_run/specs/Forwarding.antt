@@ -26,12 +26,12 @@ use Rattle.gw_trace.specs.Shares.{share_of}
 use Rattle.gw_trace.specs.Traces.{whole_trace}
 use Rattle.gw_trace.specs.declared.refusal.TraceRefusal.{TraceRefusal}
 use Rattle.gw_trace.specs.declared.refusal.TraceRefusal.TheVariants.{ReadFault}
-use Rattle.gw_commands.specs.declared.policies.PolicySource.{PolicySource}
-use Rattle.gw_commands.specs.declared.policies.PolicySource.TheVariants.{Opening}
-use Rattle.gw_commands.specs.declared.refusal.Refusal.{Refusal}
-use Rattle.gw_commands.specs.declared.refusal.Refusal.TheVariants.{OutOfMemory}
-use Rattle.gw_commands.specs.Commands.{Writes, WritesText}
-use Rattle.gw_commands.specs.Policies.{MeansPolicy, NamesFile, RefusesFile, RefusesSource}
+use Rattle.gw_answers.specs.declared.policies.PolicySource.{PolicySource}
+use Rattle.gw_answers.specs.declared.policies.PolicySource.TheVariants.{Opening}
+use Rattle.gw_answers.specs.declared.refusal.Refusal.{Refusal}
+use Rattle.gw_answers.specs.declared.refusal.Refusal.TheVariants.{OutOfMemory}
+use Rattle.gw_answers.specs.Responses.{Writes, WritesText}
+use Rattle.gw_answers.specs.Policies.{MeansPolicy, NamesFile, RefusesFile, RefusesSource}
 use Rattle.gw_run.specs.declared.refusal.ForwardRefusal.{ForwardRefusal}
 use Rattle.gw_run.specs.declared.refusal.ForwardRefusal.TheVariants as refuses
 use Rattle.gw_run.specs.declared.refusal.ForwardRefusal.TheVariants.{Command, Trace, Run, Stopped}

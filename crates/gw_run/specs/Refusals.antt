@@ -7,7 +7,7 @@ use Rattle.gw_trace.specs.declared.refusal.TraceRefusal.TheVariants.{BadRecord}
 use Rattle.gw_ports.specs.Refusals.{offer_refusal_number}
 use Rattle.gw_ports.specs.Runs.{run_refusal_number}
 use Rattle.gw_input.specs.Refused.{refused_line}
-use Rattle.gw_commands.specs.Refusals.{refusal_line}
+use Rattle.gw_answers.specs.Refusals.{refusal_line}
 use Rattle.gw_run.specs.declared.refusal.ForwardRefusal.{ForwardRefusal}
 use Rattle.gw_run.specs.declared.refusal.ForwardRefusal.TheVariants as refuses
 use Rattle.gw_run.specs.declared.refusal.ForwardRefusal.TheVariants.{Command, Trace, Run, Stopped}

@@ -10,7 +10,7 @@ use crate::files::texts;
 use crate::first::first_batch;
 use crate::log_notes::LogNotes;
 use crate::notes::{note_no_lines, note_no_log};
-use gw_commands::{PolicySource, Refusal, respond};
+use gw_answers::{PolicySource, Refusal, respond};
 use gw_io::{ReadFault, Tried};
 use gw_judge::{FirstOctets, Gateway, Head, JudgeFault, NamedInterface, write_egress};
 use gw_policy::{Batch, PolicySet};

@@ -2,14 +2,14 @@
 
 ghost use Rattle.std.specs.Prelude.{◌≡◌, length, vec_len, false, IfOk, IfErr};
 ghost use Rattle.gw_io.specs.Tries.{inner_of, has_failed, reads_of, unended_reads};
-ghost use Rattle.gw_commands.specs.Policies.{RefusesFile};
+ghost use Rattle.gw_answers.specs.Policies.{RefusesFile};
 ghost use Rattle.gw_run.specs.Forwarding.{ForwardsNamed, RefusesNamed};
 
 use crate::forwarding::forward;
 use crate::lines::Shown;
 use crate::observing::Observer;
 use crate::taking::Taking;
-use gw_commands::{PolicySource, Refusal, read_file, respond};
+use gw_answers::{PolicySource, Refusal, read_file, respond};
 use gw_io::Tried;
 use gw_ledger::Limits;
 use std::alloc::Global;

@@ -4,7 +4,7 @@ ghost use Rattle.std.specs.Prelude.{◌≡◌, ◌<◌, ◌≤◌, false, length
 ghost use Rattle.gw_policy.specs.Batches.{names_port};
 ghost use Rattle.gw_run.specs.Forwarding.{IsFirst, RefusesSources, joined};
 
-use gw_commands::{PolicySource, Refusal, RefusedFile, policy};
+use gw_answers::{PolicySource, Refusal, RefusedFile, policy};
 use gw_input::{line_of_rule, rule_lines};
 use gw_io::Tried;
 use gw_policy::{Batch, Policy};

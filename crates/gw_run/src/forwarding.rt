@@ -16,7 +16,7 @@ ghost use Rattle.gw_run.specs.Forwarding.{
   RefusesOctets,
   report_text,
 };
-ghost use Rattle.gw_commands.specs.declared.refusal.Refusal.TheVariants.{OutOfMemory};
+ghost use Rattle.gw_answers.specs.declared.refusal.Refusal.TheVariants.{OutOfMemory};
 ghost use Rattle.gw_run.specs.declared.refusal.ForwardRefusal.TheVariants.{Command};
 ghost use Rattle.gw_run.specs.declared.taking.Taking.TheVariants.{InTurn};
 
@@ -31,7 +31,7 @@ use crate::octets::read_trace;
 use crate::refusal::ForwardRefusal;
 use crate::running::{frame_count, run_lists, run_shares};
 use crate::taking::Taking;
-use gw_commands::{Answer, PolicySource, Refusal, respond, write_refusal};
+use gw_answers::{Answer, PolicySource, Refusal, respond, write_refusal};
 use gw_io::Tried;
 use gw_judge::NamedInterface;
 use gw_ledger::Limits;

@@ -2,7 +2,7 @@
 
 ghost use Rattle.std.specs.Prelude.{◌≡◌, ◌<◌, ◌⊎◌, length, map, false, Ok, Err, IfOk, IfErr, All};
 ghost use Rattle.gw_io.specs.Tries.{inner_of, has_failed};
-ghost use Rattle.gw_commands.specs.declared.refusal.Refusal.TheVariants.{OutOfMemory};
+ghost use Rattle.gw_answers.specs.declared.refusal.Refusal.TheVariants.{OutOfMemory};
 ghost use Rattle.gw_run.specs.PortInputs.{
   ForwardsInputs,
   IsInputsRun,
@@ -20,7 +20,7 @@ use crate::notes::note_input;
 use crate::observing::Observer;
 use crate::refusal::ForwardRefusal;
 use crate::running::{frame_count, run_lists};
-use gw_commands::{Answer, Refusal, respond, write_refusal};
+use gw_answers::{Answer, Refusal, respond, write_refusal};
 use gw_frame::Frame;
 use gw_io::Tried;
 use gw_ledger::Limits;

@@ -2,7 +2,7 @@
 
 ghost use Rattle.std.specs.Prelude.{◌≡◌, ◌≤◌, ◌⊎◌, ℕ, List, length, false, IfOk, IfErr};
 ghost use Rattle.gw_io.specs.Tries.{inner_of, has_failed};
-ghost use Rattle.gw_commands.specs.declared.refusal.Refusal.TheVariants.{OutOfMemory};
+ghost use Rattle.gw_answers.specs.declared.refusal.Refusal.TheVariants.{OutOfMemory};
 ghost use Rattle.gw_run.specs.Forwarding.{IsFirst};
 ghost use Rattle.gw_run.specs.PortInputs.{AreInputsOf, ForwardsFiles, IsInputOf, RefusesPolicies};
 
@@ -14,7 +14,7 @@ use crate::notes::note_input;
 use crate::observing::Observer;
 use crate::octets::read_trace;
 use crate::refusal::ForwardRefusal;
-use gw_commands::{PolicySource, Refusal, note_unread, respond};
+use gw_answers::{PolicySource, Refusal, note_unread, respond};
 use gw_io::Tried;
 use gw_ledger::Limits;
 use gw_policy::Batch;

@@ -1,11 +1,11 @@
 //! Why a trace or a log is not forwarded.
 
 ghost use Rattle.std.specs.Prelude.{◌≡◌};
-ghost use Rattle.gw_commands.specs.declared.refusal.Refusal.TheVariants.{OutOfMemory};
+ghost use Rattle.gw_answers.specs.declared.refusal.Refusal.TheVariants.{OutOfMemory};
 ghost use Rattle.gw_run.specs.Refusals.{trace_line};
 ghost use Rattle.gw_run.specs.declared.refusal.ForwardRefusal.TheVariants.{Command};
 
-use gw_commands::Refusal;
+use gw_answers::Refusal;
 use gw_input::{Line, refused};
 use gw_judge::NoLog;
 use gw_ports::{OfferRefusal, RunRefusal};

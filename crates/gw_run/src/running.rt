@@ -9,7 +9,7 @@ ghost use Rattle.gw_run.specs.Forwarding.{RefusesInputs};
 use crate::kept::{Kept, no_copies};
 use crate::observing::Observer;
 use crate::refusal::ForwardRefusal;
-use gw_commands::Refusal;
+use gw_answers::Refusal;
 use gw_frame::Frame;
 use gw_ledger::{Limits, Outcome};
 use gw_policy::Batch;

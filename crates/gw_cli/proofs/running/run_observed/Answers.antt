@@ -2,7 +2,7 @@ use Rattle.std.proofs.Common.{◌∙◌, ℕ, List, Option, ap, inl, inr, is_som
 use Rattle.std.specs.Borrow.{Bor}
 use Rattle.std.specs.List.{list_any}
 use Rattle.gw_io.specs.Tries.{inner_of, has_failed, unended_reads}
-use Rattle.gw_commands.specs.declared.policies.PolicySource.{PolicySource}
+use Rattle.gw_answers.specs.declared.policies.PolicySource.{PolicySource}
 use Rattle.gw_run.specs.Forwarding.{ForwardsNamed}
 use Rattle.gw_run.specs.PortInputs.{ForwardsFiles}
 use Rattle.gw_cli.specs.Asked.{shown_by}

@@ -3,7 +3,7 @@ use Rattle.gw_io.specs.Tries.{inner_of, has_failed}
 use Rattle.gw_judge.specs.declared.tally.Tally.{Tally}
 use Rattle.gw_judge.specs.Captures.{with_refused}
 use Rattle.gw_judge.specs.Grouped.{Grouped}
-use Rattle.gw_commands.specs.declared.judge_command.Shown.{Shown}
+use Rattle.gw_answers.specs.declared.requests.Shown.{Shown}
 use Rattle.gw_commands.specs.Judgings.{TellsCounts}
 use Rattle.gw_commands.specs.ToldCounts.{told_counts}
 use Rattle.gw_commands.proofs.capture_command.count_frames.Goals as goal

@@ -1,7 +1,7 @@
 use Rattle.std.proofs.Common.{◌+◌, ◌<◌, length, take, get_or, sym, subst, arith, None}
 use Rattle.std.specs.List.{AllZip}
 use Rattle.std.proofs.lemmas.List.{get_or_default}
-use Rattle.gw_commands.specs.declared.diff_ports_command.PortFiles.{PortFiles}
+use Rattle.gw_answers.specs.declared.requests.PortFiles.{PortFiles}
 use Rattle.gw_commands.specs.PortDifferences.{ArePortTexts}
 use Rattle.gw_commands.proofs.PlaceByPlace.{zip_more, zip_all}
 use Rattle.gw_commands.proofs.diff_ports_command.read_texts.Goals as goal

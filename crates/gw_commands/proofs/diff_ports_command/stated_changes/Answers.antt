@@ -1,6 +1,6 @@
 use Rattle.std.proofs.Common.{◌+◌, take, sym, subst, arith}
 use Rattle.std.specs.List.{AllZip}
-use Rattle.gw_commands.specs.declared.refusal.Refusal.TheVariants.{OutOfMemory}
+use Rattle.gw_answers.specs.declared.refusal.Refusal.TheVariants.{OutOfMemory}
 use Rattle.gw_commands.specs.PortDifferences.{IsStatedChange}
 use Rattle.gw_commands.proofs.PlaceByPlace.{zip_more, zip_all}
 use Rattle.gw_commands.proofs.PortsTold.{refuses_first, wants_memory}

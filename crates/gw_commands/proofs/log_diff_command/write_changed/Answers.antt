@@ -2,7 +2,7 @@ use Rattle.std.proofs.Common.{false, inr, refl}
 use Rattle.gw_io.specs.Tries.{inner_of, has_failed}
 use Rattle.gw_judge.specs.Fates.{fate_of, changed_fate}
 use Rattle.gw_judge.specs.declared.report.Wanted.TheVariants as wanted
-use Rattle.gw_commands.specs.declared.judge_command.Shown.TheVariants.{Each}
+use Rattle.gw_answers.specs.declared.requests.Shown.TheVariants.{Each}
 use Rattle.gw_commands.proofs.LogEnds.{ended_early}
 use Rattle.gw_commands.proofs.log_diff_command.write_changed.Goals as goal
 

@@ -1,5 +1,5 @@
 use Rattle.std.proofs.Common.{List, ℕ, IfErr, sym, subst}
-use Rattle.gw_commands.specs.declared.query.Query.{Query}
+use Rattle.gw_answers.specs.declared.requests.Query.{Query}
 use Rattle.gw_commands.specs.Assemblies.{RefusesList}
 use Rattle.gw_commands.specs.Checks.{RefusesCheck}
 use Rattle.gw_commands.specs.Queries.{RefusesQuery}

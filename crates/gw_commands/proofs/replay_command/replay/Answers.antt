@@ -2,7 +2,7 @@ use Rattle.std.proofs.Common.{refl, sym, ◌∙◌, subst}
 use Rattle.gw_io.specs.Tries.{inner_of, has_failed, unended_reads}
 use Rattle.gw_replay.specs.Written.{IsHalted, IsReplayFault}
 use Rattle.gw_replay.specs.declared.whole.ReplayFault.TheVariants as fault
-use Rattle.gw_commands.specs.declared.refusal.Refusal.TheVariants as refusal
+use Rattle.gw_answers.specs.declared.refusal.Refusal.TheVariants as refusal
 use Rattle.gw_commands.proofs.EndedEarly.{ended_early, unread, unwritten}
 use Rattle.gw_commands.proofs.replay_command.replay.Goals as goal
 

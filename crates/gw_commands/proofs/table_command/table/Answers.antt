@@ -1,5 +1,5 @@
 use Rattle.std.proofs.Common.{Option, IfOk, sym, subst}
-use Rattle.gw_commands.specs.declared.frames.FrameWord.{FrameWord}
+use Rattle.gw_answers.specs.declared.frames.FrameWord.{FrameWord}
 use Rattle.gw_commands.specs.Tables.{AnswersTable}
 use Rattle.gw_commands.proofs.table_command.table.Goals as goal
 

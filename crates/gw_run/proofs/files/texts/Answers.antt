@@ -3,12 +3,12 @@ use Rattle.std.specs.Borrow.{Bor}
 use Rattle.std.specs.List.{Any}
 use Rattle.std.proofs.lemmas.List.{get_or_default}
 use Rattle.std.proofs.lemmas.Result.{err_from_is_err_and}
-use Rattle.gw_commands.specs.Policies.{NamesFile, RefusesFile}
+use Rattle.gw_answers.specs.Policies.{NamesFile, RefusesFile}
 use Rattle.gw_run.specs.Forwarding.{RefusesNamed}
-use Rattle.gw_commands.specs.declared.policies.PolicySource.{PolicySource}
-use Rattle.gw_commands.specs.declared.policies.PolicySource.TheVariants.{Opening, Listing, Table}
-use Rattle.gw_commands.specs.declared.refusal.Refusal.{Refusal}
-use Rattle.gw_commands.specs.declared.refusal.Refusal.TheVariants.{ReadFault, TooMuchInput, OutOfMemory}
+use Rattle.gw_answers.specs.declared.policies.PolicySource.{PolicySource}
+use Rattle.gw_answers.specs.declared.policies.PolicySource.TheVariants.{Opening, Listing, Table}
+use Rattle.gw_answers.specs.declared.refusal.Refusal.{Refusal}
+use Rattle.gw_answers.specs.declared.refusal.Refusal.TheVariants.{ReadFault, TooMuchInput, OutOfMemory}
 use Rattle.gw_run.proofs.files.texts.Goals.{in-Listing, in-Listing-2}
 use Rattle.gw_run.proofs.files.texts.Goals as goal
 

@@ -1,6 +1,6 @@
 use Rattle.std.proofs.Common.{◌∙◌, List, ℕ, Ok, Err, subst}
 use Rattle.gw_io.specs.Tries.{inner_of, has_failed}
-use Rattle.gw_commands.specs.Commands.{WritesText}
+use Rattle.gw_answers.specs.Responses.{WritesText}
 use Rattle.gw_run.proofs.forwarding.forward.Goals as goal
 
 pub returns-in-Ok : goal.returns-in-Ok

@@ -1,0 +1,2 @@
+mod LinesExamples
+pub mod RefusalTexts
