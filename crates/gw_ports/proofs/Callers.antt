@@ -11,3 +11,7 @@ pub use Rattle.gw_ports.proofs.Lanes.{none_placed}
 -- sinks that are lists: their room, and what they were handed
 pub use Rattle.gw_ports.proofs.Room.{room_at}
 pub use Rattle.gw_ports.proofs.Sinks.{handed_lists}
+-- inputs that are made of a list
+pub use Rattle.gw_ports.proofs.Runs.{each_push, list_push}
+-- what stands at a place of a list
+pub use Rattle.gw_ports.proofs.Elementwise.{there}

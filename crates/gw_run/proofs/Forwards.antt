@@ -1,25 +1,30 @@
 -- What a forwarding finds, from what its parts found.
-use Rattle.std.proofs.Common.{◌≡◌, ◌∙◌, ℕ, Bool, List, [], Option, IsTrue, Vec, ap, subst, inr, map}
+use Rattle.std.proofs.Common.{◌≡◌, ◌∙◌, ℕ, Bool, List, [], Option, IsTrue, Vec, ◌⊎◌, ap, subst, sym, inl, inr, map, Result, Ok}
+use Rattle.std.proofs.Common.{Err, IfOk}
 use Rattle.std.specs.Iterator.{YieldsFirst}
 use Rattle.std.specs.Vec.Iter.{into_iter_items, into_iter_steps}
 use Rattle.std.specs.declared.alloc.Global.{Global}
 use Rattle.std.specs.declared.vec.IntoIter.{IntoIter}
+use Rattle.std.specs.List.{AllZip}
 use Rattle.gw_ledger.specs.Bounds.{Bounds}
 use Rattle.gw_ledger.specs.declared.ledger.InLedger.{InLedger}
-use Rattle.gw_ledger.specs.declared.outcome.Outcome.{Outcome}
 use Rattle.gw_policy.specs.Batches.{Pair}
+use Rattle.gw_ports.specs.Reports.{IsReport, IsReportOf, Ran}
+use Rattle.gw_ports.specs.Runs.{IsRun, NoneLost}
+use Rattle.gw_ports.specs.declared.refusals.OfferRefusal.{OfferRefusal}
+use Rattle.gw_ports.specs.declared.running.RunRefusal.TheVariants.{NoSuchPort}
 use Rattle.gw_answers.specs.declared.policies.PolicySource.{PolicySource}
+use Rattle.gw_answers.specs.declared.refusal.Refusal.TheVariants.{OutOfMemory}
 use Rattle.gw_run.specs.declared.kept.Kept.{Kept}
 use Rattle.gw_run.specs.declared.lines.Shown.{Shown}
 use Rattle.gw_run.specs.declared.taking.Taking.{Taking}
 use Rattle.gw_run.specs.declared.refusal.ForwardRefusal.{ForwardRefusal}
-use Rattle.gw_run.specs.Forwarding.{IsFirst, IsForwarded, IsForwardRefusal, IsOctetsRun, IsTraceInput, IsTraceRun}
-use Rattle.gw_run.specs.declared.refusal.ForwardRefusal.TheVariants.{Stopped}
-use Rattle.gw_ports.specs.Reports.{Ran}
-use Rattle.gw_ports.specs.Runs.{IsRun, NoneLost}
-use Rattle.gw_ports.specs.declared.refusals.OfferRefusal.{OfferRefusal}
-use Rattle.gw_run.specs.Forwarding.{AreShares, IsKeptOf, IsListRun, IsRunOn, IsStopOf, KeepsRun, NoneStopped, report_text}
-use Rattle.gw_run.specs.Forwarding.{RefusesInputs, RefusesOctets, RefusesTrace}
+use Rattle.gw_run.specs.Forwarding.{IsFirst, IsForwarded, IsForwardRefusal, IsOctetsRun, IsTraceInput, IsTraceRun, AreShares}
+use Rattle.gw_run.specs.Forwarding.{IsKeptOf, IsListRun, IsRunOn, IsRunOver, IsStopOf, KeepsRun, NoneStopped, RefusesInputs}
+use Rattle.gw_run.specs.Forwarding.{RefusesOctets, RefusesTrace, report_text}
+use Rattle.gw_run.specs.declared.refusal.ForwardRefusal.TheVariants.{Command, Run, Stopped}
+use Rattle.gw_run.specs.declared.losses.Losses.{Losses}
+use Rattle.gw_run.specs.Tallies.{AreLosses, AreTallies, IsToldOf}
 
 -- under the policies of the sources
 pub under_policies : (taking : Taking) (limits : Bounds) (sources : List PolicySource) (texts : List (List ℕ)) (waits : Bool)
@@ -53,53 +58,78 @@ pub refused_of_trace : (taking : Taking) (limits : Bounds) (first : List Pair) (
 refused_of_trace taking limits first before after failed reads octets given refusal read same why =
     inr (octets, read, subst (λ (o : List ℕ). RefusesOctets taking limits first o refusal) same why)
 
--- a run on shares and one on lists, in which no batch is published
-pub run_on_shares : (limits : Bounds) (first : List Pair) (frames : List (List ℕ)) (inputs : List (List (List ℕ)))
-    (ports : ℕ) (batches : List (List Pair)) (rests : List (List (List ℕ))) (ran : Ran) → AreShares ports frames inputs
-    → ports ≡ limits.ports → batches ≡ [] → IsRun (YieldsFirst (λ s. s)) limits first inputs batches rests ran
+-- a run on inputs that are shares, and on some that are lists
+pub run_on_shares : (limits : Bounds) (first : List Pair) (frames : List (List ℕ)) (inputs : List (List (List ℕ))) (ran : Ran)
+    → AreShares limits.ports frames inputs → IsRunOver (YieldsFirst (λ s. s)) limits first inputs ran
     → IsRunOn limits first frames ran
-run_on_shares limits first frames inputs ports batches rests ran shared all none run = record {
-  inputs = inputs;
-  shared = subst (λ n. AreShares n frames inputs) all shared;
-  rests = rests;
-  is_run = subst (λ (b : List (List Pair)). IsRun (YieldsFirst (λ s. s)) limits first inputs b rests ran) none run;
-}
+run_on_shares limits first frames inputs ran shared run = record { inputs = inputs; shared = shared; is_run = run }
 
 pub run_on_lists : (limits : Bounds) (first : List Pair) (inputs : List (List (List ℕ))) (made : List (IntoIter (List ℕ) Global))
-    (batches : List (List Pair)) (rests : List (IntoIter (List ℕ) Global)) (ran : Ran) → map into_iter_items made ≡ inputs
-    → batches ≡ [] → IsRun into_iter_steps limits first made batches rests ran → IsListRun limits first inputs ran
-run_on_lists limits first inputs made batches rests ran items none run = record {
-  made = made;
-  items = items;
-  rests = rests;
-  is_run = subst (λ (b : List (List Pair)). IsRun into_iter_steps limits first made b rests ran) none run;
-}
+    (ran : Ran) → map into_iter_items made ≡ inputs → IsRunOver into_iter_steps limits first made ran
+    → IsListRun limits first inputs ran
+run_on_lists limits first inputs made ran items run = record { made = made; items = items; is_run = run }
 
--- of a run of which a port stopped, and of one of which none did
+-- a run of which no batch is published behind the first
+pub run_over : {S : Type 0} (steps : S → Option (List ℕ) → S → Type 0) (limits : Bounds) (first : List Pair) (inputs : List S)
+    (batches : List (List Pair)) (rests : List S) (ran : Ran) → batches ≡ []
+    → IsRun steps limits first inputs batches rests ran → IsRunOver steps limits first inputs ran
+run_over steps limits first inputs batches rests ran none run =
+    (rests, subst (λ (b : List (List Pair)). IsRun steps limits first inputs b rests ran) none run)
+
+-- its report, and the losses of its ports
+pub reported : {S : Type 0} (steps : S → Option (List ℕ) → S → Type 0) (limits : Bounds) (first : List Pair) (inputs : List S)
+    (batches : List (List Pair)) (rests : List S) (ran : Ran) (losses : List Losses) → batches ≡ []
+    → IsReportOf steps limits first inputs batches rests ran → AllZip (AreLosses limits.ports) ran.outcomes losses
+    → IsToldOf limits first ran losses
+reported steps limits first inputs batches rests ran losses none report lost = (
+  report.frames,
+  subst (λ (b : List (List Pair)). IsReport limits first report.frames b ran) none report.reported,
+  lost,
+)
+
+-- two promises of one result
+pub both_ok : {A E : Type 0} (result : Result A E) (P Q : A → Type 0) → IfOk result P → IfOk result Q
+    → IfOk result (λ value. P value × Q value)
+both_ok (Ok value) P Q one other = (one, other)
+both_ok (Err error) P Q one other = tt
+
+-- what is kept, and what refuses, where the run is of another kind too
+pub kept_as : (ports : ℕ) (Runs Other : Ran → Type 0) (waits : Bool) (kept : Kept) → ((ran : Ran) → Runs ran → Other ran)
+    → KeepsRun ports Runs waits kept → KeepsRun ports Other waits kept
+kept_as ports Runs Other waits kept other keeps = (keeps.0, keeps.1, other keeps.0 keeps.2, keeps.3)
+
+pub refuses_as : (Runs Other : Ran → Type 0) (limits : Bounds) (first : List Pair) (refusal : ForwardRefusal)
+    → ((ran : Ran) → Runs ran → Other ran) → RefusesInputs Runs limits first refusal → RefusesInputs Other limits first refusal
+refuses_as Runs Other limits first (Run NoSuchPort) other refuses = absurd refuses
+refuses_as Runs Other limits first (Run why) other refuses = refuses
+refuses_as Runs Other limits first (Stopped port why) other refuses = (refuses.0, other refuses.0 refuses.1, refuses.2)
+refuses_as Runs Other limits first (Command OutOfMemory) other refuses = tt
+refuses_as Runs Other limits first _ other refuses = absurd refuses
+
+-- of a run of which a port stopped, or for whose tallies memory was wanting, and of one of which none did
 pub stop_refuses : (Runs : Ran → Type 0) (limits : Bounds) (first : List Pair) (ran : Ran) (refusal : ForwardRefusal) → Runs ran
-    → IsStopOf ran.stops refusal → RefusesInputs Runs limits first refusal
-stop_refuses Runs limits first ran (Stopped port why) run stop = (ran, run, stop)
-stop_refuses Runs limits first ran _ run stop = absurd stop
+    → IsStopOf ran.stops refusal ⊎ (refusal ≡ Command OutOfMemory) → RefusesInputs Runs limits first refusal
+stop_refuses Runs limits first ran refusal run (inl stop) = stopped refusal stop
+  where
+    stopped : (refusal : ForwardRefusal) → IsStopOf ran.stops refusal → RefusesInputs Runs limits first refusal
+    stopped (Stopped port why) stop = (ran, run, stop)
+    stopped _ stop = absurd stop
+stop_refuses Runs limits first ran refusal run (inr none) =
+    subst (λ (r : ForwardRefusal). RefusesInputs Runs limits first r) (sym none) tt
 
-pub kept_run : (Runs : Ran → Type 0) (waits : Bool) (ran : Ran) (kept : Kept) (ledgers : Vec InLedger Global)
-    (outcomes : Vec (Vec Outcome Global) Global) (stops : List (Option OfferRefusal))
-    → (kept.ledgers ≡ ledgers) × (kept.outcomes ≡ outcomes) × NoneStopped stops
-    → ledgers.items ≡ ran.report.ins.items → map (λ list. list.items) outcomes.items ≡ ran.outcomes → stops ≡ ran.stops
-    → Runs ran → (IsTrue waits → NoneLost ran) → KeepsRun Runs waits kept
-kept_run Runs waits ran kept ledgers outcomes stops is counted became stopped run lost = (
+pub kept_run : (ports : ℕ) (Runs : Ran → Type 0) (waits : Bool) (ran : Ran) (kept : Kept) (ledgers : Vec InLedger Global)
+    (stops : List (Option OfferRefusal)) → (kept.ledgers ≡ ledgers) × NoneStopped stops
+    → AreTallies ports ran.outcomes kept.lanes.items → ledgers.items ≡ ran.report.ins.items → stops ≡ ran.stops
+    → Runs ran → (IsTrue waits → NoneLost ran) → KeepsRun ports Runs waits kept
+kept_run ports Runs waits ran kept ledgers stops is tallied counted stopped run lost = (
   ran,
-  (
-    ap (λ (v : Vec InLedger Global). v.items) is.0 ∙ counted,
-    ap (λ (v : Vec (Vec Outcome Global) Global). map (λ (list : Vec Outcome Global). list.items) v.items) is.1 ∙ became,
-  ),
+  (ap (λ (v : Vec InLedger Global). v.items) is.0 ∙ counted, tallied),
   run,
-  (subst NoneStopped stopped is.2, lost),
+  (subst NoneStopped stopped is.1, lost),
 )
 
 -- the text of what is kept of a run is that of the run
-pub text_of_kept : (ports : ℕ) (shown : Shown) (kept : Kept) (ran : Ran) → IsKeptOf kept ran
-    → report_text ports shown kept.ledgers.items (map (λ list. list.items) kept.outcomes.items)
-    ≡ report_text ports shown ran.report.ins.items ran.outcomes
-text_of_kept ports shown kept ran is =
-    ap (λ (l : List InLedger). report_text ports shown l (map (λ (v : Vec Outcome Global). v.items) kept.outcomes.items)) is.0
-    ∙ ap (λ (l : List (List Outcome)). report_text ports shown ran.report.ins.items l) is.1
+pub text_of_kept : (ports : ℕ) (shown : Shown) (kept : Kept) (ran : Ran) → IsKeptOf ports kept ran
+    → report_text ports shown kept.ledgers.items kept.lanes.items
+    ≡ report_text ports shown ran.report.ins.items kept.lanes.items
+text_of_kept ports shown kept ran is = ap (λ (l : List InLedger). report_text ports shown l kept.lanes.items) is.0

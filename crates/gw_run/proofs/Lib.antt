@@ -2,6 +2,8 @@ pub mod FirstBatch
 pub mod Forwarded
 pub mod Forwards
 pub mod LogLines
+pub mod LossCounts
 pub mod Objects
 pub mod PolicyLines
 pub mod PortInputs
+pub mod Told

@@ -1,19 +1,17 @@
 -- Texts for a JSON array, one after another.
-use Rattle.std.proofs.Common.{◌≡◌, ◌∙◌, ℕ, ◌+◌, ◌<◌, List, [], ◌∷◌, ◌++◌, Global, map, length, flat_map, ap, sym}
-use Rattle.std.proofs.Common.{◌==◌, if◌then◌else◌, refl, true, false, string_bytes, get_or, append_assoc}
-use Rattle.std.proofs.Common.{add-one, zero-add, arith}
+use Rattle.std.proofs.Common.{◌≡◌, ◌∙◌, ℕ, ◌+◌, ◌<◌, List, [], ◌∷◌, ◌++◌, Global, map, length, ap, sym, refl, string_bytes}
+use Rattle.std.proofs.Common.{get_or, append_assoc, add-one, zero-add, arith, take}
+use Rattle.std.proofs.lemmas.List.{map-append, take_all, take_more}
+use Rattle.std.proofs.lemmas.List.Folds.{flat_map-map}
+use Rattle.std.proofs.lemmas.Option.{slice_get-get_or}
 use Rattle.std.specs.Prelude.{codes, String}
 use Rattle.std.specs.List.{join_by, range_with_len}
 use Rattle.std.specs.Option.{option_map_or}
-use Rattle.std.proofs.lemmas.List.{append-nil, map-append}
-use Rattle.std.proofs.lemmas.Grind.{flat_map-append}
-use Rattle.std.proofs.lemmas.List.Folds.{flat_map-map}
-use Rattle.std.proofs.lemmas.Option.{slice_get-get_or}
 use Rattle.gw_ledger.specs.declared.ledger.InLedger.{InLedger}
-use Rattle.gw_ledger.specs.declared.outcome.Outcome.{Outcome}
-use Rattle.gw_run.specs.Forwarding.{object_of, port_object, port_objects, policy_object, policy_objects}
-use Rattle.gw_run.specs.Forwarding.{lane_object, lane_objects, lane_objects_from, objects_from, objects_to, with_commas}
 use Rattle.gw_input.proofs.Callers.{range_more}
+use Rattle.gw_run.specs.declared.tally.LaneTally.{LaneTally}
+use Rattle.gw_run.specs.Forwarding.{object_of, port_object, port_objects, policy_object, policy_objects, lane_object}
+use Rattle.gw_run.specs.Forwarding.{lane_objects, with_commas}
 
 -- the numbers below one more
 numbers_more : (n : ℕ) → range_with_len 0 (n + 1) ≡ range_with_len 0 n ++ n ∷ []
@@ -29,21 +27,6 @@ text_more f n before now text so_far more is =
     ∙ ap (λ t. map string_bytes before ++ t ∷ []) is ∙ ap (λ t. t ++ f n ∷ []) so_far
     ∙ sym (ap (map f) (numbers_more n) ∙ map-append f (range_with_len 0 n) (n ∷ []))
 
--- texts behind others, with those of one number more
-pub texts_more : (f : ℕ → List (List ℕ)) (n : ℕ) (before now new more : List (List ℕ))
-    → now ≡ before ++ flat_map f (range_with_len 0 n) → more ≡ f n → new ≡ now ++ more
-    → new ≡ before ++ flat_map f (range_with_len 0 (n + 1))
-texts_more f n before now new more so_far is added =
-    added ∙ ap (λ t. t ++ more) so_far ∙ append_assoc before (flat_map f (range_with_len 0 n)) more
-    ∙ ap (λ t. before ++ (flat_map f (range_with_len 0 n) ++ t)) (is ∙ sym (append-nil (f n)))
-    ∙ ap (λ t. before ++ t)
-    (sym (ap (flat_map f) (numbers_more n) ∙ flat_map-append f (range_with_len 0 n) (n ∷ [])))
-
--- the same, where a number has none
-pub texts_none : (f : ℕ → List (List ℕ)) (n : ℕ) (before now : List (List ℕ))
-    → now ≡ before ++ flat_map f (range_with_len 0 n) → f n ≡ [] → now ≡ before ++ flat_map f (range_with_len 0 (n + 1))
-texts_none f n before now so_far none = texts_more f n before now now [] so_far (sym none) (sym (append-nil now))
-
 -- one text more is pushed
 pub pushed : (before now : List (String Global)) (text : String Global) (is : List ℕ) → now ≡ before ++ text ∷ []
     → string_bytes text ≡ is → map string_bytes now ≡ map string_bytes before ++ is ∷ []
@@ -57,35 +40,29 @@ pub ports_whole : (ledgers : List InLedger) (n : ℕ) (texts : List (List ℕ)) 
 unfolding port_objects
 ports_whole ledgers n texts all same = same ∙ ap (λ m. map (object_of ledgers) (range_with_len 0 m)) all
 
-pub policies_whole : (ports : ℕ) (outcomes : List (List Outcome)) (n : ℕ) (texts : List (List ℕ)) → n ≡ ports
-    → texts ≡ map (policy_object outcomes) (range_with_len 0 n) → texts ≡ policy_objects ports outcomes
+pub policies_whole : (ports : ℕ) (lanes : List LaneTally) (n : ℕ) (texts : List (List ℕ)) → n ≡ ports
+    → texts ≡ map (policy_object lanes) (range_with_len 0 n) → texts ≡ policy_objects ports lanes
 unfolding policy_objects
-policies_whole ports outcomes n texts all same = same ∙ ap (λ m. map (policy_object outcomes) (range_with_len 0 m)) all
+policies_whole ports lanes n texts all same = same ∙ ap (λ m. map (policy_object lanes) (range_with_len 0 m)) all
 
-pub lanes_from_whole : (from ports : ℕ) (outcomes : List Outcome) (n : ℕ) (before texts : List (List ℕ)) → n ≡ ports
-    → texts ≡ before ++ flat_map (objects_to from outcomes) (range_with_len 0 n)
-    → texts ≡ before ++ lane_objects_from from ports outcomes
-unfolding lane_objects_from
-lanes_from_whole from ports outcomes n before texts all same =
-    same ∙ ap (λ m. before ++ flat_map (objects_to from outcomes) (range_with_len 0 m)) all
+-- the objects of lanes, with that of one more
+pub one_object_more : (lanes : List LaneTally) (n : ℕ) (d : LaneTally) (before now : List (String Global)) (text : String Global)
+    → n < length lanes → map string_bytes before ≡ map lane_object (take n lanes) → now ≡ before ++ text ∷ []
+    → string_bytes text ≡ lane_object (get_or lanes n d) → map string_bytes now ≡ map lane_object (take (n + 1) lanes)
+one_object_more lanes n d before now text within so_far more is =
+    pushed before now text (lane_object (get_or lanes n d)) more is
+    ∙ ap (λ t. t ++ lane_object (get_or lanes n d) ∷ []) so_far
+    ∙ sym (ap (map lane_object) (take_more lanes n d within) ∙ map-append lane_object (take n lanes) (get_or lanes n d ∷ []))
 
-pub lanes_whole : (ports : ℕ) (outcomes : List (List Outcome)) (n : ℕ) (texts : List (List ℕ)) → n ≡ ports
-    → texts ≡ flat_map (objects_from ports outcomes) (range_with_len 0 n) → texts ≡ lane_objects ports outcomes
+pub lanes_whole : (lanes : List LaneTally) (n : ℕ) (texts : List (List ℕ)) → n ≡ length lanes
+    → texts ≡ map lane_object (take n lanes) → texts ≡ lane_objects lanes
 unfolding lane_objects
-lanes_whole ports outcomes n texts all same =
-    same ∙ ap (λ m. flat_map (objects_from ports outcomes) (range_with_len 0 m)) all
+lanes_whole lanes n texts all same = same ∙ ap (map lane_object) (take_all n lanes (omega arith))
 
--- the object of a port, and of a lane
+-- the object of a port
 pub object_there : (ledgers : List InLedger) (n : ℕ) (d : InLedger) → n < length ledgers
     → port_object n (get_or ledgers n d) ≡ object_of ledgers n
 object_there ledgers n d below = ap (λ o. option_map_or (port_object n) o []) (sym (slice_get-get_or ledgers n d below))
-
-pub lane_there : (from to : ℕ) (outcomes : List Outcome) → (to == from) ≡ false
-    → lane_object from to outcomes ∷ [] ≡ objects_to from outcomes to
-lane_there from to outcomes other = ap (λ own. if own then [] else lane_object from to outcomes ∷ []) (sym other)
-
-pub no_lane : (from to : ℕ) (outcomes : List Outcome) → (to == from) ≡ true → objects_to from outcomes to ≡ []
-no_lane from to outcomes own = ap (λ b. if b then [] else lane_object from to outcomes ∷ []) own
 
 -- joined texts, by their octets
 pub joined : (texts : List (String Global)) (objects : List (List ℕ)) (text : List ℕ)

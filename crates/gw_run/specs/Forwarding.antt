@@ -1,10 +1,10 @@
 -- What the command `run` reads, forwards and writes: `before` and `after` are what its reader has left, `old` and `new` what its
 -- writer took.
-use Rattle.std.specs.Prelude.{◌≡◌, ℕ, ◌<◌, ◌⊎◌, ◌==◌, Bool, true, false, not, ◌&&◌, if◌then◌else◌, List, [], ◌∷◌, ◌++◌, length}
+use Rattle.std.specs.Prelude.{◌≡◌, ℕ, ◌<◌, ◌⊎◌, ◌==◌, Bool, true, false, if◌then◌else◌, List, [], ◌∷◌, ◌++◌, length}
 use Rattle.std.specs.Prelude.{codes, decimal, slice_get, slice_index_or, map, Option, Some, None, Result, Ok, Err, MatchResult}
 use Rattle.std.specs.Prelude.{All, Any, IsTrue}
 use Rattle.std.specs.Option.{option_map_or}
-use Rattle.std.specs.List.{flat_map, count_by, join_by, sum_by, range_with_len}
+use Rattle.std.specs.List.{flat_map, join_by, sum_by, range_with_len}
 use Rattle.std.specs.Io.KnownBytes.{IsAtEnd, Consumes}
 use Rattle.std.specs.Iterator.{YieldsFirst}
 use Rattle.std.specs.Vec.Iter.{into_iter_items, into_iter_steps}
@@ -14,9 +14,7 @@ use Rattle.gw_judge.specs.declared.head.NoLog.{NoLog}
 use Rattle.gw_policy.specs.Filter.{Filter}
 use Rattle.gw_policy.specs.Batches.{Pair, policy_after}
 use Rattle.gw_ledger.specs.Bounds.{Bounds}
-use Rattle.gw_ledger.specs.Ports.{has_port}
 use Rattle.gw_ledger.specs.declared.ledger.InLedger.{InLedger}
-use Rattle.gw_ledger.specs.declared.outcome.Outcome.{Outcome}
 use Rattle.gw_ports.specs.Reports.{Ran}
 use Rattle.gw_ports.specs.Runs.{IsRun, NoneLost, RefusesRun}
 use Rattle.gw_ports.specs.declared.refusals.OfferRefusal.{OfferRefusal}
@@ -38,13 +36,15 @@ use Rattle.gw_run.specs.declared.refusal.ForwardRefusal.TheVariants.{Command, Tr
 use Rattle.gw_run.specs.declared.lines.Shown.{Shown}
 use Rattle.gw_run.specs.declared.lines.Shown.TheVariants.{Lines, Json}
 use Rattle.gw_run.specs.declared.kept.Kept.{Kept}
-use Rattle.gw_run.specs.declared.policy_lines.Counted.{Counted}
-use Rattle.gw_run.specs.declared.policy_lines.Counted.TheVariants.{Judged, Passed, Lost}
+use Rattle.gw_run.specs.declared.tally.Counted.{Counted}
+use Rattle.gw_run.specs.declared.tally.Counted.TheVariants.{Judged, Passed, Lost}
+use Rattle.gw_run.specs.declared.tally.LaneTally.{LaneTally}
 use Rattle.gw_judge.specs.declared.interfaces.NamedInterface.{NamedInterface}
 use Rattle.gw_run.specs.declared.taking.Taking.{Taking}
 use Rattle.gw_run.specs.declared.taking.Taking.TheVariants.{InTurn, ByInterface}
 use Rattle.gw_run.specs.Logs.{named_inputs, no_log}
 use Rattle.gw_run.specs.Refusals.{forward_refusal_line}
+use Rattle.gw_run.specs.Tallies.{AreTallies, lane_count}
 
 -- ---- the first batch
 
@@ -91,19 +91,21 @@ pub record AreShares (ports : ℕ) (frames : List (List ℕ)) (inputs : List (Li
   pub enough : length inputs ≡ ports
   pub each : (k : ℕ) (d : List (List ℕ)) → k < ports → slice_index_or inputs k d ≡ share_of k ports frames
 
--- a gateway that begins with this batch was run on the shares of the frames, and did this
+-- a gateway that begins with this batch was run on these inputs, one for each port, no other batch was published, and it did this
+abbrev pub IsRunOver : {S : Type 0} → (S → Option (List ℕ) → S → Type 0) → Bounds → List Pair → List S → Ran → Type 0
+IsRunOver {S} steps limits first inputs ran = (rests : List S) × IsRun steps limits first inputs [] rests ran
+
+-- the same of the shares of the frames
 pub record IsRunOn (limits : Bounds) (first : List Pair) (frames : List (List ℕ)) (ran : Ran) : Type 0 where
   pub inputs : List (List (List ℕ))
   pub shared : AreShares limits.ports frames inputs
-  pub rests : List (List (List ℕ))
-  pub is_run : IsRun (YieldsFirst (λ s. s)) limits first inputs [] rests ran
+  pub is_run : IsRunOver (YieldsFirst (λ s. s)) limits first inputs ran
 
--- a gateway that begins with this batch was run on these lists of frames, one for each port, and did this
+-- the same of lists of frames
 pub record IsListRun (limits : Bounds) (first : List Pair) (inputs : List (List (List ℕ))) (ran : Ran) : Type 0 where
   pub made : List (IntoIter (List ℕ) Global)
   pub items : map into_iter_items made ≡ inputs
-  pub rests : List (IntoIter (List ℕ) Global)
-  pub is_run : IsRun into_iter_steps limits first made [] rests ran
+  pub is_run : IsRunOver into_iter_steps limits first made ran
 
 -- a gateway was run on the frames of the lines of a log whose interface is named for the ports
 abbrev pub LogRuns : List NamedInterface → Bounds → List Pair → List ℕ → Ran → Type 0
@@ -125,13 +127,13 @@ NoneStopped stops = All (λ stop. stop ≡ None) stops
 abbrev pub IsWhole : Bool → Ran → Type 0
 IsWhole waits ran = NoneStopped ran.stops × (IsTrue waits → NoneLost ran)
 
--- what is kept of a run is what its ports counted, and what became of their frames
-abbrev pub IsKeptOf : Kept → Ran → Type 0
-IsKeptOf kept ran = (kept.ledgers.items ≡ ran.report.ins.items) × (map (λ list. list.items) kept.outcomes.items ≡ ran.outcomes)
+-- what is kept of a run of so many ports is what these counted, and the tallies of their lanes
+abbrev pub IsKeptOf : ℕ → Kept → Ran → Type 0
+IsKeptOf ports kept ran = (kept.ledgers.items ≡ ran.report.ins.items) × AreTallies ports ran.outcomes kept.lanes.items
 
 -- what is kept is of a whole run, of which this holds
-abbrev pub KeepsRun : (Ran → Type 0) → Bool → Kept → Type 0
-KeepsRun Runs waits kept = (ran : Ran) × IsKeptOf kept ran × Runs ran × IsWhole waits ran
+abbrev pub KeepsRun : ℕ → (Ran → Type 0) → Bool → Kept → Type 0
+KeepsRun ports Runs waits kept = (ran : Ran) × IsKeptOf ports kept ran × Runs ran × IsWhole waits ran
 
 -- this port is the least that stopped
 pub record IsFirstStop (stops : List (Option OfferRefusal)) (port : ℕ) (why : OfferRefusal) : Type 0 where
@@ -158,65 +160,41 @@ line_of ledgers port = option_map_or (port_line port) (slice_get ledgers port) [
 unfoldable pub port_lines : List InLedger → List ℕ
 port_lines ledgers = flat_map (line_of ledgers) (range_with_len 0 (length ledgers))
 
--- a frame was copied to a port; and it was allowed there and not copied
-abbrev pub is_placed : ℕ → Outcome → Bool
-is_placed to outcome = has_port to outcome.placed
-
-abbrev pub is_lost : ℕ → Outcome → Bool
-is_lost to outcome = has_port to outcome.allowed && not (has_port to outcome.placed)
-
 -- how many of a port's frames were copied to another, and how many were lost on that way
-abbrev pub lane_line : ℕ → ℕ → List Outcome → List ℕ
-lane_line from to outcomes =
-    codes "lane " ++ decimal from ++ 32 ∷ decimal to ++ codes " placed " ++ decimal (count_by (is_placed to) outcomes)
-    ++ codes " lost " ++ decimal (count_by (is_lost to) outcomes) ++ 10 ∷ []
+abbrev pub lane_line : LaneTally → List ℕ
+lane_line lane =
+    codes "lane " ++ decimal lane.from ++ 32 ∷ decimal lane.to ++ codes " placed " ++ decimal lane.placed
+    ++ codes " lost " ++ decimal lane.lost ++ 10 ∷ []
 
--- a line for each lane from a port, by destination
-abbrev pub line_to : ℕ → List Outcome → ℕ → List ℕ
-line_to from outcomes to = if to == from then [] else lane_line from to outcomes
+-- a line for each lane, in their order
+unfoldable pub lane_lines : List LaneTally → List ℕ
+lane_lines lanes = flat_map lane_line lanes
 
-unfoldable pub lane_lines_from : ℕ → ℕ → List Outcome → List ℕ
-lane_lines_from from ports outcomes = flat_map (line_to from outcomes) (range_with_len 0 ports)
-
--- a line for each lane of so many ports, by source and then destination
-abbrev pub lines_from : ℕ → List (List Outcome) → ℕ → List ℕ
-lines_from ports outcomes from = option_map_or (lane_lines_from from ports) (slice_get outcomes from) []
-
-unfoldable pub lane_lines : ℕ → List (List Outcome) → List ℕ
-lane_lines ports outcomes = flat_map (lines_from ports outcomes) (range_with_len 0 ports)
-
--- a port's policy judged a frame of another port, since it was not local; passed it; or passed it, and its copy was lost
-abbrev pub is_counted : Counted → ℕ → Outcome → Bool
-is_counted Judged to outcome = not outcome.local
-is_counted Passed to outcome = has_port to outcome.allowed
-is_counted Lost to outcome = is_lost to outcome
-
--- how many of the frames of one port are counted for another
-abbrev pub count_from : Counted → ℕ → List (List Outcome) → ℕ → ℕ
-count_from what to outcomes from =
-    if from == to then 0 else option_map_or (count_by (is_counted what to)) (slice_get outcomes from) 0
+-- how many frames are counted for a port on a lane: none on one to another port
+abbrev pub count_to : Counted → ℕ → LaneTally → ℕ
+count_to what to lane = if lane.to == to then lane_count what lane else 0
 
 -- how many of the frames of all other ports are counted for a port
-unfoldable pub count_others : Counted → ℕ → List (List Outcome) → ℕ
-count_others what to outcomes = sum_by (count_from what to outcomes) (range_with_len 0 (length outcomes))
+unfoldable pub count_others : Counted → ℕ → List LaneTally → ℕ
+count_others what to lanes = sum_by (count_to what to) lanes
 
 -- what a port's policy judged, passed and lost
-abbrev pub policy_line : List (List Outcome) → ℕ → List ℕ
-policy_line outcomes to =
-    codes "policy " ++ decimal to ++ codes " judged " ++ decimal (count_others Judged to outcomes)
-    ++ codes " passed " ++ decimal (count_others Passed to outcomes)
-    ++ codes " lost " ++ decimal (count_others Lost to outcomes) ++ 10 ∷ []
+abbrev pub policy_line : List LaneTally → ℕ → List ℕ
+policy_line lanes to =
+    codes "policy " ++ decimal to ++ codes " judged " ++ decimal (count_others Judged to lanes)
+    ++ codes " passed " ++ decimal (count_others Passed to lanes)
+    ++ codes " lost " ++ decimal (count_others Lost to lanes) ++ 10 ∷ []
 
 -- a line for each port's policy, in ascending order
-unfoldable pub policy_lines : ℕ → List (List Outcome) → List ℕ
-policy_lines ports outcomes = flat_map (policy_line outcomes) (range_with_len 0 ports)
+unfoldable pub policy_lines : ℕ → List LaneTally → List ℕ
+policy_lines ports lanes = flat_map (policy_line lanes) (range_with_len 0 ports)
 
 -- a line for each port, and behind them those of the policies and of the lanes that are asked for
-abbrev pub report_lines : ℕ → Bool → Bool → List InLedger → List (List Outcome) → List ℕ
-report_lines ports policies lanes ledgers outcomes =
+abbrev pub report_lines : ℕ → Bool → Bool → List InLedger → List LaneTally → List ℕ
+report_lines ports policies lanes ledgers tallies =
     port_lines ledgers
-    ++ (if policies then policy_lines ports outcomes else [])
-    ++ (if lanes then lane_lines ports outcomes else [])
+    ++ (if policies then policy_lines ports tallies else [])
+    ++ (if lanes then lane_lines tallies else [])
 
 -- ---- the object
 
@@ -234,52 +212,41 @@ unfoldable pub port_objects : List InLedger → List (List ℕ)
 port_objects ledgers = map (object_of ledgers) (range_with_len 0 (length ledgers))
 
 -- what a port's policy judged, passed and lost
-abbrev pub policy_object : List (List Outcome) → ℕ → List ℕ
-policy_object outcomes to =
-    codes "{\"port\":" ++ decimal to ++ codes ",\"judged\":" ++ decimal (count_others Judged to outcomes)
-    ++ codes ",\"passed\":" ++ decimal (count_others Passed to outcomes)
-    ++ codes ",\"lost\":" ++ decimal (count_others Lost to outcomes) ++ codes "}"
+abbrev pub policy_object : List LaneTally → ℕ → List ℕ
+policy_object lanes to =
+    codes "{\"port\":" ++ decimal to ++ codes ",\"judged\":" ++ decimal (count_others Judged to lanes)
+    ++ codes ",\"passed\":" ++ decimal (count_others Passed to lanes)
+    ++ codes ",\"lost\":" ++ decimal (count_others Lost to lanes) ++ codes "}"
 
 -- an object for each port's policy, in ascending order
-unfoldable pub policy_objects : ℕ → List (List Outcome) → List (List ℕ)
-policy_objects ports outcomes = map (policy_object outcomes) (range_with_len 0 ports)
+unfoldable pub policy_objects : ℕ → List LaneTally → List (List ℕ)
+policy_objects ports lanes = map (policy_object lanes) (range_with_len 0 ports)
 
 -- how many of a port's frames were copied to another, and how many were lost on that way
-abbrev pub lane_object : ℕ → ℕ → List Outcome → List ℕ
-lane_object from to outcomes =
-    codes "{\"from\":" ++ decimal from ++ codes ",\"to\":" ++ decimal to
-    ++ codes ",\"placed\":" ++ decimal (count_by (is_placed to) outcomes)
-    ++ codes ",\"lost\":" ++ decimal (count_by (is_lost to) outcomes) ++ codes "}"
+abbrev pub lane_object : LaneTally → List ℕ
+lane_object lane =
+    codes "{\"from\":" ++ decimal lane.from ++ codes ",\"to\":" ++ decimal lane.to
+    ++ codes ",\"placed\":" ++ decimal lane.placed ++ codes ",\"lost\":" ++ decimal lane.lost ++ codes "}"
 
--- an object for each lane from a port, by destination
-abbrev pub objects_to : ℕ → List Outcome → ℕ → List (List ℕ)
-objects_to from outcomes to = if to == from then [] else lane_object from to outcomes ∷ []
-
-unfoldable pub lane_objects_from : ℕ → ℕ → List Outcome → List (List ℕ)
-lane_objects_from from ports outcomes = flat_map (objects_to from outcomes) (range_with_len 0 ports)
-
--- an object for each lane of so many ports, by source and then destination
-abbrev pub objects_from : ℕ → List (List Outcome) → ℕ → List (List ℕ)
-objects_from ports outcomes from = option_map_or (lane_objects_from from ports) (slice_get outcomes from) []
-
-unfoldable pub lane_objects : ℕ → List (List Outcome) → List (List ℕ)
-lane_objects ports outcomes = flat_map (objects_from ports outcomes) (range_with_len 0 ports)
+-- an object for each lane, in their order
+unfoldable pub lane_objects : List LaneTally → List (List ℕ)
+lane_objects lanes = map lane_object lanes
 
 -- texts with commas between
 abbrev pub with_commas : List (List ℕ) → List ℕ
 with_commas texts = join_by (λ text. text) (codes ",") texts
 
 -- all ports, policies and lanes as one JSON object, on a line
-abbrev pub report_json : ℕ → List InLedger → List (List Outcome) → List ℕ
-report_json ports ledgers outcomes =
+abbrev pub report_json : ℕ → List InLedger → List LaneTally → List ℕ
+report_json ports ledgers lanes =
     codes "{\"ports\":[" ++ with_commas (port_objects ledgers)
-    ++ codes "],\"policies\":[" ++ with_commas (policy_objects ports outcomes)
-    ++ codes "],\"lanes\":[" ++ with_commas (lane_objects ports outcomes) ++ codes "]}\n"
+    ++ codes "],\"policies\":[" ++ with_commas (policy_objects ports lanes)
+    ++ codes "],\"lanes\":[" ++ with_commas (lane_objects lanes) ++ codes "]}\n"
 
--- what a run is told by, of what its ports counted and what became of their frames: lines, or one object
-abbrev pub report_text : ℕ → Shown → List InLedger → List (List Outcome) → List ℕ
-report_text ports (Lines policies lanes) ledgers outcomes = report_lines ports policies lanes ledgers outcomes
-report_text ports Json ledgers outcomes = report_json ports ledgers outcomes
+-- what a run is told by, of what its ports counted and the tallies of its lanes: lines, or one object
+abbrev pub report_text : ℕ → Shown → List InLedger → List LaneTally → List ℕ
+report_text ports (Lines policies lanes) ledgers tallies = report_lines ports policies lanes ledgers tallies
+report_text ports Json ledgers tallies = report_json ports ledgers tallies
 
 -- ---- the command
 
@@ -289,7 +256,9 @@ pub record IsOctetsRun (taking : Taking) (limits : Bounds) (first : List Pair) (
   pub ran : Ran
   pub is_run : IsRunOf taking limits first octets ran
   pub whole : IsWhole waits ran
-  pub lines : text ≡ report_text limits.ports shown ran.report.ins.items ran.outcomes
+  pub tallies : List LaneTally
+  pub tallied : AreTallies limits.ports ran.outcomes tallies
+  pub lines : text ≡ report_text limits.ports shown ran.report.ins.items tallies
 
 -- what refuses such a run: what refuses the gateway's run, but for a port that is not there, which no source names; or the least
 -- port's that stopped; memory may be wanting for what the ports take and for the lines

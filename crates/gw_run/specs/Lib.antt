@@ -4,3 +4,4 @@ pub mod Egress
 pub mod Logs
 pub mod PortInputs
 pub mod Refusals
+pub mod Tallies

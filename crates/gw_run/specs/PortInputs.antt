@@ -21,6 +21,8 @@ use Rattle.gw_run.specs.declared.inputs.PortInput.{PortInput}
 use Rattle.gw_run.specs.declared.inputs.PortInput.TheVariants.{Nothing, Unread, Held}
 use Rattle.gw_run.specs.Forwarding.{IsFirst, IsListRun, IsWhole, RefusesInputs, RefusesNamed, RefusesSources}
 use Rattle.gw_run.specs.Forwarding.{WritesForward, report_text}
+use Rattle.gw_run.specs.Tallies.{AreTallies}
+use Rattle.gw_run.specs.declared.tally.LaneTally.{LaneTally}
 use Rattle.gw_run.specs.Logs.{log_frames, no_log}
 
 -- ---- the frames
@@ -66,7 +68,9 @@ pub record IsInputsRun (limits : Bounds) (first : List Pair) (inputs : List Port
   pub ran : Ran
   pub is_run : IsListRun limits first frames ran
   pub whole : IsWhole waits ran
-  pub lines : text ≡ report_text limits.ports shown ran.report.ins.items ran.outcomes
+  pub tallies : List LaneTally
+  pub tallied : AreTallies limits.ports ran.outcomes tallies
+  pub lines : text ≡ report_text limits.ports shown ran.report.ins.items tallies
 
 -- what refuses such a run: the first input that is refused; or what refuses a run on the frames of all; memory may be wanting in
 -- any case

@@ -177,7 +177,7 @@ pub(crate) fn report_octets<F: Write>(
     faults: &mut Tried<F>,
 ) -> Result<Vec<u8>, ForwardRefusal>
     ensures lines { IfOk result (λ text. text.items
-        ≡ report_text limits.ports shown kept.now.ledgers.items (map (λ list. list.items) kept.now.outcomes.items)) }
+        ≡ report_text limits.ports shown kept.now.ledgers.items kept.now.lanes.items) }
     ensures refused { IfErr result (λ refusal. refusal ≡ Command OutOfMemory) }
 {
     note_lost(&kept.ledgers, faults);
@@ -199,7 +199,7 @@ fn run_taken<R: Threads + Wait + Sync, G: Observer, F: Write>(
     faults: &mut Tried<F>,
 ) -> Result<Kept, ForwardRefusal>
     requires { All (λ pair. pair.port < limits.ports) first }
-    ensures ran { IfOk result (KeepsRun (IsRunOf taking.now limits first octets.now) G.waits) }
+    ensures ran { IfOk result (KeepsRun limits.ports (IsRunOf taking.now limits first octets.now) G.waits) }
     ensures refused { IfErr result (RefusesOctets taking.now limits first octets.now) }
 {
     match taking {
@@ -221,7 +221,7 @@ fn run_trace<R: Threads + Wait + Sync, G: Observer, F: Write>(
     faults: &mut Tried<F>,
 ) -> Result<Kept, ForwardRefusal>
     requires { All (λ pair. pair.port < limits.ports) first }
-    ensures ran { IfOk result (KeepsRun (IsRunOf InTurn limits first octets.now) G.waits) }
+    ensures ran { IfOk result (KeepsRun limits.ports (IsRunOf InTurn limits first octets.now) G.waits) }
     ensures refused { IfErr result (RefusesOctets InTurn limits first octets.now) }
 {
     let trace = match Checked::new(octets) {
@@ -249,7 +249,7 @@ fn run_log<R: Threads + Wait + Sync, G: Observer, F: Write>(
     faults: &mut Tried<F>,
 ) -> Result<Kept, ForwardRefusal>
     requires { All (λ pair. pair.port < limits.ports) first }
-    ensures ran { IfOk result (KeepsRun (LogRuns names.now limits first octets.now) G.waits) }
+    ensures ran { IfOk result (KeepsRun limits.ports (LogRuns names.now limits first octets.now) G.waits) }
     ensures refused { IfErr result (RefusesLog names.now limits first octets.now) }
 {
     if let Some(why) = no_log(octets) {

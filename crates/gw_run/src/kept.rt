@@ -3,17 +3,18 @@
 ghost use Rattle.std.specs.Prelude.{◌≡◌, IfOk, vec_len};
 ghost use Rattle.std.specs.Iterator.{endless};
 
-use gw_ledger::{FrameCopy, InLedger, Outcome};
+use crate::tally::LaneTally;
+use gw_ledger::{FrameCopy, InLedger};
 use gw_ports::Sink;
 use std::alloc::{AllocError, Global};
 
-/// What the ports of a run counted, and what became of their frames. Its copies are not kept.
+/// What the ports of a run counted, and how many of their frames became what. Neither outcomes nor copies are kept.
 #[derive(Drop)]
 pub(crate) struct Kept {
     /// By port, what it counted.
     pub ledgers: Vec<InLedger>,
-    /// By port, the outcomes of its frames, in order.
-    pub outcomes: Vec<Vec<Outcome>>,
+    /// The tally of each lane, by ingress port and then egress port.
+    pub lanes: Vec<LaneTally>,
 }
 
 /// Takes copies, and keeps none.

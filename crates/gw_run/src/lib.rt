@@ -12,6 +12,7 @@ mod kept;
 mod lines;
 mod log;
 mod log_notes;
+mod losses;
 mod notes;
 mod observing;
 mod octets;
@@ -20,6 +21,7 @@ mod port_files;
 mod refusal;
 mod running;
 mod taking;
+mod tally;
 
 pub use egress_command::{egress_named, write_egress_under};
 pub use files::forward_named;

@@ -1,15 +1,11 @@
 //! What a run is told by: a line for each port, one for each policy, and one for each lane; or one object.
 
 ghost use Rattle.std.specs.Prelude.{◌≡◌, ◌++◌, map, string_bytes, IfOk, OnOk};
-ghost use Rattle.std.specs.List.{count_by};
 ghost use Rattle.gw_run.specs.Forwarding.{
   port_line,
   port_lines,
-  is_placed,
-  is_lost,
   lane_line,
   lane_lines,
-  lane_lines_from,
   report_lines,
   report_text,
 };
@@ -17,7 +13,8 @@ ghost use Rattle.gw_run.specs.Forwarding.{
 use crate::json::report_json;
 use crate::kept::Kept;
 use crate::policy_lines::push_policies;
-use gw_ledger::{InLedger, Outcome};
+use crate::tally::LaneTally;
+use gw_ledger::InLedger;
 use std::alloc::{AllocError, Global};
 
 /// What a run is told by.
@@ -42,7 +39,7 @@ pub(crate) fn report_text(
     shown: Shown,
 ) -> Result<String, AllocError>
     ensures { IfOk result (λ text. string_bytes text
-        ≡ report_text ports shown kept.now.ledgers.items (map (λ list. list.items) kept.now.outcomes.items)) }
+        ≡ report_text ports shown kept.now.ledgers.items kept.now.lanes.items) }
 {
     match shown {
         Shown::Lines { policies, lanes } => report_lines(alloc, ports, kept, policies, lanes),
@@ -59,15 +56,15 @@ fn report_lines(
     lanes: bool,
 ) -> Result<String, AllocError>
     ensures { IfOk result (λ text. string_bytes text
-        ≡ report_lines ports policies lanes kept.now.ledgers.items (map (λ list. list.items) kept.now.outcomes.items)) }
+        ≡ report_lines ports policies lanes kept.now.ledgers.items kept.now.lanes.items) }
 {
     let mut text = String::new(alloc);
     push_ports(&mut text, &kept.ledgers)?;
     if policies {
-        push_policies(&mut text, ports, &kept.outcomes)?;
+        push_policies(&mut text, ports, &kept.lanes)?;
     }
     if lanes {
-        push_lanes(&mut text, ports, &kept.outcomes)?;
+        push_lanes(&mut text, &kept.lanes)?;
     }
     Ok(text)
 }
@@ -93,61 +90,21 @@ fn push_port(text: &mut String, port: usize, ledger: &InLedger) -> Result<(), Al
     )
 }
 
-/// A line for each lane, by source and then destination.
-fn push_lanes(text: &mut String, ports: u8, outcomes: &[Vec<Outcome>]) -> Result<(), AllocError>
-    ensures { OnOk result (string_bytes text.new
-        ≡ string_bytes text.old ++ lane_lines ports (map (λ list. list.items) outcomes.now)) }
+/// A line for each lane, by ingress port and then egress port.
+fn push_lanes(text: &mut String, lanes: &[LaneTally]) -> Result<(), AllocError>
+    ensures { OnOk result (string_bytes text.new ≡ string_bytes text.old ++ lane_lines lanes.now) }
 {
-    for from in 0..ports {
-        if let Some(outcomes) = outcomes.get(usize::from(from)) {
-            push_lanes_from(text, from, ports, outcomes)?;
-        }
-    }
-    Ok(())
-}
-
-/// The lines of the lanes from a port.
-fn push_lanes_from(
-    text: &mut String,
-    from: u8,
-    ports: u8,
-    outcomes: &[Outcome],
-) -> Result<(), AllocError>
-    ensures { OnOk result (string_bytes text.new ≡ string_bytes text.old ++ lane_lines_from from ports outcomes.now) }
-{
-    for to in 0..ports {
-        if to != from {
-            push_lane(text, from, to, outcomes)?;
-        }
+    for lane in lanes {
+        push_lane(text, lane)?;
     }
     Ok(())
 }
 
 /// The line of what was placed on a lane, and what was lost there.
-fn push_lane(text: &mut String, from: u8, to: u8, outcomes: &[Outcome]) -> Result<(), AllocError>
-    ensures { OnOk result (string_bytes text.new ≡ string_bytes text.old ++ lane_line from to outcomes.now) }
+fn push_lane(text: &mut String, lane: &LaneTally) -> Result<(), AllocError>
+    ensures { OnOk result (string_bytes text.new ≡ string_bytes text.old ++ lane_line lane.now) }
 {
-    let placed = placed_to(to, outcomes);
-    let lost = lost_to(to, outcomes);
+    let (from, to) = (lane.from, lane.to);
+    let (placed, lost) = (lane.placed, lane.lost);
     write!(text, "lane {from} {to} placed {placed} lost {lost}\n")
-}
-
-/// How many frames were copied to a port.
-pub(crate) fn placed_to(to: u8, outcomes: &[Outcome]) -> usize
-    ensures { result ≡ count_by (is_placed to) outcomes.now }
-{
-    outcomes
-        .iter()
-        .filter(|outcome| outcome.placed.has(to))
-        .count()
-}
-
-/// How many frames a port's policy passes that were not copied to it.
-pub(crate) fn lost_to(to: u8, outcomes: &[Outcome]) -> usize
-    ensures { result ≡ count_by (is_lost to) outcomes.now }
-{
-    outcomes
-        .iter()
-        .filter(|outcome| outcome.allowed.has(to) && !outcome.placed.has(to))
-        .count()
 }

@@ -1,27 +1,36 @@
 //! A run of a gateway on the shares of a trace, or on the lists of a log's frames.
 
-ghost use Rattle.std.specs.Prelude.{◌≡◌, ◌≤◌, ◌<◌, ℕ, List, length, map, slice_index, slice_index_or, vec_len};
+ghost use Rattle.std.specs.Prelude.{◌≡◌, ◌≤◌, ◌<◌, ◌⊎◌, ℕ, List, map, slice_index_or, vec_len};
 ghost use Rattle.std.specs.Prelude.{IfOk, IfErr, IfNone, IfSome, All};
+ghost use Rattle.std.specs.Iterator.{IsFinite};
+ghost use Rattle.std.specs.Vec.Iter.{into_iter_items};
 ghost use Rattle.gw_trace.specs.Shares.{share_of};
-ghost use Rattle.gw_run.specs.Forwarding.{AreShares, IsFirstStop, IsListRun, IsRunOn, IsStopOf, KeepsRun, NoneStopped};
-ghost use Rattle.gw_run.specs.Forwarding.{RefusesInputs};
+ghost use Rattle.gw_run.specs.Forwarding.{AreShares, IsFirstStop, IsListRun, IsRunOn, IsRunOver, IsStopOf, KeepsRun};
+ghost use Rattle.gw_run.specs.Forwarding.{NoneStopped, RefusesInputs};
+ghost use Rattle.gw_run.specs.Tallies.{AreTallies, IsToldOf};
+ghost use Rattle.gw_ledger.specs.Bounds.{Bounds};
+ghost use Rattle.gw_policy.specs.Batches.{Pair};
+ghost use Rattle.gw_ports.specs.Reports.{Ran};
+ghost use Rattle.gw_answers.specs.declared.refusal.Refusal.TheVariants.{OutOfMemory};
+ghost use Rattle.gw_run.specs.declared.refusal.ForwardRefusal.TheVariants.{Command};
 
 use crate::kept::{Kept, no_copies};
+use crate::losses::{Losses, no_losses};
 use crate::observing::Observer;
 use crate::refusal::ForwardRefusal;
-use gw_answers::Refusal;
+use crate::tally::lane_tallies;
 use gw_frame::Frame;
-use gw_ledger::{Limits, Outcome};
+use gw_ledger::Limits;
 use gw_policy::Batch;
-use gw_ports::{OfferRefusal, Report, outcome_lists, run, run_with};
+use gw_ports::{OfferRefusal, Report, run_with};
 use gw_trace::{Checked, Share};
 use std::alloc::{AllocError, Global};
-use std::marker::Sync;
+use std::marker::{Send, Sync};
 use std::sync::Wait;
 use std::thread::Threads;
+use std::vec::IntoIter;
 
-/// Offers each port its share of the frames, and tells what became of them. A port that stopped is a refusal, the least port's
-/// first. It may wait.
+/// Offers each port its share of the frames, and tells what became of them: see `run_inputs`. It may wait.
 pub(crate) fn run_shares<R: Threads + Wait + Sync, G: Observer>(
     rt: &R,
     alloc: Global,
@@ -31,23 +40,14 @@ pub(crate) fn run_shares<R: Threads + Wait + Sync, G: Observer>(
     observer: &G,
 ) -> Result<Kept, ForwardRefusal>
     requires { All (λ pair. pair.port < limits.ports) first }
-    ensures ran { IfOk result (KeepsRun (IsRunOn limits first trace.now) G.waits) }
+    ensures ran { IfOk result (KeepsRun limits.ports (IsRunOn limits first trace.now) G.waits) }
     ensures refused { IfErr result (RefusesInputs (IsRunOn limits first trace.now) limits first) }
 {
-    let ports = limits.ports() as usize;
-    let (inputs, sizes) = shares(alloc, trace, ports)?;
-    let outcomes = outcome_lists(alloc, limits, &sizes)?;
-    let out = no_copies(alloc, ports)?;
-    let batches = Vec::new(alloc);
-    match run_with(
-        rt, alloc, limits, first, inputs, outcomes, out, batches, observer,
-    ) {
-        Ok(ended) => unstopped(ended.stops, ended.report, ended.outcomes),
-        Err(why) => Err(ForwardRefusal::Run(why)),
-    }
+    let inputs = shares(alloc, trace, limits.ports() as usize)?;
+    run_inputs(rt, alloc, limits, first, inputs, observer)
 }
 
-/// Offers each port the frames of its list, and tells what became of them, as `run_shares` does.
+/// Offers each port the frames of its list, and tells what became of them: see `run_inputs`. It may wait.
 pub(crate) fn run_lists<R: Threads + Wait + Sync, G: Observer>(
     rt: &R,
     alloc: Global,
@@ -59,52 +59,90 @@ pub(crate) fn run_lists<R: Threads + Wait + Sync, G: Observer>(
     requires lists { vec_len lists ≡ limits.ports }
     requires first { All (λ pair. pair.port < limits.ports) first }
     ensures ran { IfOk result
-        (KeepsRun (IsListRun limits first (map (λ list. list.items) lists.items)) G.waits) }
+        (KeepsRun limits.ports (IsListRun limits first (map (λ list. list.items) lists.items)) G.waits) }
     ensures refused { IfErr result
         (RefusesInputs (IsListRun limits first (map (λ list. list.items) lists.items)) limits first) }
 {
-    match run(rt, alloc, limits, first, lists, Vec::new(alloc), observer) {
-        Ok(report) => unstopped(report.stops, report.report, report.outcomes),
+    let inputs = iterators(alloc, lists)?;
+    run_inputs(rt, alloc, limits, first, inputs, observer)
+}
+
+/// Offers each port the frames of its input, and counts what became of them. A port that stopped is a refusal, the least port's
+/// first. It may wait.
+fn run_inputs<R: Threads + Wait + Sync, G: Observer, I: Iterator<Item = Frame> + Send>(
+    rt: &R,
+    alloc: Global,
+    limits: Limits,
+    first: Batch,
+    inputs: Vec<I>,
+    observer: &G,
+) -> Result<Kept, ForwardRefusal>
+    requires count { vec_len inputs ≡ limits.ports }
+    requires inputs { (port : ℕ) (d : I) → port < limits.ports → I.can_next (slice_index_or inputs.items port d)
+        × IsFinite (I.remaining (slice_index_or inputs.items port d)) }
+    requires first { All (λ pair. pair.port < limits.ports) first }
+    ensures ran { IfOk result (KeepsRun limits.ports (IsRunOver I.next_gives limits first inputs.items) G.waits) }
+    ensures refused { IfErr result (RefusesInputs (IsRunOver I.next_gives limits first inputs.items) limits first) }
+{
+    let losses = no_losses(alloc, limits.ports() as u8)?;
+    let out = no_copies(alloc, limits.ports() as usize)?;
+    let batches = Vec::new(alloc);
+    match run_with(
+        rt, alloc, limits, first, inputs, losses, out, batches, observer,
+    ) {
+        Ok(ended) => unstopped(alloc, ended.stops, ended.report, ended.outcomes),
         Err(why) => Err(ForwardRefusal::Run(why)),
     }
 }
 
 /// What is kept of a run of which no port stopped. A port that stopped is a refusal, the least port's first.
 fn unstopped(
+    alloc: Global,
     stops: Vec<Option<OfferRefusal>>,
     report: Report,
-    outcomes: Vec<Vec<Outcome>>,
+    losses: Vec<Losses>,
 ) -> Result<Kept, ForwardRefusal>
-    ensures kept { IfOk result (λ kept. (kept.ledgers ≡ report.ins) × (kept.outcomes ≡ outcomes) × NoneStopped stops.items) }
-    ensures stopped { IfErr result (IsStopOf stops.items) }
+    ensures ledgers { IfOk result (λ kept. (kept.ledgers ≡ report.ins) × NoneStopped stops.items) }
+    ensures lanes { (limits : Bounds) (first : List Pair) (ran : Ran) → limits.ports ≤ 16 → ran.report ≡ report
+        → IsToldOf limits first ran losses.items → IfOk result (λ kept. AreTallies limits.ports ran.outcomes kept.lanes.items) }
+    ensures stopped { IfErr result (λ refusal. IsStopOf stops.items refusal ⊎ (refusal ≡ Command OutOfMemory)) }
 {
-    match first_stop(&stops) {
-        Some((port, why)) => Err(ForwardRefusal::Stopped { port, why }),
-        None => Ok(Kept {
-            ledgers: report.ins,
-            outcomes,
-        }),
+    if let Some((port, why)) = first_stop(&stops) {
+        return Err(ForwardRefusal::Stopped { port, why });
     }
+    let lanes = lane_tallies(alloc, &report, &losses)?;
+    Ok(Kept {
+        ledgers: report.ins,
+        lanes,
+    })
 }
 
-/// The ports' shares, and how many frames each has.
+/// The ports' shares.
 fn shares<'a>(
     alloc: Global,
     trace: &Checked<'a>,
     ports: usize,
-) -> Result<(Vec<Share<'a>>, Vec<usize>), AllocError>
+) -> Result<Vec<Share<'a>>, AllocError>
     requires { (0 < ports) × (ports ≤ 16) }
-    ensures shares { IfOk result (λ made. AreShares ports trace.now made.0.items × (vec_len made.1 ≡ ports)) }
-    ensures sizes { IfOk result (λ made. (k : ℕ) (d : List (List ℕ)) → k < ports
-        → length (slice_index_or made.0.items k d) ≤ slice_index made.1.items k) }
+    ensures { IfOk result (λ made. AreShares ports trace.now made.items) }
 {
     let mut inputs = Vec::with_capacity(alloc, ports)?;
-    let mut sizes = Vec::with_capacity(alloc, ports)?;
     for port in 0..ports {
         inputs.push_reserved(trace.share(port, ports));
-        sizes.push_reserved((trace.len() + (ports - 1 - port)) / ports);
     }
-    Ok((inputs, sizes))
+    Ok(inputs)
+}
+
+/// The lists as iterators.
+fn iterators(alloc: Global, lists: Vec<Vec<Frame>>) -> Result<Vec<IntoIter<Frame>>, AllocError>
+    ensures count { IfOk result (λ made. vec_len made ≡ vec_len lists) }
+    ensures items { IfOk result (λ made. map into_iter_items made.items ≡ map (λ list. list.items) lists.items) }
+{
+    let mut inputs = Vec::with_capacity(alloc, lists.len())?;
+    for list in lists {
+        inputs.push(list.into_iter())?;
+    }
+    Ok(inputs)
 }
 
 /// The least port that stopped, and why.

@@ -11,6 +11,8 @@ returns-in-Ok-clause-ran g c =
       ran = ran.0;
       is_run = ran.2;
       whole = ran.3;
+      tallies = c.in-Ok.kept.lanes.items;
+      tallied = ran.1.1;
       lines = lines ∙ text_of_kept c.args.limits.ports c.args.shown c.in-Ok.kept ran.0 ran.1;
     })
     c.report_octets.ensures.lines

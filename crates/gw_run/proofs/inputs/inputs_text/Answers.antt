@@ -14,6 +14,8 @@ returns-in-Ok-run_lists-clause-ran g c =
       ran = ran.0;
       is_run = ran.2;
       whole = ran.3;
+      tallies = c.in-Ok-run_lists.kept.lanes.items;
+      tallied = ran.1.1;
       lines = lines ∙ text_of_kept c.args.limits.ports c.args.shown c.in-Ok-run_lists.kept ran.0 ran.1;
     })
     c.report_octets.ensures.lines

@@ -5,4 +5,4 @@ use Rattle.gw_run.proofs.json.policy_objects.Given as goal
 
 abbrev pub invariant-loop-to : goal.invariant-loop-to
 invariant-loop-to l =
-    map string_bytes l.objects.items ≡ map (policy_object (map (λ list. list.items) l.outcomes)) (range_with_len 0 l.to)
+    map string_bytes l.objects.items ≡ map (policy_object l.lanes) (range_with_len 0 l.to)

@@ -1,7 +1,6 @@
-use Rattle.std.proofs.Common.{List, Vec, Global, codes, ap, map, string_bytes, ◌∙◌}
+use Rattle.std.proofs.Common.{codes, ap, string_bytes, ◌∙◌}
 use Rattle.std.specs.List.{join_by}
 use Rattle.std.proofs.lemmas.Result.{IfOk-weaker}
-use Rattle.gw_ledger.specs.declared.outcome.Outcome.{Outcome}
 use Rattle.gw_run.specs.Forwarding.{lane_objects, policy_objects, port_objects}
 use Rattle.gw_run.proofs.Objects.{joined, three_arrays}
 use Rattle.gw_run.proofs.json.report_json.Goals as goal
@@ -16,15 +15,11 @@ returns c =
     let judged =
     joined c.in_ok-policy_objects.field-0.items _ c.in_ok-judged.judged.bytes.items
     (c.in_ok-judged.ensures.ok ∙ ap (join_by string_bytes (codes ",")) c.deref-4.ensures.value)
-    (c.in_ok-policy_objects.ensures
-    ∙ ap (λ (lists : List (Vec Outcome Global)). policy_objects ports (map (λ list. list.items) lists))
-    c.deref-3.ensures.value) in
+    (c.in_ok-policy_objects.ensures ∙ ap (policy_objects ports) c.deref-3.ensures.value) in
     let placed =
     joined c.in_ok-lane_objects.field-0.items _ c.in_ok-placed.placed.bytes.items
     (c.in_ok-placed.ensures.ok ∙ ap (join_by string_bytes (codes ",")) c.deref-6.ensures.value)
-    (c.in_ok-lane_objects.ensures
-    ∙ ap (λ (lists : List (Vec Outcome Global)). lane_objects ports (map (λ list. list.items) lists))
-    c.deref-5.ensures.value) in
+    (c.in_ok-lane_objects.ensures ∙ ap lane_objects c.deref-5.ensures.value) in
     IfOk-weaker c.with_arrays.result _ _
     (λ text is.
     is ∙ three_arrays _ _ _ _ _ _ (c.deref-7.ensures ∙ taken) (c.deref-8.ensures ∙ judged) (c.deref-9.ensures ∙ placed))

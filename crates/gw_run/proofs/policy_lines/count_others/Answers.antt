@@ -1,25 +1,22 @@
-use Rattle.std.proofs.Common.{◌≡◌, length, map, arith}
-use Rattle.std.proofs.lemmas.List.{length-map}
-use Rattle.gw_run.specs.Forwarding.{count_from}
+use Rattle.std.proofs.Common.{arith}
 use Rattle.gw_run.proofs.PolicyLines.{count_done, count_more}
 use Rattle.gw_run.proofs.policy_lines.count_others.Goals as goal
 
-pub loop-from-preserved : goal.loop-from-preserved
-loop-from-preserved c =
-    let lists = map (λ list. list.items) c.args.outcomes.now in
-    let bound = c.loop-from.invariant.bound in
-    let fits = c.count_from.type_inv in
+pub loop-lane-preserved : goal.loop-lane-preserved
+loop-lane-preserved c =
+    let at = c.loop-lane in
+    let bound = at.invariant.bound in
+    let few = c.count_to-count.ensures.few in
     record {
       count =
-          count_more (count_from c.args.what c.args.to lists) c.loop-from.from c.loop-from.count c.count_from.result
-          c.loop-from.invariant.count c.count_from.ensures;
+          count_more c.args.what c.args.to c.args.lanes.now at.lane-index _ at.count c.count_to-count.result c.loop-lane-test.true
+          at.invariant.count c.count_to-count.ensures.count;
       bound = omega arith;
     }
 
 pub returns : goal.returns
 returns c =
-    let lists = map (λ list. list.items) c.args.outcomes.now in
-    let last = c.loop-from-test.false in
-    let end = c.loop-from.auto.from-end in
-    let same : length lists ≡ length c.args.outcomes.now = length-map c.args.outcomes.now _ in
-    count_done c.args.what c.args.to lists c.loop-from.from c.loop-from.count (omega arith) c.loop-from.invariant.count
+    let last = c.loop-lane-test.false in
+    let end = c.loop-lane.auto.lane-index-end in
+    count_done c.args.what c.args.to c.args.lanes.now c.loop-lane.lane-index c.loop-lane.count (omega arith)
+    c.loop-lane.invariant.count

@@ -1,10 +1,9 @@
-use Rattle.std.proofs.Common.{◌≡◌, ◌≤◌, ◌*◌, ◌^◌, map, sum_by}
-use Rattle.std.specs.List.{range_with_len}
-use Rattle.gw_run.specs.Forwarding.{count_from}
+use Rattle.std.proofs.Common.{◌≡◌, ◌≤◌, ◌*◌, ◌^◌, sum_by, take}
+use Rattle.gw_run.specs.Forwarding.{count_to}
 use Rattle.gw_run.proofs.policy_lines.count_others.Given as goal
 
-abbrev pub invariant-loop-from : goal.invariant-loop-from
-invariant-loop-from l = record {
-  count : l.count ≡ sum_by (count_from l.what l.to (map (λ list. list.items) l.outcomes)) (range_with_len 0 l.from);
-  bound : l.count ≤ l.from * 2 ^ 64;
+abbrev pub invariant-loop-lane : goal.invariant-loop-lane
+invariant-loop-lane l = record {
+  count : l.count ≡ sum_by (count_to l.what l.to) (take l.lane-index l.lanes);
+  bound : l.count ≤ l.lane-index * 2 ^ 65;
 }

@@ -1,33 +1,21 @@
-use Rattle.std.proofs.Common.{map, refl}
+use Rattle.std.proofs.Common.{map}
 use Rattle.std.proofs.lemmas.Result.{IfErr-weaker, IfOk-weaker}
-use Rattle.gw_ports.specs.Reports.{ran_of}
 use Rattle.gw_run.specs.Forwarding.{IsListRun}
-use Rattle.gw_run.proofs.Forwards.{kept_run, run_on_lists, stop_refuses}
+use Rattle.gw_run.proofs.Forwards.{kept_as, refuses_as, run_on_lists}
 use Rattle.gw_run.proofs.running.run_lists.Goals as goal
 
-pub returns-in-Ok-clause-ran : goal.returns-in-Ok-clause-ran
-returns-in-Ok-clause-ran g c =
-    let inputs = map (λ list. list.items) c.args.lists.items in
-    let report = c.in-Ok.report in
-    let ran = c.in-Ok.ensures.ran in
-    IfOk-weaker c.unstopped.result _ _
-    (λ kept is.
-    kept_run (IsListRun c.args.limits c.args.first inputs) g.G.Gate.waits (ran_of report) kept report.report.ins report.outcomes
-    report.stops.items is refl refl refl
-    (run_on_lists c.args.limits c.args.first inputs ran.0 c.new.result.items ran.1 (ran_of report) ran.2 c.new.ensures.items
-    ran.3)
-    c.in-Ok.ensures.none_lost)
-    c.unstopped.ensures.kept
+pub returns-clause-ran : goal.returns-clause-ran
+returns-clause-ran g c =
+    let lists = map (λ list. list.items) c.args.lists.items in
+    IfOk-weaker c.run_inputs.result _ _
+    (λ kept. kept_as c.args.limits.ports _ (IsListRun c.args.limits c.args.first lists) g.G.Gate.waits kept
+    (λ ran. run_on_lists c.args.limits c.args.first lists c.in_ok-inputs.inputs.items ran c.in_ok-inputs.ensures.items))
+    c.run_inputs.ensures.ran
 
-pub returns-in-Ok-clause-refused : goal.returns-in-Ok-clause-refused
-returns-in-Ok-clause-refused g c =
-    let inputs = map (λ list. list.items) c.args.lists.items in
-    let report = c.in-Ok.report in
-    let ran = c.in-Ok.ensures.ran in
-    IfErr-weaker c.unstopped.result _ _
-    (λ refusal stop.
-    stop_refuses (IsListRun c.args.limits c.args.first inputs) c.args.limits c.args.first (ran_of report) refusal
-    (run_on_lists c.args.limits c.args.first inputs ran.0 c.new.result.items ran.1 (ran_of report) ran.2 c.new.ensures.items
-    ran.3)
-    stop)
-    c.unstopped.ensures.stopped
+pub returns-clause-refused : goal.returns-clause-refused
+returns-clause-refused g c =
+    let lists = map (λ list. list.items) c.args.lists.items in
+    IfErr-weaker c.run_inputs.result _ _
+    (λ refusal. refuses_as _ (IsListRun c.args.limits c.args.first lists) c.args.limits c.args.first refusal
+    (λ ran. run_on_lists c.args.limits c.args.first lists c.in_ok-inputs.inputs.items ran c.in_ok-inputs.ensures.items))
+    c.run_inputs.ensures.refused
