@@ -1,11 +1,12 @@
 // A library to preload (LD_PRELOAD) that counts what a program asks of the machine.
 //
 // At the program's end it writes one line on the descriptor whose number is in COUNT_REPORT: the reads, the writes, the blocks of
-// memory that were taken, and those of them that were not given back. glibc keeps a block for each thread that was started, which
-// is no block of the program's.
+// memory that were taken, those of them that were not given back, and the most octets that were held at once. glibc keeps a
+// block for each thread that was started, which is no block of the program's.
 
 #define _GNU_SOURCE
 #include <dlfcn.h>
+#include <malloc.h>
 #include <pthread.h>
 #include <stdatomic.h>
 #include <stddef.h>
@@ -20,7 +21,23 @@ void *__libc_calloc(size_t count, size_t size);
 void *__libc_realloc(void *old, size_t size);
 void __libc_free(void *old);
 
-static atomic_long reads, writes, blocks, freed, threads;
+static atomic_long reads, writes, blocks, freed, threads, held, most;
+
+// Counts a block that is there from now on.
+static void *took(void *got)
+{
+    long now = got ? held += malloc_usable_size(got) : 0;
+    long before = most;
+    while (now > before && !atomic_compare_exchange_weak(&most, &before, now))
+        ;
+    return got;
+}
+
+// Counts a block that goes.
+static void gives(void *old)
+{
+    held -= old ? malloc_usable_size(old) : 0;
+}
 
 __attribute__((destructor)) static void tell(void)
 {
@@ -29,7 +46,7 @@ __attribute__((destructor)) static void tell(void)
     if (!report || atomic_flag_test_and_set(&is_told))
         return;
     char line[100];
-    int length = snprintf(line, sizeof line, "%ld %ld %ld %ld\n", reads, writes, blocks, blocks - freed - threads);
+    int length = snprintf(line, sizeof line, "%ld %ld %ld %ld %ld\n", reads, writes, blocks, blocks - freed - threads, most);
     syscall(SYS_write, atoi(report), line, length);
 }
 
@@ -61,26 +78,29 @@ void *malloc(size_t size)
 {
     void *got = __libc_malloc(size);
     blocks += got != NULL;
-    return got;
+    return took(got);
 }
 
 void *calloc(size_t count, size_t size)
 {
     void *got = __libc_calloc(count, size);
     blocks += got != NULL;
-    return got;
+    return took(got);
 }
 
 void *realloc(void *old, size_t size)
 {
+    size_t before = old ? malloc_usable_size(old) : 0;
     void *got = __libc_realloc(old, size);
     blocks += !old && got;
-    return got;
+    held -= got ? before : 0;
+    return took(got);
 }
 
 void free(void *old)
 {
     freed += old != NULL;
+    gives(old);
     __libc_free(old);
 }
 

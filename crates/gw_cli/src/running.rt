@@ -15,7 +15,7 @@ use gw_run::{
 use std::alloc::Global;
 use std::convert::AsStr;
 use std::io::{IsTerminal, Read, Write};
-use std::marker::Sync;
+use std::marker::{Send, Sync};
 use std::rt::{Clock, Files};
 use std::sync::Wait;
 use std::thread::Threads;
@@ -45,6 +45,7 @@ pub fn run_command<R, S, I, W, F>(
 ) -> u8
 where
     R: Threads + Wait + Sync + Files + Clock + Eprint + Console,
+    R::File: Send,
     S: AsStr,
     I: Read,
     W: Write,
@@ -75,6 +76,7 @@ fn run_asked<R, I, W, F>(
 ) -> u8
 where
     R: Threads + Wait + Sync + Files + Clock + Eprint + Console,
+    R::File: Send,
     I: Read,
     W: Write,
     F: Write,
@@ -108,6 +110,7 @@ fn run_held<R, G, I, W, F>(
 ) -> u8
 where
     R: Threads + Wait + Sync + Files,
+    R::File: Send,
     G: Observer,
     I: Read,
     W: Write,
@@ -142,6 +145,7 @@ fn run_observed<R, G, I, W, F>(
 ) -> u8
 where
     R: Threads + Wait + Sync + Files,
+    R::File: Send,
     G: Observer,
     I: Read,
     W: Write,

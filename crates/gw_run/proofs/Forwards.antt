@@ -1,10 +1,7 @@
 -- What a forwarding finds, from what its parts found.
-use Rattle.std.proofs.Common.{◌≡◌, ◌∙◌, ℕ, Bool, List, [], Option, IsTrue, Vec, ◌⊎◌, ap, subst, sym, inl, inr, map, Result, Ok}
-use Rattle.std.proofs.Common.{Err, IfOk}
+use Rattle.std.proofs.Common.{◌≡◌, ◌∙◌, ℕ, Bool, List, [], Option, IsTrue, Vec, ◌⊎◌, ap, subst, sym, inl, inr, Result, Ok}
+use Rattle.std.proofs.Common.{Err, Global, IfOk}
 use Rattle.std.specs.Iterator.{YieldsFirst}
-use Rattle.std.specs.Vec.Iter.{into_iter_items, into_iter_steps}
-use Rattle.std.specs.declared.alloc.Global.{Global}
-use Rattle.std.specs.declared.vec.IntoIter.{IntoIter}
 use Rattle.std.specs.List.{AllZip}
 use Rattle.gw_ledger.specs.Bounds.{Bounds}
 use Rattle.gw_ledger.specs.declared.ledger.InLedger.{InLedger}
@@ -20,7 +17,7 @@ use Rattle.gw_run.specs.declared.lines.Shown.{Shown}
 use Rattle.gw_run.specs.declared.taking.Taking.{Taking}
 use Rattle.gw_run.specs.declared.refusal.ForwardRefusal.{ForwardRefusal}
 use Rattle.gw_run.specs.Forwarding.{IsFirst, IsForwarded, IsForwardRefusal, IsOctetsRun, IsTraceInput, IsTraceRun, AreShares}
-use Rattle.gw_run.specs.Forwarding.{IsKeptOf, IsListRun, IsRunOn, IsRunOver, IsStopOf, KeepsRun, NoneStopped, RefusesInputs}
+use Rattle.gw_run.specs.Forwarding.{IsKeptOf, IsRunOn, IsRunOver, IsStopOf, KeepsRun, NoneStopped, RefusesInputs}
 use Rattle.gw_run.specs.Forwarding.{RefusesOctets, RefusesTrace, report_text}
 use Rattle.gw_run.specs.declared.refusal.ForwardRefusal.TheVariants.{Command, Run, Stopped}
 use Rattle.gw_run.specs.declared.losses.Losses.{Losses}
@@ -58,16 +55,11 @@ pub refused_of_trace : (taking : Taking) (limits : Bounds) (first : List Pair) (
 refused_of_trace taking limits first before after failed reads octets given refusal read same why =
     inr (octets, read, subst (λ (o : List ℕ). RefusesOctets taking limits first o refusal) same why)
 
--- a run on inputs that are shares, and on some that are lists
+-- a run on inputs that are shares
 pub run_on_shares : (limits : Bounds) (first : List Pair) (frames : List (List ℕ)) (inputs : List (List (List ℕ))) (ran : Ran)
     → AreShares limits.ports frames inputs → IsRunOver (YieldsFirst (λ s. s)) limits first inputs ran
     → IsRunOn limits first frames ran
 run_on_shares limits first frames inputs ran shared run = record { inputs = inputs; shared = shared; is_run = run }
-
-pub run_on_lists : (limits : Bounds) (first : List Pair) (inputs : List (List (List ℕ))) (made : List (IntoIter (List ℕ) Global))
-    (ran : Ran) → map into_iter_items made ≡ inputs → IsRunOver into_iter_steps limits first made ran
-    → IsListRun limits first inputs ran
-run_on_lists limits first inputs made ran items run = record { made = made; items = items; is_run = run }
 
 -- a run of which no batch is published behind the first
 pub run_over : {S : Type 0} (steps : S → Option (List ℕ) → S → Type 0) (limits : Bounds) (first : List Pair) (inputs : List S)

@@ -1,9 +1,13 @@
 pub mod FirstBatch
+pub mod FirstOctets
+pub mod FirstRefusals
 pub mod Forwarded
 pub mod Forwards
+pub mod ListRuns
 pub mod LogLines
 pub mod LossCounts
 pub mod Objects
 pub mod PolicyLines
 pub mod PortInputs
 pub mod Told
+pub mod TraceInputs

@@ -1,15 +1,12 @@
 -- What the command `run` reads, forwards and writes: `before` and `after` are what its reader has left, `old` and `new` what its
 -- writer took.
-use Rattle.std.specs.Prelude.{◌≡◌, ℕ, ◌<◌, ◌⊎◌, ◌==◌, Bool, true, false, if◌then◌else◌, List, [], ◌∷◌, ◌++◌, length}
+use Rattle.std.specs.Prelude.{◌≡◌, ℕ, ◌<◌, ◌≤◌, ◌⊎◌, ◌==◌, Bool, true, false, if◌then◌else◌, List, [], ◌∷◌, ◌++◌, length}
 use Rattle.std.specs.Prelude.{codes, decimal, slice_get, slice_index_or, map, Option, Some, None, Result, Ok, Err, MatchResult}
 use Rattle.std.specs.Prelude.{All, Any, IsTrue}
 use Rattle.std.specs.Option.{option_map_or}
 use Rattle.std.specs.List.{flat_map, join_by, sum_by, range_with_len}
 use Rattle.std.specs.Io.KnownBytes.{IsAtEnd, Consumes}
 use Rattle.std.specs.Iterator.{YieldsFirst}
-use Rattle.std.specs.Vec.Iter.{into_iter_items, into_iter_steps}
-use Rattle.std.specs.declared.alloc.Global.{Global}
-use Rattle.std.specs.declared.vec.IntoIter.{IntoIter}
 use Rattle.gw_judge.specs.declared.head.NoLog.{NoLog}
 use Rattle.gw_policy.specs.Filter.{Filter}
 use Rattle.gw_policy.specs.Batches.{Pair, policy_after}
@@ -18,6 +15,7 @@ use Rattle.gw_ledger.specs.declared.ledger.InLedger.{InLedger}
 use Rattle.gw_ports.specs.Reports.{Ran}
 use Rattle.gw_ports.specs.Runs.{IsRun, NoneLost, RefusesRun}
 use Rattle.gw_ports.specs.declared.refusals.OfferRefusal.{OfferRefusal}
+use Rattle.gw_ports.specs.declared.running.RunEnd.{RunEnd}
 use Rattle.gw_ports.specs.declared.running.RunRefusal.TheVariants.{NoSuchPort}
 use Rattle.gw_io.specs.Pieces.{most_reads}
 use Rattle.gw_trace.specs.Shares.{share_of}
@@ -44,7 +42,9 @@ use Rattle.gw_run.specs.declared.taking.Taking.{Taking}
 use Rattle.gw_run.specs.declared.taking.Taking.TheVariants.{InTurn, ByInterface}
 use Rattle.gw_run.specs.Logs.{named_inputs, no_log}
 use Rattle.gw_run.specs.Refusals.{forward_refusal_line}
-use Rattle.gw_run.specs.Tallies.{AreTallies, lane_count}
+use Rattle.gw_run.specs.declared.kept.NoCopies.{NoCopies}
+use Rattle.gw_run.specs.declared.losses.Losses.{Losses}
+use Rattle.gw_run.specs.Tallies.{AreTallies, IsToldOf, lane_count}
 
 -- ---- the first batch
 
@@ -103,9 +103,17 @@ pub record IsRunOn (limits : Bounds) (first : List Pair) (frames : List (List �
 
 -- the same of lists of frames
 pub record IsListRun (limits : Bounds) (first : List Pair) (inputs : List (List (List ℕ))) (ran : Ran) : Type 0 where
-  pub made : List (IntoIter (List ℕ) Global)
-  pub items : map into_iter_items made ≡ inputs
-  pub is_run : IsRunOver into_iter_steps limits first made ran
+  pub is_run : IsRunOver (YieldsFirst (λ s. s)) limits first inputs ran
+
+-- the end of such a run, with the losses of its ports
+pub record EndsRun {S : Type 0} (steps : S → Option (List ℕ) → S → Type 0) (limits : Bounds) (first : List Pair)
+    (inputs : List S) (waits : Bool) (ended : RunEnd S Losses NoCopies) : Type 0 where
+  pub ran : Ran
+  pub is_run : IsRun steps limits first inputs [] ended.inputs.items ran
+  pub told : (ended.stops.items ≡ ran.stops) × (ended.report ≡ ran.report)
+  pub few : limits.ports ≤ 16
+  pub counted : IsToldOf limits first ran ended.outcomes.items
+  pub none_lost : IsTrue waits → NoneLost ran
 
 -- a gateway was run on the frames of the lines of a log whose interface is named for the ports
 abbrev pub LogRuns : List NamedInterface → Bounds → List Pair → List ℕ → Ran → Type 0

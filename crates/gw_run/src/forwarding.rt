@@ -231,7 +231,7 @@ fn run_trace<R: Threads + Wait + Sync, G: Observer, F: Write>(
             return Err(ForwardRefusal::Trace(why));
         }
     };
-    observer.begins(trace.len());
+    observer.begins(Some(trace.len()));
     let ran = run_shares(rt, alloc, limits, first, &trace, observer);
     note_dealt(limits.ports(), faults);
     ran
@@ -260,7 +260,7 @@ fn run_log<R: Threads + Wait + Sync, G: Observer, F: Write>(
     let Ok(lists) = named_lists(alloc, names, ports, octets, &mut notes) else {
         return Err(ForwardRefusal::Command(Refusal::OutOfMemory));
     };
-    observer.begins(frame_count(lists.as_slice()));
+    observer.begins(Some(frame_count(lists.as_slice())));
     let ran = run_lists(rt, alloc, limits, first, lists, observer);
     notes.tell(faults);
     ran

@@ -13,8 +13,8 @@ const OFTEN: usize = 4096;
 
 /// A gate that is told how many frames there are.
 pub trait Observer: Gate {
-    /// Before the run.
-    fn begins(&self, frames: usize);
+    /// Before the run. None where traces are read while it runs.
+    fn begins(&self, frames: Option<usize>);
 }
 
 /// Nobody observes: the gate does nothing.
@@ -38,7 +38,7 @@ impl Gate for NoObserver {
 }
 
 impl Observer for NoObserver {
-    fn begins(&self, _frames: usize) {}
+    fn begins(&self, _frames: Option<usize>) {}
 }
 
 /// Observes as another does, while a copy that finds its lane full waits for room.
@@ -70,16 +70,17 @@ impl<G: Gate> Gate for Waiting<'_, G> {
 }
 
 impl<G: Observer> Observer for Waiting<'_, G> {
-    fn begins(&self, frames: usize) {
+    fn begins(&self, frames: Option<usize>) {
         self.0.begins(frames);
     }
 }
 
-/// Tells a person on stderr, once a second, how many frames were offered of those that there are.
+/// Tells a person on stderr, once a second, how many frames were offered, and of how many where that is known.
 #[derive(Drop)]
 pub struct ProgressOnStderr<'a, R> {
     rt: &'a R,
     start: Option<Instant>,
+    /// How many there are; 0 where that is not known.
     frames: AtomicUsize,
     done: AtomicUsize,
     second: AtomicU64,
@@ -119,8 +120,10 @@ impl<R: Clock + Eprint> ProgressOnStderr<'_, R> {
                 .compare_exchange(last, second, Ordering::SeqCst, Ordering::SeqCst)
                 .is_ok()
         {
-            let frames = self.frames.load(Ordering::SeqCst);
-            let _ = eprintln!(self.rt; "gw: {done} of {frames} frames");
+            let _ = match self.frames.load(Ordering::SeqCst) {
+                0 => eprintln!(self.rt; "gw: {done} frames"),
+                frames => eprintln!(self.rt; "gw: {done} of {frames} frames"),
+            };
         }
     }
 }
@@ -146,7 +149,7 @@ impl<R: Clock + Eprint + Sync> Gate for ProgressOnStderr<'_, R> {
 }
 
 impl<R: Clock + Eprint + Sync> Observer for ProgressOnStderr<'_, R> {
-    fn begins(&self, frames: usize) {
-        self.frames.store(frames, Ordering::SeqCst);
+    fn begins(&self, frames: Option<usize>) {
+        self.frames.store(frames.unwrap_or(0), Ordering::SeqCst);
     }
 }

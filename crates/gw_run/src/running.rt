@@ -5,8 +5,8 @@ ghost use Rattle.std.specs.Prelude.{IfOk, IfErr, IfNone, IfSome, All};
 ghost use Rattle.std.specs.Iterator.{IsFinite};
 ghost use Rattle.std.specs.Vec.Iter.{into_iter_items};
 ghost use Rattle.gw_trace.specs.Shares.{share_of};
-ghost use Rattle.gw_run.specs.Forwarding.{AreShares, IsFirstStop, IsListRun, IsRunOn, IsRunOver, IsStopOf, KeepsRun};
-ghost use Rattle.gw_run.specs.Forwarding.{NoneStopped, RefusesInputs};
+ghost use Rattle.gw_run.specs.Forwarding.{AreShares, EndsRun, IsFirstStop, IsListRun, IsRunOn, IsRunOver, IsStopOf};
+ghost use Rattle.gw_run.specs.Forwarding.{KeepsRun, NoneStopped, RefusesInputs};
 ghost use Rattle.gw_run.specs.Tallies.{AreTallies, IsToldOf};
 ghost use Rattle.gw_ledger.specs.Bounds.{Bounds};
 ghost use Rattle.gw_policy.specs.Batches.{Pair};
@@ -14,7 +14,7 @@ ghost use Rattle.gw_ports.specs.Reports.{Ran};
 ghost use Rattle.gw_answers.specs.declared.refusal.Refusal.TheVariants.{OutOfMemory};
 ghost use Rattle.gw_run.specs.declared.refusal.ForwardRefusal.TheVariants.{Command};
 
-use crate::kept::{Kept, no_copies};
+use crate::kept::{Kept, NoCopies, no_copies};
 use crate::losses::{Losses, no_losses};
 use crate::observing::Observer;
 use crate::refusal::ForwardRefusal;
@@ -22,7 +22,7 @@ use crate::tally::lane_tallies;
 use gw_frame::Frame;
 use gw_ledger::Limits;
 use gw_policy::Batch;
-use gw_ports::{OfferRefusal, Report, run_with};
+use gw_ports::{OfferRefusal, Report, RunEnd, run_with};
 use gw_trace::{Checked, Share};
 use std::alloc::{AllocError, Global};
 use std::marker::{Send, Sync};
@@ -67,7 +67,7 @@ pub(crate) fn run_lists<R: Threads + Wait + Sync, G: Observer>(
     run_inputs(rt, alloc, limits, first, inputs, observer)
 }
 
-/// Offers each port the frames of its input, and counts what became of them. A port that stopped is a refusal, the least port's
+/// Offers each port the frames of its input, and tells what became of them. A port that stopped is a refusal, the least port's
 /// first. It may wait.
 fn run_inputs<R: Threads + Wait + Sync, G: Observer, I: Iterator<Item = Frame> + Send>(
     rt: &R,
@@ -84,19 +84,39 @@ fn run_inputs<R: Threads + Wait + Sync, G: Observer, I: Iterator<Item = Frame> +
     ensures ran { IfOk result (KeepsRun limits.ports (IsRunOver I.next_gives limits first inputs.items) G.waits) }
     ensures refused { IfErr result (RefusesInputs (IsRunOver I.next_gives limits first inputs.items) limits first) }
 {
+    let ended = run_over(rt, alloc, limits, first, inputs, observer)?;
+    unstopped(alloc, ended.stops, ended.report, ended.outcomes)
+}
+
+/// Offers each port the frames of its input, and counts what became of them. It may wait.
+pub(crate) fn run_over<R: Threads + Wait + Sync, G: Observer, I: Iterator<Item = Frame> + Send>(
+    rt: &R,
+    alloc: Global,
+    limits: Limits,
+    first: Batch,
+    inputs: Vec<I>,
+    observer: &G,
+) -> Result<RunEnd<I, Losses, NoCopies>, ForwardRefusal>
+    requires count { vec_len inputs ≡ limits.ports }
+    requires inputs { (port : ℕ) (d : I) → port < limits.ports → I.can_next (slice_index_or inputs.items port d)
+        × IsFinite (I.remaining (slice_index_or inputs.items port d)) }
+    requires first { All (λ pair. pair.port < limits.ports) first }
+    ensures ran { IfOk result (EndsRun I.next_gives limits first inputs.items G.waits) }
+    ensures refused { IfErr result (RefusesInputs (λ ran. ⊥) limits first) }
+{
     let losses = no_losses(alloc, limits.ports() as u8)?;
     let out = no_copies(alloc, limits.ports() as usize)?;
     let batches = Vec::new(alloc);
     match run_with(
         rt, alloc, limits, first, inputs, losses, out, batches, observer,
     ) {
-        Ok(ended) => unstopped(alloc, ended.stops, ended.report, ended.outcomes),
+        Ok(ended) => Ok(ended),
         Err(why) => Err(ForwardRefusal::Run(why)),
     }
 }
 
 /// What is kept of a run of which no port stopped. A port that stopped is a refusal, the least port's first.
-fn unstopped(
+pub(crate) fn unstopped(
     alloc: Global,
     stops: Vec<Option<OfferRefusal>>,
     report: Report,

@@ -1,5 +1,5 @@
 -- For whoever feeds a trace: which whole records octets have, and what is wrong with a header.
-use Rattle.std.proofs.Common.{◌≡◌, ℕ, List, Result, take, refl}
+use Rattle.std.proofs.Common.{ℕ, List, Result, take, refl}
 use Rattle.gw_frame.specs.declared.refusal.FrameRefusal.{FrameRefusal}
 use Rattle.gw_trace.specs.declared.refusal.TraceRefusal.{TraceRefusal}
 use Rattle.gw_trace.specs.FaultKinds.{IsHeaderFault}

@@ -81,7 +81,7 @@ pub no_memory_fault : (octets : List ℕ) → (reading octets).stage ≡ Failed 
 no_memory_fault octets h = reading_faults octets OutOfMemory h
 
 -- what is wrong with a whole trace is no failed read
-ending_is : (stage : Stage) (rest : List ℕ) (fault : TraceRefusal) → ((met : TraceRefusal) → stage ≡ Failed met → IsFault met)
+pub ending_is : (stage : Stage) (rest : List ℕ) (fault : TraceRefusal) → ((met : TraceRefusal) → stage ≡ Failed met → IsFault met)
     → Some fault ≡ ending stage rest → fault ≢ ReadFault
 ending_is Header rest fault faults h k = let same : Some ReadFault ≡ Some Cut = sym (ap Some k) ∙ h in absurd (cc)
 ending_is (Records order) [] fault faults h k = absurd (cc)

@@ -7,6 +7,7 @@ pub mod Joining
 pub mod Parting
 pub mod Resuming
 pub mod Shared
+pub mod Taking
 pub mod Verdicts
 pub mod Scanned
 mod TraceExamples

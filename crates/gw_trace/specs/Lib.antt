@@ -1,6 +1,7 @@
 -- public meaning: what a trace is, what a piece of it gives, all its records, and shares
 pub mod Traces
 pub mod Progress
+pub mod TraceFrames
 pub mod Recorded
 pub mod Shares
 pub mod Refusals

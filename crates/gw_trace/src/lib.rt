@@ -14,6 +14,7 @@ mod scan;
 mod share;
 mod stage;
 mod trace;
+mod trace_frames;
 
 pub use byte_order::is_magic;
 pub use checked::Checked;
@@ -23,3 +24,4 @@ pub use records::{Records, Taken};
 pub use refusal::TraceRefusal;
 pub use share::Share;
 pub use trace::Trace;
+pub use trace_frames::TraceFrames;

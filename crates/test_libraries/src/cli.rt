@@ -4,7 +4,7 @@ use crate::streams::{Sink, Source, WHOLE};
 use gw_cli::{Console, command, run_command};
 use gw_io::Tried;
 use std::alloc::{AllocError, Global};
-use std::marker::Sync;
+use std::marker::{Send, Sync};
 use std::rt::{Clock, Files};
 use std::sync::Wait;
 use std::thread::Threads;
@@ -103,6 +103,7 @@ pub fn run_outcome_on<R>(
 ) -> Outcome
 where
     R: Threads + Wait + Sync + Files + Clock + Eprint + Console,
+    R::File: Send,
 {
     let mut output = Sink::new(alloc, 1, room);
     let mut stderr = Sink::new(alloc, 1, WHOLE);

@@ -1,7 +1,8 @@
 use Rattle.std.proofs.Common.{map}
 use Rattle.std.proofs.lemmas.Result.{IfErr-weaker, IfOk-weaker}
 use Rattle.gw_run.specs.Forwarding.{IsListRun}
-use Rattle.gw_run.proofs.Forwards.{kept_as, refuses_as, run_on_lists}
+use Rattle.gw_run.proofs.Forwards.{kept_as, refuses_as}
+use Rattle.gw_run.proofs.ListRuns.{run_on_lists}
 use Rattle.gw_run.proofs.running.run_lists.Goals as goal
 
 pub returns-clause-ran : goal.returns-clause-ran
