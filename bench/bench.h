@@ -68,6 +68,7 @@ bool time_scripts(const char *text, size_t length, const uint8_t (*records)[16])
 struct cost {
     double clock;
     double processors;
+    double memory; /* the most octets that it had in memory */
 };
 
 /* Runs a shell's command, and tells what it cost. False where it fails. */

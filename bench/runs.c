@@ -1,8 +1,8 @@
 /*
  * Times `gw run` beside libpcap's reader and filter, both as whole processes on the same file: a trace of four million frames of
  * the vehicle's bus, on which libpcap runs `ret #1`, or the program of a table of 40 rules, on each frame and counts those that
- * pass. `gw run` forwards them between 2 ports, and with the table also between 4, 8 and 16. Prints a table in markdown. Fails
- * where a process fails, or `gw run` takes other than all frames.
+ * pass. `gw run` forwards them between 2 ports, and with the table also between 4, 8 and 16: dealt to the ports in turn, or read by
+ * port 0 as its own file (`--in`). Prints a table in markdown. Fails where a process fails, or `gw run` takes other than all frames.
  */
 #define _GNU_SOURCE
 #include "bench.h"
@@ -63,7 +63,8 @@ static bool has_ended_well(pid_t process, double start, struct cost *cost)
     int status;
     if (process < 0 || wait4(process, &status, 0, &usage) != process)
         return false;
-    *cost = (struct cost){now() - start, nanoseconds(usage.ru_utime) + nanoseconds(usage.ru_stime)};
+    double processors = nanoseconds(usage.ru_utime) + nanoseconds(usage.ru_stime);
+    *cost = (struct cost){now() - start, processors, (double)usage.ru_maxrss * 1024};
     return WIFEXITED(status) && WEXITSTATUS(status) == 0;
 }
 
@@ -104,13 +105,18 @@ static uint64_t taken(void)
 static const char *const plain = "";
 static const char *const large_pages = "GLIBC_TUNABLES=glibc.malloc.hugetlb=1";
 
+/* How a run comes by its trace: dealt to the ports in turn, or as port 0's own. */
+static const char *const dealt = "<";
+static const char *const own = "--in 0=";
+
 /* Both in turn; the least clock time of each counts, with the processor time of that run. */
-static bool time_pair(const char *settings, int ports, const char *policies, const struct bpf_insn *code, const char *name)
+static bool time_pair(const char *settings, const char *input, int ports, const char *policies, const struct bpf_insn *code,
+                      const char *name)
 {
     char command[600];
-    struct cost ours = {1e30, 0}, theirs = {1e30, 0}, cost;
-    snprintf(command, sizeof command, "exec env %s ../crates/gw/out/gw run --ports %d %s < %s > out/counts", settings, ports,
-             policies, trace_name);
+    struct cost ours = {1e30, 0, 0}, theirs = {1e30, 0, 0}, cost;
+    snprintf(command, sizeof command, "exec env %s ../crates/gw/out/gw run --ports %d %s %s%s > out/counts", settings, ports,
+             policies, input, trace_name);
     for (int repeat = 0; repeat < RUN_REPEATS; repeat++) {
         if (!run_command(command, &cost) || taken() != FRAMES)
             return false;
@@ -119,8 +125,9 @@ static bool time_pair(const char *settings, int ports, const char *policies, con
             return false;
         theirs = cost.clock < theirs.clock ? cost : theirs;
     }
-    printf("| %s | %d | %.1f | %.1f | %.1f | %.1f | %.1f | %.2f |\n", name, ports, ours.clock / FRAMES, ours.processors / FRAMES,
-           ours.clock / FRAMES / (ports - 1), theirs.clock / FRAMES, theirs.processors / FRAMES, ours.clock / theirs.clock);
+    printf("| %s | %d | %.1f | %.1f | %.1f | %.0f | %.1f | %.1f | %.2f |\n", name, ports, ours.clock / FRAMES,
+           ours.processors / FRAMES, ours.clock / FRAMES / (ports - 1), ours.memory / 1e6, theirs.clock / FRAMES,
+           theirs.processors / FRAMES, ours.clock / theirs.clock);
     fflush(stdout);
     return true;
 }
@@ -142,13 +149,16 @@ bool time_runs(const char *name, const char *text, size_t length, const uint8_t 
         fprintf(stderr, "runs: no trace\n");
         return false;
     }
-    printf("\n| policy | ports | `gw run`, ns a frame | its processors | ns a frame and other port | libpcap, ns a frame "
-           "| its processor | `gw run` / libpcap |\n|---|---|---|---|---|---|---|---|\n");
+    printf("\n| policy | ports | `gw run`, ns a frame | its processors | ns a frame and other port | its memory, MB "
+           "| libpcap, ns a frame | its processor | `gw run` / libpcap |\n|---|---|---|---|---|---|---|---|---|\n");
     const char *all = "--program '1,6 0 0 1,'";
-    bool is_done = time_pair(plain, 2, all, pass, "`ret #1`") && time_pair(large_pages, 2, all, pass, "`ret #1`, large pages");
+    bool is_done = time_pair(plain, dealt, 2, all, pass, "`ret #1`")
+        && time_pair(large_pages, dealt, 2, all, pass, "`ret #1`, large pages")
+        && time_pair(plain, own, 2, all, pass, "`ret #1`, `--in`");
     for (int ports = 2; is_done && ports <= 16; ports *= 2) {
         name_table(words, sizeof words, name, ports);
-        is_done = time_pair(plain, ports, words, code, "the table");
+        is_done = time_pair(plain, dealt, ports, words, code, "the table")
+            && time_pair(plain, own, ports, words, code, "the table, `--in`");
     }
     if (!is_done)
         fprintf(stderr, "runs: a process failed, or frames are missing\n");
