@@ -2,8 +2,8 @@
 use Rattle.std.proofs.Common.{◌≡◌, ◌∙◌, ℕ, List, [], ◌∷◌, ◌++◌, Option, None, Result, Ok, ap, append-nil}
 use Rattle.std.proofs.Common.{◌+◌, ◌<◌, append_assoc, drop, get_or, inl, inr, length, map, refl, subst, sym, take}
 use Rattle.std.proofs.lemmas.List.{take-append-drop, take_more}
+use Rattle.std.proofs.lemmas.Slice.Zip.{all_zipped_more}
 use Rattle.std.specs.Borrow.{Bor}
-use Rattle.std.specs.List.{AllZip}
 use Rattle.gw_run.specs.PortInputs.{AreFinished, AreKnown, AreNew, HasGiven}
 use Rattle.gw_run.specs.PortInputs.{IsFinished}
 use Rattle.gw_run.specs.PortInputs.{Known, RefusesFile, RefusesFiles, RefusesFinished}
@@ -96,14 +96,6 @@ none_finished remaining known inputs are = record {
   others = are;
 }
 
-finished_push : {R : Type 0} (known : List Known) (inputs : List (PortInput R)) (one : Known) (input : PortInput R)
-    → AreFinished known inputs → IsFinished one input → AreFinished (known ++ one ∷ []) (inputs ++ input ∷ [])
-finished_push [] [] one input finished more = (more, tt)
-finished_push [] (other ∷ inputs) one input finished more = absurd finished
-finished_push (other ∷ known) [] one input finished more = absurd finished
-finished_push (other ∷ known) (first ∷ inputs) one input finished more =
-    (finished.0, finished_push known inputs one input finished.1 more)
-
 -- one more is finished, as what was known of it says
 pub finished_more : {R : Type 0} (remaining : R → Option (List ℕ)) (known : List Known) (inputs : List (PortInput R))
     (input : PortInput R) (rest : List (PortInput R)) → IsFinishedTo remaining known inputs (input ∷ rest)
@@ -120,7 +112,7 @@ finished_more {R} remaining known inputs input rest to ends = by to.after to.kno
       front = to.front ++ input ∷ [];
       known_are = are ∙ sym (append_assoc to.before (one ∷ []) after);
       inputs_are = to.inputs_are ∙ sym (append_assoc to.front (input ∷ []) rest);
-      finished = finished_push to.before to.front one input to.finished (ends one others.0);
+      finished = all_zipped_more IsFinished to.before to.front one input to.finished (ends one others.0);
       others = others.1;
     }
 
@@ -178,20 +170,13 @@ files_of_new : (files : List (Option (Bor (List ℕ)))) → map (λ one. one.fil
 files_of_new [] = refl
 files_of_new (file ∷ files) = ap (λ l. file ∷ l) (files_of_new files)
 
-zip_push : {X Y : Type 0} (R : X → Y → Type 0) (xs : List X) (ys : List Y) (x : X) (y : Y) → AllZip R xs ys → R x y
-    → AllZip R (xs ++ x ∷ []) (ys ++ y ∷ [])
-zip_push R [] [] x y none more = (more, tt)
-zip_push R [] (b ∷ bs) x y none more = absurd none
-zip_push R (a ∷ rest) [] x y none more = absurd none
-zip_push R (a ∷ rest) (b ∷ bs) x y both more = (both.0, zip_push R rest bs x y both.1 more)
-
 -- the inputs of the first files, and of the next one
 pub new_more : {R : Type 0} (remaining : R → Option (List ℕ)) (files : List (Option (Bor (List ℕ)))) (n : ℕ)
     (inputs : List (PortInput R)) (input : PortInput R) → n < length files → HasGiven remaining (get_or files n None) [] input
     → AreNew remaining (take n files) inputs → AreNew remaining (take (n + 1) files) (inputs ++ input ∷ [])
 new_more remaining files n inputs input within more so_far =
     subst (λ l. AreNew remaining l (inputs ++ input ∷ [])) (sym (take_more files n None within))
-    (zip_push (λ file one. HasGiven remaining file [] one) (take n files) inputs (get_or files n None) input so_far more)
+    (all_zipped_more (λ file one. HasGiven remaining file [] one) (take n files) inputs (get_or files n None) input so_far more)
 
 -- one of the first files is refused
 pub refused_before : {R : Type 0} (files : List (Option (Bor (List ℕ)))) (n : ℕ) (inputs : List (PortInput R))

@@ -38,16 +38,16 @@ all_found (file ∷ files) =
 
 -- ---- inputs of which no frame was taken yet
 
--- a file that may have frames, whatever it holds
-nothing_held : (file : Option (Bor (List ℕ))) (octets : List ℕ) → IsFoundOf file (Held octets) → IsFoundOf file (Held [])
-nothing_held None octets is = let other : ◌≡◌ {A = Found} (Held octets) NotNamed = is in absurd cc
-nothing_held (Some file) octets is = tt
+-- a file that holds octets, whichever these are
+pub held_of : (file : Option (Bor (List ℕ))) (some others : List ℕ) → IsFoundOf file (Held some) → IsFoundOf file (Held others)
+held_of None some others is = let other : ◌≡◌ {A = Found} (Held some) NotNamed = is in absurd cc
+held_of (Some file) some others is = tt
 
 begun : {R : Type 0} (remaining : R → Option (List ℕ)) (file : Option (Bor (List ℕ))) (input : PortInput R)
     → HasGiven remaining file [] input
     → (found : Found) × (frames : List (List ℕ)) × IsFoundOf file found × (frames_of found ≡ Ok frames)
 begun remaining file (Listed frames) has = (has.0, into_iter_items frames, has.1, has.2)
-begun remaining file (Streamed named frames) has = (Held [], log_frames [], nothing_held file has.1 has.2, refl)
+begun remaining file (Streamed named frames) has = (Held [], log_frames [], held_of file has.1 [] has.2, refl)
 
 pub all_begun : {R : Type 0} (remaining : R → Option (List ℕ)) (files : List (Option (Bor (List ℕ))))
     (inputs : List (PortInput R)) → AreNew remaining files inputs

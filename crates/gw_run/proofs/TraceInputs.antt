@@ -19,14 +19,11 @@ use Rattle.gw_run.specs.declared.port_input.PortInput.TheVariants.{Listed, Strea
 use Rattle.gw_run.specs.declared.refusal.ForwardRefusal.TheVariants as refuses
 use Rattle.gw_run.specs.declared.refusal.ForwardRefusal.TheVariants.{Command, Trace}
 use Rattle.gw_run.proofs.FirstOctets.{pcap_behind}
+use Rattle.gw_run.proofs.PortInputs.{held_of}
 
 -- ---- an input that is a trace
 
--- which file it is of, whatever the octets
-held_of : (file : Option (Bor (List ℕ))) (some others : List ℕ) → IsFoundOf file (Held some) → IsFoundOf file (Held others)
-held_of None some others is = let other : ◌≡◌ {A = Found} (Held some) NotNamed = is in absurd cc
-held_of (Some file) some others is = tt
-
+-- a file that could not be read to its end
 unread_of : (file : Option (Bor (List ℕ))) (octets : List ℕ) → IsFoundOf file (Held octets) → IsFoundOf file Unread
 unread_of None octets is = let other : ◌≡◌ {A = Found} (Held octets) NotNamed = is in absurd cc
 unread_of (Some file) octets is = tt

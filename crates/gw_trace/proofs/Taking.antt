@@ -1,8 +1,7 @@
 -- How an iterator over a trace goes on with a piece, and how it ends.
 use Rattle.std.proofs.Common.{◌≡◌, ◌≢◌, ◌⊎◌, ℕ, Bool, List, [], ◌++◌, Option, Some, None, Result, Ok, Err, sym, ap, ◌∙◌, refl}
 use Rattle.std.proofs.Common.{◌∷◌, ◌<◌, ◌+◌, if◌then◌else◌, true, false, Global, append-nil, append_assoc, arith, inl, inr, subst}
-use Rattle.std.proofs.Common.{IsTrue, true≢false, ⊎_elim}
-use Rattle.std.proofs.lemmas.Bool.{false≢true}
+use Rattle.std.proofs.Common.{true≢false, ⊎_elim}
 use Rattle.std.specs.declared.vec.IntoIter.{IntoIter}
 use Rattle.std.specs.Io.KnownBytes.{Consumes, IsAtEnd, Keeps}
 use Rattle.std.specs.Option.{option_map_or, option_to_list}
@@ -231,11 +230,6 @@ one_fewer true true left most going fewer = absurd (true≢false going)
 one_fewer false true left most going fewer = absurd (true≢false going)
 one_fewer true false left most going fewer = omega arith
 one_fewer false false left most going fewer = let less = fewer refl in omega arith
-
--- what has ended does not go on
-pub not_open : (ended : Bool) → IsTrue ended → ended ≡ false → ⊥
-not_open true is going = absurd (true≢false going)
-not_open false is going = absurd (false≢true is)
 
 -- nothing was taken more, and the next frame was
 pub taken_so_far : {R : Type 0} (remaining : R → Option (List ℕ)) (before : Option (List ℕ)) (octets : List ℕ)

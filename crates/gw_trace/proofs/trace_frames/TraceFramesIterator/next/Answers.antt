@@ -1,6 +1,6 @@
-use Rattle.std.proofs.Common.{◌++◌, IsTrue, append_assoc, arith, subst, sym}
+use Rattle.std.proofs.Common.{◌∙◌, true≢false, ◌++◌, IsTrue, append_assoc, arith, subst, sym}
 use Rattle.gw_trace.specs.TraceFrames.{HasTaken, has_ended}
-use Rattle.gw_trace.proofs.Taking.{not_open, one_fewer, with_others}
+use Rattle.gw_trace.proofs.Taking.{one_fewer, with_others}
 use Rattle.gw_trace.proofs.trace_frames.TraceFramesIterator.next.Goals as goal
 
 pub pieces-smaller : goal.pieces-smaller
@@ -24,6 +24,6 @@ pieces-preserved g c = record {
       let less = c.in_default.ensures.len in
       omega arith;
   stays = λ ended. absurd
-      (not_open (has_ended c.pieces.self)
-      (subst (λ frames. IsTrue (has_ended frames)) (sym (c.pieces.invariant.stays ended)) ended) c.pieces-test.ensures);
+      (true≢false (sym (subst (λ frames. IsTrue (has_ended frames)) (sym (c.pieces.invariant.stays ended)) ended)
+      ∙ c.pieces-test.ensures));
 }
