@@ -3,7 +3,7 @@
 ghost use Rattle.std.specs.Prelude.{◌≡◌, ◌≢◌, ◌≤◌, ◌<◌, ◌++◌, ℕ, List, [], Option, Some, None, Err, IfOk, IfErr, IsTrue, false};
 ghost use Rattle.std.specs.Io.KnownBytes.{Consumes};
 ghost use Rattle.std.specs.Iterator.{size};
-ghost use Rattle.std.specs.Vec.Iter.{into_iter_items};
+ghost use Rattle.std.specs.Vec.Iter.{into_iter_items, into_iter_len};
 ghost use Rattle.gw_io.specs.Tries.{inner_of, error_of};
 ghost use Rattle.gw_trace.specs.TraceFrames.{HasTaken, has_ended, most_of};
 ghost use Rattle.gw_trace.specs.Traces.{whole_trace};
@@ -57,9 +57,11 @@ impl<R: Read + Drop> TraceFrames<R> {
 
     /// Reads the next piece, where no frame of those before is left.
     pub fn read_ahead(&mut self)
-        ensures { (before : Option (List ℕ)) (octets : List ℕ) (given : List (List ℕ))
+        ensures read { (before : Option (List ℕ)) (octets : List ℕ) (given : List (List ℕ))
             → HasTaken R.remaining before octets given self.old
             → (more : List ℕ) × HasTaken R.remaining before (octets ++ more) given self.new }
+        ensures ahead { into_iter_len self.old.frames ≡ 0 → has_ended self.new ≡ false
+            → self.new.pieces.left < self.old.pieces.left }
     {
         if self.end.is_none() && self.frames.len() == 0 {
             self.read_on();

@@ -20,7 +20,7 @@ returns-in-Some-Pcap-clause-input g c =
     let consumed =
     subst (Consumes before (g.R.Read.remaining (inner_of c.read.new.reader))) (sym c.octets-front.ensures.octets)
     c.in-Ok.ensures.opened.consumed in
-    let ahead = c.read_ahead.ensures before front [] (c.in-Ok-new.ensures.begins before consumed) in (
+    let ahead = c.read_ahead.ensures.read before front [] (c.in-Ok-new.ensures.begins before consumed) in (
       front ++ ahead.0,
       pcap_behind front ahead.0 (sym c.no_log.ensures ∙ c.in-Some-Pcap.is ∙ ap Some c.in-Some-Pcap.field-0-is),
       ahead.1,
