@@ -3,9 +3,9 @@
 ghost use Rattle.std.specs.Prelude.{◌≤◌, IfOk};
 ghost use Rattle.gw_table.specs.Table.{Fits};
 
-use crate::arguments::{reading, valued};
-use crate::run_arguments::wrong_in;
-use clap::{ArgMatches, Command, Error};
+use crate::form::wrong;
+use crate::forms::ASK;
+use clap::{ArgMatches, Error};
 use gw_ledger::MAX_PORTS;
 use gw_table::{Question, Span};
 use std::alloc::{AllocError, Global};
@@ -18,42 +18,6 @@ const GREATEST_ADDRESS: u32 = 255;
 
 /// The greatest number of a port.
 const GREATEST_PORT: u32 = MAX_PORTS as u32 - 1;
-
-/// The command `ask`, as `clap` reads it and shows its help.
-pub fn ask_arguments<'a>(alloc: Global) -> Result<Command<'a>, AllocError> {
-    reading(
-        alloc,
-        "ask",
-        "Tells whether a policy table passes all frames that are asked for, or none, or shows a frame of each kind",
-        "gw ask [FILE] [--pgn A[-B]] [--source A[-B]] [--destination A[-B]] [--from P[-Q]]",
-        "Example: gw ask examples/engine-control.toml --pgn 0 --destination 0 --from 1",
-    )
-    .arg(valued(
-        alloc,
-        "pgn",
-        "A[-B]",
-        "The parameter groups asked for, a number or a range, 0 to 262143 or 0x3FFFF [default: every frame, with a group or not]",
-    ))
-    .arg(valued(
-        alloc,
-        "source",
-        "A[-B]",
-        "The source addresses asked for, 0 to 255",
-    ))
-    .arg(valued(
-        alloc,
-        "destination",
-        "A[-B]",
-        "The destinations asked for, 0 to 255; frames of PDU format 240 and above go to 255 alone",
-    ))
-    .arg(valued(
-        alloc,
-        "from",
-        "P[-Q]",
-        "The ports asked for at which the frame was taken, 0 to 15 [default: each]",
-    ))
-    .done()
-}
 
 /// What the arguments behind `ask` ask of a table.
 pub fn asked_question(alloc: Global, found: &ArgMatches) -> Result<Question, Error> {
@@ -79,7 +43,7 @@ fn asked_span(
         Ok(span) => Ok(Some(span)),
         Err(fault) => {
             let text = told(alloc, option, word, greatest, fault)?;
-            Err(wrong_in(ask_arguments(alloc), text.as_str()))
+            Err(wrong(alloc, &ASK, &text))
         }
     }
 }

@@ -1,11 +1,10 @@
 //! The arguments of `gw judge` on a log of several interfaces.
 
-use crate::arguments::flag;
-use crate::building::Building;
-use crate::run_arguments::{interface_option, port_count};
-use crate::source_arguments::{Usage, name_files};
+use crate::form::wrong;
+use crate::forms::JUDGE;
+use crate::source_arguments::name_files;
 use crate::taking_arguments::asked_interfaces;
-use clap::{Arg, ArgMatches, Error};
+use clap::{ArgMatches, Error};
 use gw_answers::{PolicyKind, PolicySource};
 use gw_judge::NamedInterface;
 use gw_ledger::MAX_PORTS;
@@ -20,37 +19,6 @@ pub struct EgressRequest<'a> {
     pub interfaces: Vec<NamedInterface<'a>>,
 }
 
-/// The command with the options that ask for what leaves at several interfaces.
-pub(crate) fn with_egress<'a>(alloc: Global, command: Building<'a>) -> Building<'a> {
-    command
-        .made_arg(egress_flag(alloc))
-        .made_arg(interface_option(alloc).requires_arg("out"))
-        .made_arg(egress_ports(alloc))
-}
-
-fn egress_flag<'a>(alloc: Global) -> Result<Arg<'a>, AllocError> {
-    flag(
-        alloc,
-        "out",
-        "Writes each frame once for each interface at which it leaves, in the log's order; the policies are --table P=FILE and \
-        --listing P=FILE, once for each port, and a port without one lets nothing leave",
-    )
-    .requires_arg("interface")?
-    .conflicts_with("shown")?
-    .conflicts_with("by")?
-    .conflicts_with("json")?
-    .conflicts_with("port")?
-    .conflicts_with("strict")
-}
-
-fn egress_ports<'a>(alloc: Global) -> Result<Arg<'a>, AllocError> {
-    port_count(
-        alloc,
-        "The number of ports, 2 to 16, so that no P above them is named [default: 16]",
-    )
-    .requires_arg("out")
-}
-
 /// What is asked of a log of several interfaces.
 pub(crate) fn asked_egress<'a>(
     alloc: Global,
@@ -62,7 +30,7 @@ pub(crate) fn asked_egress<'a>(
     };
     let tables = found.get_strs("table").unwrap_or(&[]);
     let listings = found.get_strs("listing").unwrap_or(&[]);
-    let interfaces = asked_interfaces(alloc, found, ports, Usage::Judge)?;
+    let interfaces = asked_interfaces(alloc, found, ports, &JUDGE)?;
     written_names(alloc, interfaces.as_slice())?;
     let mut sources = [PolicySource::Opening; MAX_PORTS];
     name_files(
@@ -70,14 +38,14 @@ pub(crate) fn asked_egress<'a>(
         tables,
         PolicyKind::Table,
         &mut sources[..ports],
-        Usage::Judge,
+        &JUDGE,
     )?;
     name_files(
         alloc,
         listings,
         PolicyKind::Listing,
         &mut sources[..ports],
-        Usage::Judge,
+        &JUDGE,
     )?;
     Ok(EgressRequest {
         sources,
@@ -93,7 +61,7 @@ fn written_names(alloc: Global, interfaces: &[NamedInterface]) -> Result<(), Err
             let text = format!(in alloc;
                 "`{name}` is no interface of a log: a name has no blank and no `#`, and begins with neither `(` nor `[`"
             )?;
-            return Err(Usage::Judge.wrong(alloc, &text));
+            return Err(wrong(alloc, &JUDGE, &text));
         }
     }
     Ok(())

@@ -2,20 +2,11 @@
 
 ghost use Rattle.std.specs.Prelude.{◌≡◌, vec_len, IfOk};
 
+use crate::form::wrong;
+use crate::forms::RUN;
 use crate::port_files::{name_file, told};
-use crate::run_arguments::{file_option, wrong};
-use clap::{Arg, ArgMatches, Error};
-use std::alloc::{AllocError, Global};
-
-/// The option that names the file from which a port takes its frames.
-pub(crate) fn input_option<'a>(alloc: Global) -> Result<Arg<'a>, AllocError> {
-    file_option(
-        alloc,
-        "in",
-        "A log of candump or a trace, whose frames are taken at port P, once for each port; the input is not read then",
-    )
-    .conflicts_with("interface")
-}
+use clap::{ArgMatches, Error};
+use std::alloc::Global;
 
 /// The file that is named for each of so many ports, if one is.
 pub(crate) fn asked_inputs<'a>(
@@ -29,7 +20,7 @@ pub(crate) fn asked_inputs<'a>(
     for word in run.get_strs("in").unwrap_or(&[]) {
         if let Err(fault) = name_file(word, &mut files) {
             let text = told(alloc, word, ports, fault, "one input")?;
-            return Err(wrong(alloc, &text));
+            return Err(wrong(alloc, &RUN, &text));
         }
     }
     Ok(files)

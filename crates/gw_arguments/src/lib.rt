@@ -3,9 +3,10 @@
 
 mod arguments;
 mod ask_arguments;
-mod building;
 mod diff_arguments;
 mod egress_arguments;
+mod form;
+mod forms;
 mod input_arguments;
 mod judge_arguments;
 mod port_files;

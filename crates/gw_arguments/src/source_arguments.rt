@@ -2,37 +2,19 @@
 
 ghost use Rattle.std.specs.Prelude.{◌≡◌, length};
 
-use crate::judge_arguments::judge_arguments;
+use crate::form::{Form, wrong};
 use crate::port_files::{WordFault, port_file, told};
-use crate::run_arguments::{run_arguments, wrong_in};
 use clap::Error;
 use gw_answers::{PolicyKind, PolicySource};
 use std::alloc::Global;
 
-/// The command whose usage stands behind what is wrong.
-#[derive(Clone, Copy)]
-pub(crate) enum Usage {
-    Run,
-    Judge,
-}
-
-impl Usage {
-    /// `clap`'s error with this text, and the usage of the command.
-    pub fn wrong(self, alloc: Global, text: &str) -> Error {
-        match self {
-            Usage::Run => wrong_in(run_arguments(alloc), text),
-            Usage::Judge => wrong_in(judge_arguments(alloc), text),
-        }
-    }
-}
-
-/// Names files of a kind for their ports.
+/// Names files of a kind for their ports. The usage of a command stands behind what is wrong.
 pub(crate) fn name_files<'a>(
     alloc: Global,
     words: &[&'a str],
     kind: PolicyKind,
     sources: &mut [PolicySource<'a>],
-    usage: Usage,
+    form: &Form,
 ) -> Result<(), Error>
     ensures { length sources.new ≡ length sources.old }
 {
@@ -47,7 +29,7 @@ pub(crate) fn name_files<'a>(
                     fault,
                     "one table or one listing",
                 )?;
-                return Err(usage.wrong(alloc, &text));
+                return Err(wrong(alloc, form, &text));
             }
         };
         if let Some(place) = sources.get_mut(port) {

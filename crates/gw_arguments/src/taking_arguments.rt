@@ -1,22 +1,22 @@
 //! Which port takes which frame, as the arguments of a command say it.
 
-use crate::source_arguments::Usage;
+use crate::form::{Form, wrong};
 use clap::{ArgMatches, Error};
 use gw_judge::NamedInterface;
 use std::alloc::{AllocError, Global};
 
-/// The interfaces of a log that are named for so many ports.
+/// The interfaces of a log that are named for so many ports. The usage of a command stands behind what is wrong.
 pub(crate) fn asked_interfaces<'a>(
     alloc: Global,
     found: &ArgMatches<'a>,
     ports: usize,
-    usage: Usage,
+    form: &Form,
 ) -> Result<Vec<NamedInterface<'a>>, Error> {
     let mut interfaces = Vec::new(alloc);
     for word in found.get_strs("interface").unwrap_or(&[]) {
         match named_interface(word, ports, interfaces.as_slice()) {
             Ok(named) => interfaces.push(named)?,
-            Err(fault) => return Err(usage.wrong(alloc, &told(alloc, word, ports, fault)?)),
+            Err(fault) => return Err(wrong(alloc, form, &told(alloc, word, ports, fault)?)),
         }
     }
     Ok(interfaces)

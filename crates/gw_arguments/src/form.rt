@@ -1,0 +1,175 @@
+//! Commands and their options as data, and what `clap` makes of them.
+
+use clap::error::ErrorKind;
+use clap::{Arg, ArgAction, ArgGroup, Command, Error, value_parser};
+use gw_ledger::MAX_PORTS;
+use std::alloc::{AllocError, Global};
+
+/// A command, and what its help shows.
+pub(crate) struct Form<'a> {
+    pub name: &'a str,
+    /// What it is about, how it is written, and an example.
+    pub about: &'a str,
+    pub usage: &'a str,
+    pub example: &'a str,
+    pub groups: &'a [Group<'a>],
+    pub options: &'a [Opt<'a>],
+}
+
+/// Options under one name. Of those of a group that is not `many`, one at most is given.
+pub(crate) struct Group<'a> {
+    pub name: &'a str,
+    pub members: &'a [&'a str],
+    /// Whether one at least must be given.
+    pub is_required: bool,
+    pub many: bool,
+}
+
+/// An option of a command, or a word that stands by its place.
+pub(crate) struct Opt<'a> {
+    /// The name by which it is asked for.
+    pub name: &'a str,
+    pub written: Written<'a>,
+    pub takes: Takes<'a>,
+    pub help: &'a str,
+    pub presence: Presence<'a>,
+    /// The options and groups that must be given with it.
+    pub needs: &'a [&'a str],
+    /// Those that must not.
+    pub bars: &'a [&'a str],
+}
+
+/// How an option is written.
+#[derive(Clone, Copy)]
+pub(crate) enum Written<'a> {
+    /// By its name, behind `--`.
+    ByName,
+    /// By another name.
+    As(&'a str),
+    /// By its place among the words.
+    ByPlace,
+}
+
+/// What an option takes. Help calls a value by the name that stands here.
+#[derive(Clone, Copy)]
+pub(crate) enum Takes<'a> {
+    /// No value: it is set or is not.
+    Nothing,
+    Value(&'a str),
+    /// A value each time that it is given.
+    Values(&'a str),
+    /// The number of a port.
+    Port(&'a str),
+    /// A number, the least of which stands before the greatest.
+    Number(&'a str, i64, i64),
+    /// One of these words.
+    Word(&'a str, &'a [&'a str]),
+}
+
+/// Whether an option must be given.
+#[derive(Clone, Copy)]
+pub(crate) enum Presence<'a> {
+    Optional,
+    Required,
+    /// Where another one is not.
+    RequiredWithout(&'a str),
+}
+
+/// An option that is set or is not: what another one does not say of itself.
+pub(crate) const FLAG: Opt<'static> = Opt {
+    name: "",
+    written: Written::ByName,
+    takes: Takes::Nothing,
+    help: "",
+    presence: Presence::Optional,
+    needs: &[],
+    bars: &[],
+};
+
+/// The command of a form, as `clap` reads it and shows its help.
+pub(crate) fn command<'a>(alloc: Global, form: &Form<'a>) -> Result<Command<'a>, AllocError> {
+    let bare = Command::new(alloc, form.name)
+        .about(form.about)
+        .override_usage(form.usage)
+        .after_help(form.example);
+    with_options(alloc, with_groups(alloc, bare, form.groups)?, form.options)
+}
+
+/// `clap`'s error with this text, and the usage of a command.
+pub(crate) fn wrong(alloc: Global, form: &Form, text: &str) -> Error {
+    match wrong_in(command(alloc, form), text) {
+        Ok(error) => error,
+        Err(AllocError) => Error::from(AllocError),
+    }
+}
+
+fn wrong_in(command: Result<Command, AllocError>, text: &str) -> Result<Error, AllocError> {
+    let mut command = command?;
+    command.error(ErrorKind::ValueValidation, text)
+}
+
+fn with_groups<'a>(
+    alloc: Global,
+    command: Command<'a>,
+    groups: &[Group<'a>],
+) -> Result<Command<'a>, AllocError> {
+    let mut command = command;
+    for group in groups {
+        let members = ArgGroup::new(alloc, group.name).args(group.members)?;
+        command = command.group(members.required(group.is_required).multiple(group.many))?;
+    }
+    Ok(command)
+}
+
+fn with_options<'a>(
+    alloc: Global,
+    command: Command<'a>,
+    options: &[Opt<'a>],
+) -> Result<Command<'a>, AllocError> {
+    let mut command = command;
+    for option in options {
+        command = command.arg(arg(alloc, option)?)?;
+    }
+    Ok(command)
+}
+
+/// The option, as `clap` reads it and shows its help.
+fn arg<'a>(alloc: Global, option: &Opt<'a>) -> Result<Arg<'a>, AllocError> {
+    let arg = Arg::new(alloc, option.name).help(option.help);
+    let arg = taking(named(arg, option), option.takes)
+        .requires_all(option.needs)?
+        .conflicts_with_all(option.bars)?;
+    present(arg, option.presence)
+}
+
+fn named<'a>(arg: Arg<'a>, option: &Opt<'a>) -> Arg<'a> {
+    match option.written {
+        Written::ByName => arg.long(option.name),
+        Written::As(name) => arg.long(name),
+        Written::ByPlace => arg,
+    }
+}
+
+fn taking<'a>(arg: Arg<'a>, takes: Takes<'a>) -> Arg<'a> {
+    match takes {
+        Takes::Nothing => arg.action(ArgAction::SetTrue),
+        Takes::Value(value) => arg.value_name(value),
+        Takes::Values(value) => arg.value_name(value).action(ArgAction::Append),
+        Takes::Port(value) => arg
+            .value_name(value)
+            .value_parser(value_parser!(u8).range(0..=MAX_PORTS as i64 - 1)),
+        Takes::Number(value, least, most) => {
+            arg.value_name(value)
+                .value_parser(value_parser!(u32).range(least..=most))
+        }
+        Takes::Word(value, words) => arg.value_name(value).value_parser(words),
+    }
+}
+
+fn present<'a>(arg: Arg<'a>, presence: Presence<'a>) -> Result<Arg<'a>, AllocError> {
+    match presence {
+        Presence::Optional => Ok(arg),
+        Presence::Required => Ok(arg.required(true)),
+        Presence::RequiredWithout(other) => arg.required_unless_present(other),
+    }
+}
