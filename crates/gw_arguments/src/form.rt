@@ -8,24 +8,27 @@ use std::alloc::{AllocError, Global};
 /// A command, and what its help shows.
 pub(crate) struct Form<'a> {
     pub name: &'a str,
-    /// What it is about, how it is written, and an example.
+    /// What it does.
     pub about: &'a str,
+    /// How it is written.
     pub usage: &'a str,
+    /// What stands behind its options, above all an example.
     pub example: &'a str,
     pub groups: &'a [Group<'a>],
     pub options: &'a [Opt<'a>],
 }
 
-/// Options under one name. Of those of a group that is not `many`, one at most is given.
+/// Options under one name.
 pub(crate) struct Group<'a> {
     pub name: &'a str,
     pub members: &'a [&'a str],
     /// Whether one at least must be given.
     pub is_required: bool,
-    pub many: bool,
+    /// Whether more than one may be given.
+    pub is_multiple: bool,
 }
 
-/// An option of a command, or a word that stands by its place.
+/// An option of a command, or a positional argument.
 pub(crate) struct Opt<'a> {
     /// The name by which it is asked for.
     pub name: &'a str,
@@ -36,7 +39,7 @@ pub(crate) struct Opt<'a> {
     /// The options and groups that must be given with it.
     pub needs: &'a [&'a str],
     /// Those that must not.
-    pub bars: &'a [&'a str],
+    pub conflicts: &'a [&'a str],
 }
 
 /// How an option is written.
@@ -46,7 +49,7 @@ pub(crate) enum Written<'a> {
     ByName,
     /// By another name.
     As(&'a str),
-    /// By its place among the words.
+    /// By its place among the arguments.
     ByPlace,
 }
 
@@ -62,8 +65,8 @@ pub(crate) enum Takes<'a> {
     Port(&'a str),
     /// A number, the least of which stands before the greatest.
     Number(&'a str, i64, i64),
-    /// One of these words.
-    Word(&'a str, &'a [&'a str]),
+    /// One of these values.
+    OneOf(&'a str, &'a [&'a str]),
 }
 
 /// Whether an option must be given.
@@ -75,7 +78,7 @@ pub(crate) enum Presence<'a> {
     RequiredWithout(&'a str),
 }
 
-/// An option that is set or is not: what another one does not say of itself.
+/// An option that is set or is not. Other options take from it what they do not say of themselves.
 pub(crate) const FLAG: Opt<'static> = Opt {
     name: "",
     written: Written::ByName,
@@ -83,7 +86,7 @@ pub(crate) const FLAG: Opt<'static> = Opt {
     help: "",
     presence: Presence::Optional,
     needs: &[],
-    bars: &[],
+    conflicts: &[],
 };
 
 /// The command of a form, as `clap` reads it and shows its help.
@@ -116,7 +119,11 @@ fn with_groups<'a>(
     let mut command = command;
     for group in groups {
         let members = ArgGroup::new(alloc, group.name).args(group.members)?;
-        command = command.group(members.required(group.is_required).multiple(group.many))?;
+        command = command.group(
+            members
+                .required(group.is_required)
+                .multiple(group.is_multiple),
+        )?;
     }
     Ok(command)
 }
@@ -138,7 +145,7 @@ fn arg<'a>(alloc: Global, option: &Opt<'a>) -> Result<Arg<'a>, AllocError> {
     let arg = Arg::new(alloc, option.name).help(option.help);
     let arg = taking(named(arg, option), option.takes)
         .requires_all(option.needs)?
-        .conflicts_with_all(option.bars)?;
+        .conflicts_with_all(option.conflicts)?;
     present(arg, option.presence)
 }
 
@@ -162,7 +169,7 @@ fn taking<'a>(arg: Arg<'a>, takes: Takes<'a>) -> Arg<'a> {
             arg.value_name(value)
                 .value_parser(value_parser!(u32).range(least..=most))
         }
-        Takes::Word(value, words) => arg.value_name(value).value_parser(words),
+        Takes::OneOf(value, values) => arg.value_name(value).value_parser(values),
     }
 }
 

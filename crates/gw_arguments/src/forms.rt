@@ -59,7 +59,7 @@ pub(crate) static VERDICT: Form<'static> = Form {
         name: "said",
         members: &["record", "can"],
         is_required: false,
-        many: false,
+        is_multiple: false,
     }],
     options: &[
         PORT,
@@ -147,7 +147,7 @@ pub(crate) static TABLE: Form<'static> = Form {
         name: "said",
         members: &["frame", "can"],
         is_required: false,
-        many: false,
+        is_multiple: false,
     }],
     options: &[
         FILE,
@@ -162,7 +162,7 @@ pub(crate) static TABLE: Form<'static> = Form {
         Opt {
             name: "show",
             help: "Tells in words what each rule says, in place of the program's listing",
-            bars: &["said"],
+            conflicts: &["said"],
             ..FLAG
         },
         Opt {
@@ -250,7 +250,7 @@ pub(crate) static DIFF: Form<'static> = Form {
         },
         Opt {
             help: "The number of ports of a gateway, 2 to 16, whose tables --old and --new name",
-            bars: &["old-file", "log"],
+            conflicts: &["old-file", "log"],
             ..PORTS
         },
         Opt {
@@ -282,13 +282,13 @@ pub(crate) static JUDGE: Form<'static> = Form {
             name: "policy",
             members: &["table", "listing"],
             is_required: true,
-            many: true,
+            is_multiple: true,
         },
         Group {
             name: "shown",
             members: &["passed", "blocked", "each"],
             is_required: false,
-            many: false,
+            is_multiple: false,
         },
     ],
     options: &[
@@ -306,15 +306,15 @@ pub(crate) static JUDGE: Form<'static> = Form {
         },
         Opt {
             name: "by",
-            takes: Takes::Word("WHAT", &["rule", "pgn", "source"]),
+            takes: Takes::OneOf("WHAT", &["rule", "pgn", "source"]),
             help: "Counts frames by rule, by pgn or by source: which groups and which senders pass [default: rule]",
-            bars: &["shown"],
+            conflicts: &["shown"],
             ..FLAG
         },
         Opt {
             name: "json",
             help: "Writes the counts as one JSON object; --passed, --blocked and --each write lines in place of counts",
-            bars: &["shown"],
+            conflicts: &["shown"],
             ..FLAG
         },
         Opt {
@@ -344,7 +344,7 @@ pub(crate) static JUDGE: Form<'static> = Form {
             help: "Writes each frame once for each interface at which it leaves, in the log's order; the policies are --table \
             P=FILE and --listing P=FILE, once for each port, and a port without one lets nothing leave",
             needs: &["interface"],
-            bars: &["shown", "by", "json", "port", "strict"],
+            conflicts: &["shown", "by", "json", "port", "strict"],
             ..FLAG
         },
         Opt {
@@ -404,7 +404,7 @@ pub(crate) static RUN: Form<'static> = Form {
             name: "in",
             takes: Takes::Values("P=FILE"),
             help: "A log of candump or a trace, whose frames are taken at port P, once for each port; the input is not read then",
-            bars: &["interface"],
+            conflicts: &["interface"],
             ..FLAG
         },
         Opt {
@@ -427,7 +427,7 @@ pub(crate) static RUN: Form<'static> = Form {
         Opt {
             name: "json",
             help: "Tells the ports, the policies and the lanes as one JSON object, in place of lines",
-            bars: &["policies", "lanes"],
+            conflicts: &["policies", "lanes"],
             ..FLAG
         },
         Opt {
