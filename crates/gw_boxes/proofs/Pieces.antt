@@ -135,11 +135,12 @@ or_either : (x y : Bool) → (x || y) ≡ true → (z : Bool) → (x ≡ true �
 or_either true y is z one two = one refl
 or_either false y is z one two = two is
 
-or_assoc : (a b c : Bool) → (a || b) || c ≡ a || (b || c)
+-- `||` of three, and of one that does not hold
+pub or_assoc : (a b c : Bool) → (a || b) || c ≡ a || (b || c)
 or_assoc true b c = refl
 or_assoc false b c = refl
 
-or_false : (a : Bool) → a ≡ (a || false)
+pub or_false : (a : Bool) → a ≡ (a || false)
 or_false true = refl
 or_false false = refl
 

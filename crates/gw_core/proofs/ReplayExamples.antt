@@ -4,6 +4,7 @@ use Rattle.std.proofs.Common.{sym, ap}
 use Rattle.gw_insn.specs.declared.insn.Insn.TheVariants.{ReturnConstant}
 use Rattle.gw_machine.specs.Answers.{answer_of, answer_within, steps_of}
 use Rattle.gw_policy.specs.Batches.{Pair}
+use Rattle.gw_policy.proofs.Callers.{engine_speed}
 use Rattle.gw_core.specs.Start.{Start, begun, fresh}
 use Rattle.gw_ledger.specs.Ports.{ports_below}
 use Rattle.gw_core.specs.PortHistory.{ingress_of, taking, need, instruction, placing, work_left, steps_since}
@@ -29,10 +30,7 @@ are_replies start history [] = refl
 are_replies start history (e ∷ events) =
     ap (λ (rest : List (Result Answer EventRefusal)). reply start history e ∷ rest) (are_replies start (e ∷ history) events)
 
--- EEC1 of an engine; the NAME 5 claims the address 128; proprietary A from 52 to 128
-abbrev engine_speed : List ℕ
-engine_speed = 0x8C ∷ 0xF0 ∷ 0x04 ∷ 0x00 ∷ 8 ∷ 0 ∷ 0 ∷ 0 ∷ replicate 8 255
-
+-- the NAME 5 claims the address 128; proprietary A from 52 to 128
 abbrev claim : List ℕ
 claim = 0x98 ∷ 0xEE ∷ 0xFF ∷ 0x80 ∷ 8 ∷ 0 ∷ 0 ∷ 0 ∷ 5 ∷ 0 ∷ 0 ∷ 0 ∷ 0 ∷ 0 ∷ 0 ∷ 0 ∷ []
 

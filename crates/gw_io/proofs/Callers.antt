@@ -7,7 +7,7 @@ use Rattle.std.proofs.Common.{sym, ap, ◌∙◌, subst, refl, true≢false}
 use Rattle.std.proofs.lemmas.Bool.{false≢true}
 use Rattle.std.proofs.Common.{append_assoc, arith}
 use Rattle.std.specs.Io.KnownBytes.{Appends, Consumes, IsAtEnd, Keeps}
-use Rattle.std.proofs.Math.Seq.{take-length}
+use Rattle.std.proofs.Math.Seq.{take-append-add, take-length}
 use Rattle.std.proofs.lemmas.List.{take_all}
 use Rattle.gw_io.specs.Pieces.{IsNextPiece, GivesAtLeast}
 use Rattle.gw_io.specs.Tries.{has_ended, reads_of, unended_reads}
@@ -98,6 +98,14 @@ appended_on (Some p) (Some q) (Some r) xs ys h k = k ∙ ap (λ zs. zs ++ ys) h 
 -- a text that was written whole
 pub whole_part : (a b : Option (List ℕ)) (text : List ℕ) → Appends a b text → WritesPart a b text
 whole_part a b text h = (length text, subst (Appends a b) (sym (take-length text)) h)
+
+-- a part of what follows a text, and of a text with more behind it
+pub part_behind : (a b c : Option (List ℕ)) (text more : List ℕ) → Appends a b text → WritesPart b c more
+    → WritesPart a c (text ++ more)
+part_behind a b c text more h part = (
+  length text + part.0,
+  subst (Appends a c) (sym (take-append-add text more part.0)) (appended_on a b c text (take part.0 more) h part.1),
+)
 
 -- what stands behind a place, as a slice from there on gives it
 pub rest_from : (at : ℕ) (xs : List ℕ) → take (length xs - at) (drop at xs) ≡ drop at xs

@@ -4,7 +4,7 @@ use Rattle.std.proofs.Common.{Option, Result, Ok, Err, sym, ◌∙◌, subst, ap
 use Rattle.std.specs.Prelude.{IfErr, OnOk}
 use Rattle.std.specs.Io.KnownBytes.{Appends, Consumes, Keeps, IsAtEnd}
 use Rattle.gw_io.specs.Written.{WritesPart}
-use Rattle.gw_io.proofs.Callers.{consumed_kept, appended_on, whole_part}
+use Rattle.gw_io.proofs.Callers.{consumed_kept, appended_on, part_behind, whole_part}
 use Rattle.gw_policy.specs.Batches.{Pair}
 use Rattle.gw_judge.specs.declared.interfaces.NamedInterface.{NamedInterface}
 use Rattle.gw_judge.specs.declared.egress.Egress.{Egress}
@@ -13,7 +13,7 @@ use Rattle.gw_judge.specs.declared.fault.JudgeFault.TheVariants.{ReadFault, Writ
 use Rattle.gw_judge.specs.LineParts.{Ahead, IsNextPart}
 use Rattle.gw_judge.specs.Egress.{log_egress, WritesEgress, WritesPartOfEgress}
 use Rattle.gw_judge.specs.EgressUnderWay.{HasEgress, HearPorts, FailsEgress, ReachesEgress, EndsEgress, IsEgressUnderWay}
-use Rattle.gw_judge.proofs.Gathering.{appended_nothing, part_behind, front_part}
+use Rattle.gw_judge.proofs.Gathering.{appended_nothing, front_part}
 use Rattle.gw_judge.proofs.Streams.{given_more, all_read}
 use Rattle.gw_judge.proofs.EgressParts.{begins_egress, nothing_taken}
 

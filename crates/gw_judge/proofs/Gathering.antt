@@ -2,11 +2,10 @@
 use Rattle.std.proofs.Common.{◌≡◌, ℕ, ◌+◌, Bool, false, List, [], ◌++◌, length, take, Option, Some, None}
 use Rattle.std.proofs.Common.{Result, Ok, Err, refl, sym, ap, ◌∙◌, subst, append_assoc, append-nil, arith, inl, inr}
 use Rattle.std.specs.Io.KnownBytes.{Appends}
-use Rattle.std.proofs.Math.Seq.{take-append-add}
 use Rattle.std.proofs.lemmas.Bool.{cases_lt}
 use Rattle.std.proofs.lemmas.List.{take_all, take_at, take-append-le}
 use Rattle.gw_io.specs.Written.{WritesPart}
-use Rattle.gw_io.proofs.Callers.{appended_on}
+use Rattle.gw_io.proofs.Callers.{appended_on, part_behind}
 use Rattle.gw_judge.specs.declared.fault.JudgeFault.{JudgeFault}
 use Rattle.gw_judge.specs.declared.fault.JudgeFault.TheVariants.{ReadFault, WriteFault, Refused}
 use Rattle.gw_judge.specs.UnderWay.{Puts}
@@ -15,14 +14,6 @@ use Rattle.gw_judge.specs.UnderWay.{Puts}
 pub appended_nothing : (a : Option (List ℕ)) → Appends a a []
 appended_nothing None = tt
 appended_nothing (Some xs) = sym (append-nil xs)
-
--- a part of what follows a text, and of a text with more behind it
-pub part_behind : (a b c : Option (List ℕ)) (text more : List ℕ) → Appends a b text → WritesPart b c more
-    → WritesPart a c (text ++ more)
-part_behind a b c text more h part = (
-  length text + part.0,
-  subst (Appends a c) (sym (take-append-add text more part.0)) (appended_on a b c text (take part.0 more) h part.1),
-)
 
 pub front_part : (a b : Option (List ℕ)) (text tail : List ℕ) → WritesPart a b text → WritesPart a b (text ++ tail)
 front_part a b text tail part =

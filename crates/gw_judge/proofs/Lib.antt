@@ -1,3 +1,4 @@
+pub mod Callers
 pub mod Gathering
 pub mod PutInOrder
 pub mod PortsInOrder

@@ -16,7 +16,8 @@ use Rattle.gw_judge.specs.Fates.{fate_of, said_fate}
 use Rattle.gw_judge.specs.Judged.{with_ends, last_line, log_lines, line_text, written_of}
 use Rattle.gw_judge.specs.LineParts.{IsEndless, IsLinePart, ends_line}
 
-ended_more : (line : List ℕ) (parts : List (List ℕ)) → 0 < length parts
+-- a line in front of others has a line feed
+pub ended_more : (line : List ℕ) (parts : List (List ℕ)) → 0 < length parts
     → with_ends (line ∷ parts) ≡ (line ++ 10 ∷ []) ∷ with_ends parts
 ended_more line [] some = absurd (omega arith)
 ended_more line (next ∷ more) some = refl

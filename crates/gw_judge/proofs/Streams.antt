@@ -5,7 +5,7 @@ use Rattle.std.proofs.Common.{length-append}
 use Rattle.std.specs.Prelude.{IfOk, IfErr}
 use Rattle.std.specs.Io.KnownBytes.{Appends, Consumes, Keeps, IsAtEnd}
 use Rattle.gw_io.specs.Written.{WritesPart}
-use Rattle.gw_io.proofs.Callers.{consumed_more, consumed_kept, appended_on, whole_part}
+use Rattle.gw_io.proofs.Callers.{consumed_more, consumed_kept, appended_on, part_behind, whole_part}
 use Rattle.gw_judge.specs.declared.fate.Fate.{Fate}
 use Rattle.gw_judge.specs.declared.tally.Tally.{Tally}
 use Rattle.gw_judge.specs.declared.judging.Judging.{Judging}
@@ -16,7 +16,7 @@ use Rattle.gw_judge.specs.Counting.{no_tally}
 use Rattle.gw_judge.specs.Judged.{log_lines, written_of, IsJudged, IsPartlyJudged}
 use Rattle.gw_judge.specs.LineParts.{Ahead, IsNextPart, GivesPart}
 use Rattle.gw_judge.specs.UnderWay.{Puts, HasJudged, Fails, Reaches, Closes, Ends, IsUnderWay}
-use Rattle.gw_judge.proofs.Gathering.{appended_nothing, part_behind, front_part}
+use Rattle.gw_judge.proofs.Gathering.{appended_nothing, front_part}
 use Rattle.gw_judge.proofs.Lines.{written_more}
 use Rattle.gw_judge.proofs.JudgedLines.{held_more}
 use Rattle.gw_judge.proofs.PartByPart.{begins, judged_nothing}

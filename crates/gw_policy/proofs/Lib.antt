@@ -1,6 +1,7 @@
+pub mod Callers
 mod EgressPorts
 mod Judged
 mod PairLists
-mod PolicyExamples
-mod PolicySets
+pub mod PolicyExamples
+pub mod PolicySets
 mod Programs

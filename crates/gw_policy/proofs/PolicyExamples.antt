@@ -9,14 +9,14 @@ use Rattle.gw_policy.specs.Filter.{Filter, filter_passes, filter_steps}
 use Rattle.gw_policy.specs.Batches.{Pair, in_force, passes, steps}
 
 -- EEC1 of an engine, and a frame with a standard identifier
-abbrev engine_speed : List ℕ
+abbrev pub engine_speed : List ℕ
 engine_speed = 0x8C ∷ 0xF0 ∷ 0x04 ∷ 0x00 ∷ 8 ∷ 0 ∷ 0 ∷ 0 ∷ replicate 8 255
 
 abbrev standard : List ℕ
 standard = 0x00 ∷ 0x00 ∷ 0x01 ∷ 0x23 ∷ 8 ∷ 0 ∷ 0 ∷ 0 ∷ replicate 8 0
 
 -- the program `ret #answer`
-abbrev returning : ℕ → Filter
+abbrev pub returning : ℕ → Filter
 returning answer = record { code = ReturnConstant answer ∷ []; table = None }
 
 abbrev pair : ℕ → ℕ → Pair

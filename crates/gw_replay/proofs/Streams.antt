@@ -1,9 +1,8 @@
 -- What was read and written, piece after piece.
-use Rattle.std.proofs.Common.{◌≡◌, ℕ, ◌+◌, ◌≤◌, ◌⊎◌, Bool, true, false, List, [], ◌∷◌, ◌++◌, length, take, Option}
+use Rattle.std.proofs.Common.{◌≡◌, ℕ, ◌+◌, ◌≤◌, ◌⊎◌, Bool, true, false, List, [], ◌∷◌, ◌++◌, length, Option}
 use Rattle.std.proofs.Common.{Result, Ok, Err, refl, sym, ap, ◌∙◌, subst, append-nil, true≢false, arith}
 use Rattle.std.specs.Prelude.{is_err, OnOk, IfErr}
 use Rattle.std.specs.Io.KnownBytes.{Appends, Consumes, Keeps, IsAtEnd}
-use Rattle.std.proofs.Math.Seq.{take-append-add}
 use Rattle.gw_replay.specs.declared.script_reader.ScriptReader.{ScriptReader}
 use Rattle.gw_replay.specs.declared.whole.ReplayFault.{ReplayFault}
 use Rattle.gw_replay.specs.declared.whole.ReplayFault.TheVariants.{ReadFault, WriteFault, OutOfMemory}
@@ -13,16 +12,8 @@ use Rattle.gw_io.specs.Written.{WritesPart}
 use Rattle.gw_replay.specs.Written.{IsReplayed, IsPartlyRead, IsPartlyReplayed, IsBrokenOff, IsCutOff, IsHalted, IsReplayFault}
 use Rattle.gw_replay.specs.Written.{HasReplayed}
 use Rattle.gw_replay.specs.Reached.{HasReached, HasFed, EndsWith, IsEndFault, IsUnderWay}
-use Rattle.gw_io.proofs.Callers.{consumed_more, consumed_kept, met_piece, met_end, appended_on, whole_part}
+use Rattle.gw_io.proofs.Callers.{consumed_more, consumed_kept, met_piece, met_end, appended_on, part_behind, whole_part}
 use Rattle.gw_replay.proofs.Reaching.{begins, ended_of, reached_same}
-
--- a part of what follows a text
-part_behind : (a b c : Option (List ℕ)) (text more : List ℕ) → Appends a b text → WritesPart b c more
-    → WritesPart a c (text ++ more)
-part_behind a b c text more h part = (
-  length text + part.0,
-  subst (Appends a c) (sym (take-append-add text more part.0)) (appended_on a b c text (take part.0 more) h part.1),
-)
 
 -- what a feed wants
 reached_on : {a b w x : Option (List ℕ)} {p : ScriptReader} → (h : IsUnderWay a b w x p)

@@ -1,17 +1,16 @@
 -- The batch with which a run begins, one source after another.
-use Rattle.std.proofs.Common.{◌≡◌, ◌∙◌, ℕ, ◌+◌, ◌<◌, ◌≤◌, ◌==◌, Bool, true, false, cond, List, [], ◌∷◌, ◌++◌, length, get_or}
+use Rattle.std.proofs.Common.{◌≡◌, ◌∙◌, ℕ, ◌+◌, ◌<◌, ◌≤◌, ◌==◌, true, false, List, [], ◌∷◌, ◌++◌, length, get_or}
 use Rattle.std.proofs.Common.{ap, sym, subst, refl, arith, map, Vec, Global}
 use Rattle.std.proofs.Common.{zero, suc, Option, Some, None, if◌then◌else◌, length-append, ⊎_elim}
-use Rattle.std.specs.Prelude.{reverse}
-use Rattle.std.specs.List.{All, find}
-use Rattle.std.specs.Option.{option_map_or}
-use Rattle.std.proofs.lemmas.List.{get_or_default, get_or-map, reverse-append}
+use Rattle.std.specs.List.{All}
+use Rattle.std.proofs.lemmas.List.{get_or_default, get_or-map}
 use Rattle.std.proofs.lemmas.Bool.{cases_eq, false≢true}
 use Rattle.std.proofs.lemmas.Bool.Decides.{nat_tests}
 use Rattle.std.proofs.lemmas.List.Elements.{All-append}
 use Rattle.std.proofs.lemmas.List.Folds.{list_any_none}
 use Rattle.gw_policy.specs.Filter.{Filter}
 use Rattle.gw_policy.specs.Batches.{Pair, names, names_port, policy_after}
+use Rattle.gw_policy.proofs.Callers.{policy_after-more}
 use Rattle.gw_answers.specs.declared.policies.PolicySource.{PolicySource}
 use Rattle.gw_answers.specs.declared.policies.PolicySource.TheVariants.{Opening}
 use Rattle.gw_answers.specs.declared.refusal.Refusal.{Refusal}
@@ -20,19 +19,6 @@ use Rattle.gw_policy.specs.declared.batch.BatchRefusal.{BatchRefusal}
 use Rattle.gw_policy.specs.declared.batch.BatchRefusal.TheVariants.{SamePortTwice, Full}
 use Rattle.gw_answers.specs.Policies.{MeansPolicy, RefusesSource}
 use Rattle.gw_run.specs.Forwarding.{MeansAt, RefusesSources, joined}
-
--- the last pair decides where it names the port
-found : (here : Bool) (pair : Pair) (later : Option Pair) (before : Option Filter)
-    → option_map_or (λ p. Some p.policy) (cond here (Some pair) later) before
-    ≡ (if here then Some pair.policy else option_map_or (λ p. Some p.policy) later before)
-found true pair later before = refl
-found false pair later before = refl
-
-policy_after-more : (port : ℕ) (pairs : List Pair) (pair : Pair) (before : Option Filter)
-    → policy_after port (pairs ++ pair ∷ []) before
-    ≡ (if pair.port == port then Some pair.policy else policy_after port pairs before)
-policy_after-more port pairs pair before =
-    rw reverse-append (found (pair.port == port) pair (find (names port) (reverse pairs)) before)
 
 -- what the files hold
 abbrev pub octets_of : List (Vec ℕ Global) → List (List ℕ)

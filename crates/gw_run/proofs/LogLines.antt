@@ -13,12 +13,8 @@ use Rattle.gw_log.specs.LogLines.{line_of}
 use Rattle.gw_input.specs.Lines.{is_line_feed}
 use Rattle.gw_judge.specs.Judged.{log_lines, with_ends}
 use Rattle.gw_judge.specs.Interfaces.{taken}
+use Rattle.gw_judge.proofs.Callers.{ended_more}
 use Rattle.gw_run.specs.Logs.{taken_at}
-
-ended_more : (line : List ℕ) (parts : List (List ℕ)) → 0 < length parts
-    → with_ends (line ∷ parts) ≡ (line ++ 10 ∷ []) ∷ with_ends parts
-ended_more line [] some = absurd (omega arith)
-ended_more line (next ∷ more) some = refl
 
 -- the first line of a log ends at its first line feed
 pub line_ended : (log : List ℕ) → position_or_len is_line_feed log < length log

@@ -9,6 +9,7 @@ use Rattle.std.specs.Option.{option_map_or}
 use Rattle.gw_boxes.specs.declared.boxes.Block.{Block}
 use Rattle.gw_boxes.specs.declared.boxes.Point.{Point}
 use Rattle.gw_boxes.specs.Boxes.{holds, IsFree, HasNoFree}
+use Rattle.gw_boxes.proofs.Callers.{or_assoc, or_false}
 use Rattle.gw_table.specs.declared.table.Rule.{Rule}
 use Rattle.gw_table.specs.declared.universe.Universe.{Universe}
 use Rattle.gw_table.specs.Universes.{whole, block_of, lies_in_rule, holds_if_there, IsDecidedAt}
@@ -30,14 +31,6 @@ pub not_there : (u : Universe) (rules : List Rule) (index : ℕ) → slice_get r
 not_there u rules index none all is p = rw none (ap (holds p) is ∙ and_true (holds p (whole u)))
 
 -- one rule more: a box without a point of the part changes nothing for a point of the part
-
-or_assoc : (a b c : Bool) → (a || b) || c ≡ a || (b || c)
-or_assoc true b c = refl
-or_assoc false b c = refl
-
-or_false : (a : Bool) → a ≡ (a || false)
-or_false true = refl
-or_false false = refl
 
 module _ (u : Universe) (p : Point) (rules : List Rule) (i : ℕ) (d : Rule) (below : i < length rules)
     (start now : List Block) where
