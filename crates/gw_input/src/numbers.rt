@@ -1,12 +1,12 @@
 //! Numbers in decimal digits.
 
-ghost use Rattle.std.specs.Prelude.{◌≡◌, ◌≤◌, ◌↔◌, option_map, IfSome, IsTrue, length, All};
+ghost use Rattle.std.specs.Prelude.{◌≡◌, ◌≤◌, ◌↔◌, option_map, IfSome, IsTrue, All};
 ghost use Rattle.std.specs.Char.{IsAsciiDigit, is_ascii_digit};
 ghost use Rattle.std.specs.List.{list_all};
-ghost use Rattle.gw_insn.specs.Listing.{decimal};
 ghost use Rattle.gw_input.specs.Words.{number_in, number_before};
 
 use crate::lines::first_word;
+use gw_insn::decimal_value;
 
 /// Reads a word of 1 to 10 decimal digits as a number, if that is at most `most`.
 #[tactic(auto, using(crate::proofs::DecimalValues::number_there))]
@@ -30,20 +30,6 @@ fn are_digits(word: &[u8]) -> bool
     ensures all { IsTrue result ↔ All IsAsciiDigit word.now }
 {
     word.iter().all(|c| c.is_ascii_digit())
-}
-
-/// The number that at most ten digits spell.
-#[tactic(auto, using(gw_insn::proofs::Callers::decimal_small))]
-fn decimal_value(digits: &[u8]) -> u64
-    requires few { length digits.now ≤ 10 }
-    requires ascii { All IsAsciiDigit digits.now }
-    ensures { result ≡ decimal digits.now }
-{
-    let mut n = 0;
-    for digit in digits {
-        n = 10 * n + u64::from(digit - b'0');
-    }
-    n
 }
 
 /// Reads a word as the number of a port, at most 255.

@@ -12,5 +12,5 @@ pub use bounds::{
 };
 pub use code::{decode, encode};
 pub use insn::{Insn, Raw};
-pub use reading::{ListRefusal, read_listing};
+pub use reading::{ListRefusal, decimal_value, read_listing};
 pub use writing::write_listing;

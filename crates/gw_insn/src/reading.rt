@@ -203,9 +203,9 @@ fn digits_len(text: &[u8]) -> usize
         .count()
 }
 
-/// The number that at most ten digits spell.
+/// The number that at most ten ASCII digits spell: 0 where there are none.
 #[tactic(auto, using(crate::proofs::Numbers::decimal_small))]
-fn decimal_value(digits: &[u8]) -> u64
+pub fn decimal_value(digits: &[u8]) -> u64
     requires few { length digits.now ≤ 10 }
     requires ascii { All IsAsciiDigit digits.now }
     ensures { result ≡ decimal digits.now }
