@@ -11,7 +11,7 @@ use crate::can::{CanFrame, frame_of};
 use crate::handle::Handle;
 use crate::inner::Inner;
 use gw_core::Core;
-use gw_ledger::{Outcome, PortSet};
+use gw_ledger::{MAX_PORTS, Outcome, PortSet};
 use std::alloc::Global;
 
 /// `struct jgw_outcome`: what became of a frame. Bit p of a mask is port p.
@@ -96,7 +96,7 @@ fn mask_of(ports: PortSet) -> u32
     // The set's ports are below 16.
     let _count = ports.len();
     let mut mask = 0;
-    for port in 0..16_u8 {
+    for port in 0..MAX_PORTS as u8 {
         mask += bit_of(ports.has(port), port);
     }
     mask

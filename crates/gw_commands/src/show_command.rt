@@ -25,6 +25,7 @@ use crate::log_counts::{action_word, push_name};
 use crate::notes::note_dead_rules;
 use crate::stated::StatedTable;
 use gw_answers::{Answer, Refusal};
+use gw_ident::LEAST_PDU2;
 use gw_io::Tried;
 use gw_table::{Action, Rule, Span};
 use std::alloc::{AllocError, Global};
@@ -203,7 +204,7 @@ fn group_count(range: Span) -> u64
 fn is_group(number: u64) -> bool
     ensures { result ≡ is_group number }
 {
-    number / 256 % 256 >= 240 || number % 256 == 0
+    number / 256 % 256 >= u64::from(LEAST_PDU2) || number % 256 == 0
 }
 
 /// The name of a well-known parameter group.

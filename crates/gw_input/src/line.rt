@@ -8,7 +8,7 @@ ghost use Rattle.gw_input.specs.RuleLines.{line_words, rule_name};
 use crate::rule_places::line_of_rule;
 use arrayvec::ArrayVec;
 use gw_frame::Frame;
-use gw_ledger::PortSet;
+use gw_ledger::{MAX_PORTS, PortSet};
 use itoa::Buffer;
 use std::marker::Model;
 
@@ -100,7 +100,7 @@ impl Line {
         }
         let mut line = self;
         let mut some = false;
-        for port in 0..16u8 {
+        for port in 0..MAX_PORTS as u8 {
             if ports.has(port) {
                 line = line.member(some, port);
                 some = true;
