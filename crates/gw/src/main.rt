@@ -10,26 +10,26 @@ use std::{env, io};
 
 fn main(rt: HostRuntime) -> ExitCode {
     let mut faults = Tried::new(rt.stderr());
-    let arguments = match env::args(&rt) {
-        Ok(arguments) => arguments,
+    let line = match env::args(&rt) {
+        Ok(line) => line,
         Err(why) => {
             let _ = writeln!(faults, "gw: {}", told(&why));
             return ExitCode::from(2);
         }
     };
-    let words: Result<Vec<String>, AllocError> = arguments.skip(1).collect(rt.alloc());
-    let Ok(words) = words else {
+    let arguments: Result<Vec<String>, AllocError> = line.skip(1).collect(rt.alloc());
+    let Ok(arguments) = arguments else {
         let _ = writeln!(faults, "gw: memory was refused");
         return ExitCode::from(2);
     };
     let mut input = Tried::new(rt.stdin());
     let mut output = Tried::new(rt.stdout());
     let alloc = rt.alloc();
-    let status = match words.first() {
+    let status = match arguments.first() {
         Some(first) if first.as_str() == "run" => run_command(
             &rt,
             alloc,
-            &words,
+            &arguments,
             &mut input,
             &mut output,
             &mut faults,
@@ -37,15 +37,15 @@ fn main(rt: HostRuntime) -> ExitCode {
         Some(first) if first.as_str() == "judge" => judge_command(
             &rt,
             alloc,
-            &words,
+            &arguments,
             &mut input,
             &mut output,
             &mut faults,
         ),
         Some(first) if first.as_str() == "diff" => {
-            diff_command(&rt, alloc, &words, &mut input, &mut output, &mut faults)
+            diff_command(&rt, alloc, &arguments, &mut input, &mut output, &mut faults)
         }
-        _ => command(&rt, alloc, &words, &mut input, &mut output, &mut faults),
+        _ => command(&rt, alloc, &arguments, &mut input, &mut output, &mut faults),
     };
     tell_error("stdin", input.error(), &mut faults);
     tell_error("stdout", output.error(), &mut faults);

@@ -56,14 +56,17 @@ fn program<'a>(alloc: Global) -> Result<Command<'a>, AllocError> {
 }
 
 /// What `clap` finds in the arguments, or its answer to them: help, or what is wrong.
-pub fn matched<'a, S: AsStr>(alloc: Global, words: &'a [S]) -> Result<ArgMatches<'a>, Error> {
-    program(alloc)?.try_get_matches_from(words)
+pub fn matched<'a, S: AsStr>(alloc: Global, arguments: &'a [S]) -> Result<ArgMatches<'a>, Error> {
+    program(alloc)?.try_get_matches_from(arguments)
 }
 
 /// What the arguments ask for, or `clap`'s answer to them. Arguments that name `run`, `judge` or `diff`, but not first, are
 /// wrong.
-pub fn read_arguments<'a, S: AsStr>(alloc: Global, words: &'a [S]) -> Result<Request<'a>, Error> {
-    let matches = matched(alloc, words)?;
+pub fn read_arguments<'a, S: AsStr>(
+    alloc: Global,
+    arguments: &'a [S],
+) -> Result<Request<'a>, Error> {
+    let matches = matched(alloc, arguments)?;
     match matches.subcommand() {
         Some((name, found)) => asked(alloc, name, found),
         None => Ok(Request::Query(Query::Check)),
@@ -76,9 +79,9 @@ fn asked<'a>(alloc: Global, name: &str, found: &ArgMatches<'a>) -> Result<Reques
         "replay" => Ok(Request::Replay {
             strict: found.get_flag("strict"),
         }),
-        "run" => Err(wrong(alloc, &RUN, "`run` must be the first word")),
-        "judge" => Err(wrong(alloc, &RUN, "`judge` must be the first word")),
-        "diff" => Err(wrong(alloc, &RUN, "`diff` must be the first word")),
+        "run" => Err(wrong(alloc, &RUN, "`run` must be the first argument")),
+        "judge" => Err(wrong(alloc, &RUN, "`judge` must be the first argument")),
+        "diff" => Err(wrong(alloc, &RUN, "`diff` must be the first argument")),
         "claims" if found.get_flag("log") => Ok(claims_log(found)),
         "ask" => {
             let question = asked_question(alloc, found)?;
@@ -126,7 +129,7 @@ fn named_query<'a>(name: &str, found: &ArgMatches<'a>) -> Query<'a> {
     }
 }
 
-/// The word that says a frame: the argument of this name, or candump's form.
+/// The value that says a frame: the argument of this name, or candump's form.
 fn said_frame<'a>(found: &ArgMatches<'a>, record: &str) -> Option<FrameWord<'a>> {
     match (found.get_str(record), found.get_str("can")) {
         (Some(text), _) => Some(FrameWord::Record(text)),

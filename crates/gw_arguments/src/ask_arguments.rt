@@ -36,19 +36,19 @@ fn asked_span(
     option: &str,
     greatest: u32,
 ) -> Result<Option<Span>, Error> {
-    let Some(word) = found.get_str(option) else {
+    let Some(value) = found.get_str(option) else {
         return Ok(None);
     };
-    match named_span(word, greatest) {
+    match named_span(value, greatest) {
         Ok(span) => Ok(Some(span)),
         Err(fault) => {
-            let text = told(alloc, option, word, greatest, fault)?;
+            let text = told(alloc, option, value, greatest, fault)?;
             Err(wrong(alloc, &ASK, &text))
         }
     }
 }
 
-/// Why a word names no range.
+/// Why a value names no range.
 #[derive(Clone, Copy)]
 enum SpanFault {
     NoNumber,
@@ -58,13 +58,13 @@ enum SpanFault {
     Descending(Span),
 }
 
-/// The range that a word names: a number, or the least and the greatest with `-` between them.
-fn named_span(word: &str, greatest: u32) -> Result<Span, SpanFault>
+/// The range that a value names: a number, or the least and the greatest with `-` between them.
+fn named_span(value: &str, greatest: u32) -> Result<Span, SpanFault>
     ensures { IfOk result (Fits greatest) }
 {
-    let (low, high) = match word.split_once('-') {
+    let (low, high) = match value.split_once('-') {
         Some((low, high)) => (number(low), number(high)),
-        None => (number(word), number(word)),
+        None => (number(value), number(value)),
     };
     let (Some(low), Some(high)) = (low, high) else {
         return Err(SpanFault::NoNumber);
@@ -78,13 +78,13 @@ fn named_span(word: &str, greatest: u32) -> Result<Span, SpanFault>
     }
 }
 
-/// The number that a word is, as tables write them: decimal, or hexadecimal behind `0x`, octal behind `0o`, binary behind `0b`.
-fn number(word: &str) -> Option<u32> {
-    let (base, digits) = match word.split_at_checked(2) {
+/// The number that a value is, as tables write them: decimal, or hexadecimal behind `0x`, octal behind `0o`, binary behind `0b`.
+fn number(value: &str) -> Option<u32> {
+    let (base, digits) = match value.split_at_checked(2) {
         Some(("0x", digits)) => (16, digits),
         Some(("0o", digits)) => (8, digits),
         Some(("0b", digits)) => (2, digits),
-        _ => (10, word),
+        _ => (10, value),
     };
     digits_value(digits, base)
 }
@@ -107,24 +107,24 @@ fn digits_value(digits: &str, base: u32) -> Option<u32>
     is_behind_digit.then_some(value)
 }
 
-/// What is told of a word that names no range of an option.
+/// What is told of a value that names no range of an option.
 fn told(
     alloc: Global,
     option: &str,
-    word: &str,
+    value: &str,
     greatest: u32,
     fault: SpanFault,
 ) -> Result<String, AllocError> {
     match fault {
         SpanFault::NoNumber => format!(in alloc;
-            "invalid value '{word}' for '--{option}': write a number, or two with `-` between them, from 0 to {greatest}; \
+            "invalid value '{value}' for '--{option}': write a number, or two with `-` between them, from 0 to {greatest}; \
             hexadecimal digits stand behind `0x`"
         ),
         SpanFault::TooGreat => format!(in alloc;
-            "invalid value '{word}' for '--{option}': the greatest number is {greatest}"
+            "invalid value '{value}' for '--{option}': the greatest number is {greatest}"
         ),
         SpanFault::Descending(Span { low, high }) => format!(in alloc;
-            "invalid value '{word}' for '--{option}': the smaller number stands first, `{high}-{low}`"
+            "invalid value '{value}' for '--{option}': the smaller number stands first, `{high}-{low}`"
         ),
     }
 }

@@ -3,7 +3,7 @@
 use crate::arguments::matched;
 use crate::form::wrong;
 use crate::forms::DIFF;
-use crate::port_files::{WordFault, name_file, told};
+use crate::port_files::{ValueFault, name_file, told};
 use clap::{ArgMatches, Error};
 use gw_answers::{PortFiles, TableFiles};
 use std::alloc::{AllocError, Global};
@@ -21,8 +21,11 @@ pub enum DiffRequest<'a> {
 }
 
 /// What is asked for, where the arguments name the command `diff`, or `clap`'s answer to them: help, or what is wrong.
-pub fn read_diff<'a, S: AsStr>(alloc: Global, words: &'a [S]) -> Result<DiffRequest<'a>, Error> {
-    let matches = matched(alloc, words)?;
+pub fn read_diff<'a, S: AsStr>(
+    alloc: Global,
+    arguments: &'a [S],
+) -> Result<DiffRequest<'a>, Error> {
+    let matches = matched(alloc, arguments)?;
     match matches.subcommand() {
         Some(("diff", found)) => asked(alloc, found),
         _ => Err(wrong(alloc, &DIFF, "this is not the command `diff`")),
@@ -75,22 +78,22 @@ fn asked_files<'a>(
 /// The file that is named for each of so many ports, if one is. A port that is named twice may have `one`.
 fn named_files<'a>(
     alloc: Global,
-    words: &[&'a str],
+    values: &[&'a str],
     ports: usize,
     one: &str,
 ) -> Result<Vec<Option<&'a str>>, Error> {
     let mut files = vec![in alloc; None; ports]?;
-    for word in words {
-        if let Err(fault) = name_file(word, &mut files) {
-            return Err(wrong_word(alloc, word, ports, fault, one));
+    for value in values {
+        if let Err(fault) = name_file(value, &mut files) {
+            return Err(wrong_value(alloc, value, ports, fault, one));
         }
     }
     Ok(files)
 }
 
-/// `clap`'s error for a word that names no file for one of so many ports.
-fn wrong_word(alloc: Global, word: &str, ports: usize, fault: WordFault, one: &str) -> Error {
-    match told(alloc, word, ports, fault, one) {
+/// `clap`'s error for a value that names no file for one of so many ports.
+fn wrong_value(alloc: Global, value: &str, ports: usize, fault: ValueFault, one: &str) -> Error {
+    match told(alloc, value, ports, fault, one) {
         Ok(text) => wrong(alloc, &DIFF, &text),
         Err(AllocError) => Error::from(AllocError),
     }

@@ -17,9 +17,9 @@ pub(crate) fn asked_inputs<'a>(
     ensures { IfOk result (λ files. vec_len files ≡ ports) }
 {
     let mut files = vec![in alloc; None; ports]?;
-    for word in run.get_strs("in").unwrap_or(&[]) {
-        if let Err(fault) = name_file(word, &mut files) {
-            let text = told(alloc, word, ports, fault, "one input")?;
+    for value in run.get_strs("in").unwrap_or(&[]) {
+        if let Err(fault) = name_file(value, &mut files) {
+            let text = told(alloc, value, ports, fault, "one input")?;
             return Err(wrong(alloc, &RUN, &text));
         }
     }

@@ -19,8 +19,11 @@ pub enum JudgeRequest<'a> {
 }
 
 /// What the arguments ask for where they name the command `judge`, or `clap`'s answer to them: help, or what is wrong.
-pub fn read_judge<'a, S: AsStr>(alloc: Global, words: &'a [S]) -> Result<JudgeRequest<'a>, Error> {
-    let matches = matched(alloc, words)?;
+pub fn read_judge<'a, S: AsStr>(
+    alloc: Global,
+    arguments: &'a [S],
+) -> Result<JudgeRequest<'a>, Error> {
+    let matches = matched(alloc, arguments)?;
     match matches.subcommand() {
         Some(("judge", found)) => asked(alloc, found),
         _ => Err(wrong(alloc, &JUDGE, "this is not the command `judge`")),

@@ -43,11 +43,11 @@ pub struct RunRequest<'a> {
 }
 
 /// What the arguments ask for where they name the command `run`, or `clap`'s answer to them: help, or what is wrong.
-pub fn read_run<'a, S: AsStr>(alloc: Global, words: &'a [S]) -> Result<RunRequest<'a>, Error>
+pub fn read_run<'a, S: AsStr>(alloc: Global, arguments: &'a [S]) -> Result<RunRequest<'a>, Error>
     ensures sources { IfOk result (λ run. vec_len run.sources ≡ run.limits.ports) }
     ensures inputs { IfOk result (λ run. vec_len run.inputs ≡ run.limits.ports) }
 {
-    let matches = matched(alloc, words)?;
+    let matches = matched(alloc, arguments)?;
     match matches.subcommand() {
         Some(("run", run)) => asked(alloc, run),
         _ => Err(wrong(alloc, &RUN, "this is not the command `run`")),

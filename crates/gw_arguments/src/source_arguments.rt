@@ -3,7 +3,7 @@
 ghost use Rattle.std.specs.Prelude.{◌≡◌, length};
 
 use crate::form::{Form, wrong};
-use crate::port_files::{WordFault, port_file, told};
+use crate::port_files::{ValueFault, port_file, told};
 use clap::Error;
 use gw_answers::{PolicyKind, PolicySource};
 use std::alloc::Global;
@@ -11,20 +11,20 @@ use std::alloc::Global;
 /// Names files of a kind for their ports. The usage of a command stands behind what is wrong.
 pub(crate) fn name_files<'a>(
     alloc: Global,
-    words: &[&'a str],
+    values: &[&'a str],
     kind: PolicyKind,
     sources: &mut [PolicySource<'a>],
     form: &Form,
 ) -> Result<(), Error>
     ensures { length sources.new ≡ length sources.old }
 {
-    for word in words {
-        let (port, file) = match named_port(word, sources) {
+    for value in values {
+        let (port, file) = match named_port(value, sources) {
             Ok(named) => named,
             Err(fault) => {
                 let text = told(
                     alloc,
-                    word,
+                    value,
                     sources.len(),
                     fault,
                     "one table or one listing",
@@ -43,10 +43,13 @@ pub(crate) fn name_files<'a>(
 }
 
 /// The port and the file of `P=FILE`, where no file is named for the port before.
-fn named_port<'a>(word: &'a str, sources: &[PolicySource]) -> Result<(usize, &'a str), WordFault> {
-    let (port, file) = port_file(word, sources.len())?;
+fn named_port<'a>(
+    value: &'a str,
+    sources: &[PolicySource],
+) -> Result<(usize, &'a str), ValueFault> {
+    let (port, file) = port_file(value, sources.len())?;
     match sources.get(port) {
-        Some(PolicySource::Table(_) | PolicySource::Listing(_)) => Err(WordFault::Twice(port)),
+        Some(PolicySource::Table(_) | PolicySource::Listing(_)) => Err(ValueFault::Twice(port)),
         _ => Ok((port, file)),
     }
 }

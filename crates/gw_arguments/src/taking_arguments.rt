@@ -13,18 +13,18 @@ pub(crate) fn asked_interfaces<'a>(
     form: &Form,
 ) -> Result<Vec<NamedInterface<'a>>, Error> {
     let mut interfaces = Vec::new(alloc);
-    for word in found.get_strs("interface").unwrap_or(&[]) {
-        match named_interface(word, ports, interfaces.as_slice()) {
+    for value in found.get_strs("interface").unwrap_or(&[]) {
+        match named_interface(value, ports, interfaces.as_slice()) {
             Ok(named) => interfaces.push(named)?,
-            Err(fault) => return Err(wrong(alloc, form, &told(alloc, word, ports, fault)?)),
+            Err(fault) => return Err(wrong(alloc, form, &told(alloc, value, ports, fault)?)),
         }
     }
     Ok(interfaces)
 }
 
-/// Why a word names no interface and its port.
+/// Why a value names no interface and its port.
 #[derive(Clone, Copy)]
-enum WordFault<'a> {
+enum ValueFault<'a> {
     /// It is no `NAME=P`.
     NoPort,
     /// The port is not there.
@@ -35,38 +35,38 @@ enum WordFault<'a> {
 
 /// The interface and the port of `NAME=P`, where the port is one of so many, and the interface is not named before.
 fn named_interface<'a>(
-    word: &'a str,
+    value: &'a str,
     ports: usize,
     before: &[NamedInterface],
-) -> Result<NamedInterface<'a>, WordFault<'a>> {
-    let Some((name, number)) = word.rsplit_once('=') else {
-        return Err(WordFault::NoPort);
+) -> Result<NamedInterface<'a>, ValueFault<'a>> {
+    let Some((name, number)) = value.rsplit_once('=') else {
+        return Err(ValueFault::NoPort);
     };
     let Ok(port) = number.parse::<u8>() else {
-        return Err(WordFault::NoPort);
+        return Err(ValueFault::NoPort);
     };
     if usize::from(port) >= ports {
-        return Err(WordFault::NoSuchPort);
+        return Err(ValueFault::NoSuchPort);
     }
     if before.iter().any(|named| named.name == name) {
-        return Err(WordFault::Twice(name));
+        return Err(ValueFault::Twice(name));
     }
     Ok(NamedInterface { name, port })
 }
 
-/// What is told of a word that names no interface for one of so many ports.
-fn told(alloc: Global, word: &str, ports: usize, fault: WordFault) -> Result<String, AllocError> {
+/// What is told of a value that names no interface for one of so many ports.
+fn told(alloc: Global, value: &str, ports: usize, fault: ValueFault) -> Result<String, AllocError> {
     match fault {
-        WordFault::NoPort => format!(in alloc;
-            "`{word}` is no `NAME=P`: write the name of an interface, `=` and the number of a port"
+        ValueFault::NoPort => format!(in alloc;
+            "`{value}` is no `NAME=P`: write the name of an interface, `=` and the number of a port"
         ),
-        WordFault::NoSuchPort => {
+        ValueFault::NoSuchPort => {
             let most = ports.saturating_sub(1);
             format!(in alloc;
-                "`{word}` names no port of {ports}: write a number from 0 to {most} behind the `=`"
+                "`{value}` names no port of {ports}: write a number from 0 to {most} behind the `=`"
             )
         }
-        WordFault::Twice(name) => format!(in alloc;
+        ValueFault::Twice(name) => format!(in alloc;
             "interface {name} is named twice: give it one port"
         ),
     }

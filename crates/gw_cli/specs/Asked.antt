@@ -36,32 +36,32 @@ IsHelp _ = ⊥
 
 -- a text of `clap` was written: help or the version on the output alone, with status 0, and what is wrong on stderr
 -- alone, with status 2; or memory was wanting for the text
-abbrev pub AnswersWords : ErrorKind → Option (List ℕ) → Option (List ℕ) → Bool → Option (List ℕ) → Option (List ℕ) → Bool → ℕ
+abbrev pub AnswersArguments : ErrorKind → Option (List ℕ) → Option (List ℕ) → Bool → Option (List ℕ) → Option (List ℕ) → Bool → ℕ
     → Type 0
-AnswersWords kind old new write_failed told_old told_new tell_failed status =
+AnswersArguments kind old new write_failed told_old told_new tell_failed status =
     (IsHelp kind × (told_new ≡ told_old) × ((text : List ℕ) × WritesText text 0 status old new write_failed))
     ⊎ ((IsHelp kind → ⊥) × (new ≡ old) × (write_failed ≡ false)
     × ((text : List ℕ) × WritesText text 2 status told_old told_new tell_failed))
     ⊎ Writes (Err OutOfMemory) status old new write_failed
 
 -- the arguments were answered, and nothing was read
-abbrev pub OnlyAnswersWords : Option (List ℕ) → Option (List ℕ) → Option (List ℕ) → Option (List ℕ) → Bool → Option (List ℕ)
+abbrev pub OnlyAnswersArguments : Option (List ℕ) → Option (List ℕ) → Option (List ℕ) → Option (List ℕ) → Bool → Option (List ℕ)
     → Option (List ℕ) → Bool → ℕ → Type 0
-OnlyAnswersWords before after old new write_failed told_old told_new tell_failed status =
-    (after ≡ before) × ((kind : ErrorKind) × AnswersWords kind old new write_failed told_old told_new tell_failed status)
+OnlyAnswersArguments before after old new write_failed told_old told_new tell_failed status =
+    (after ≡ before) × ((kind : ErrorKind) × AnswersArguments kind old new write_failed told_old told_new tell_failed status)
 
 -- a query was answered from the reader, or from a file and the reader gave nothing; or the holders of a log were told, from the
 -- reader or from a file; or a script was replayed, or the arguments were answered and nothing was read
-abbrev pub DoesWords : Option (List ℕ) → Option (List ℕ) → Bool → ℕ → Option (List ℕ) → Option (List ℕ) → Bool
+abbrev pub DoesAsked : Option (List ℕ) → Option (List ℕ) → Bool → ℕ → Option (List ℕ) → Option (List ℕ) → Bool
     → Option (List ℕ) → Option (List ℕ) → Bool → ℕ → Type 0
-DoesWords before after failed reads old new write_failed told_old told_new tell_failed status =
+DoesAsked before after failed reads old new write_failed told_old told_new tell_failed status =
     ((query : Query)
     × Does (AnswersQuery query) (RefusesQuery query) (tells_blocked query) before after failed old new write_failed status)
     ⊎ ((query : Query) × (after ≡ before) × AnswersNamed query old new write_failed status)
     ⊎ TellsHolders before after failed old new write_failed status
     ⊎ ((after ≡ before) × TellsHoldersNamed old new write_failed status)
     ⊎ ((strict : Bool) × Replays strict before after failed reads old new write_failed status)
-    ⊎ OnlyAnswersWords before after old new write_failed told_old told_new tell_failed status
+    ⊎ OnlyAnswersArguments before after old new write_failed told_old told_new tell_failed status
 
 -- what a run is told by: one object where that is asked for, and else lines
 abbrev pub shown_by : RunRequest → Shown
@@ -80,29 +80,29 @@ DoesRun run before after failed reads old new write_failed status =
 
 -- what was asked of `run` was done, for a request that has a source and maybe a file for each port; or the arguments were
 -- answered and nothing was read
-abbrev pub RunsWords : Option (List ℕ) → Option (List ℕ) → Bool → ℕ → Option (List ℕ) → Option (List ℕ) → Bool
+abbrev pub RunsAsked : Option (List ℕ) → Option (List ℕ) → Bool → ℕ → Option (List ℕ) → Option (List ℕ) → Bool
     → Option (List ℕ) → Option (List ℕ) → Bool → ℕ → Type 0
-RunsWords before after failed reads old new write_failed told_old told_new tell_failed status =
+RunsAsked before after failed reads old new write_failed told_old told_new tell_failed status =
     ((run : RunRequest) × (vec_len run.sources ≡ run.limits.ports) × (vec_len run.inputs ≡ run.limits.ports)
     × DoesRun run before after failed reads old new write_failed status)
-    ⊎ OnlyAnswersWords before after old new write_failed told_old told_new tell_failed status
+    ⊎ OnlyAnswersArguments before after old new write_failed told_old told_new tell_failed status
 
 -- a log was judged by the policy of a file, or the file or the policy was refused; or what leaves of one at several interfaces
 -- was written, or a port's file or policy was refused; or the arguments were answered and nothing was read
-abbrev pub JudgesWords : Option (List ℕ) → Option (List ℕ) → Bool → Option (List ℕ) → Option (List ℕ) → Bool
+abbrev pub JudgesAsked : Option (List ℕ) → Option (List ℕ) → Bool → Option (List ℕ) → Option (List ℕ) → Bool
     → Option (List ℕ) → Option (List ℕ) → Bool → ℕ → Type 0
-JudgesWords before after failed old new write_failed told_old told_new tell_failed status =
+JudgesAsked before after failed old new write_failed told_old told_new tell_failed status =
     ((query : LogQuery) × JudgesNamed query before after failed old new write_failed status)
     ⊎ ((names : List NamedInterface) × (sources : List PolicySource)
     × WritesEgressNamed names sources before after failed old new write_failed status)
-    ⊎ OnlyAnswersWords before after old new write_failed told_old told_new tell_failed status
+    ⊎ OnlyAnswersArguments before after old new write_failed told_old told_new tell_failed status
 
 -- the tables of two files, or of a gateway's ports, were compared over every frame, and nothing was read; or those of two files
 -- on a log; or a file or a table was refused; or the arguments were answered and nothing was read
-abbrev pub ComparesWords : Option (List ℕ) → Option (List ℕ) → Bool → Option (List ℕ) → Option (List ℕ) → Bool
+abbrev pub ComparesAsked : Option (List ℕ) → Option (List ℕ) → Bool → Option (List ℕ) → Option (List ℕ) → Bool
     → Option (List ℕ) → Option (List ℕ) → Bool → ℕ → Type 0
-ComparesWords before after failed old new write_failed told_old told_new tell_failed status =
+ComparesAsked before after failed old new write_failed told_old told_new tell_failed status =
     ((after ≡ before) × ComparesNamed old new write_failed status)
     ⊎ ((files : List PortFiles) × (after ≡ before) × ComparesNamedPorts files old new write_failed status)
     ⊎ ((port : ℕ) × DiffsNamed port before after failed old new write_failed status)
-    ⊎ OnlyAnswersWords before after old new write_failed told_old told_new tell_failed status
+    ⊎ OnlyAnswersArguments before after old new write_failed told_old told_new tell_failed status

@@ -2,9 +2,9 @@
 
 ghost use Rattle.std.specs.Prelude.{◌≡◌, false};
 ghost use Rattle.gw_io.specs.Tries.{inner_of, has_failed};
-ghost use Rattle.gw_cli.specs.Asked.{ComparesWords};
+ghost use Rattle.gw_cli.specs.Asked.{ComparesAsked};
 
-use crate::dispatch::answer_words;
+use crate::dispatch::answer_arguments;
 use gw_arguments::{DiffRequest, read_diff};
 use gw_commands::{diff_log_named, diff_named, diff_ports_named};
 use gw_io::Tried;
@@ -19,7 +19,7 @@ use std::rt::Files;
 pub fn diff_command<R: Files, S: AsStr, I: Read, W: Write, F: Write>(
     rt: &R,
     alloc: Global,
-    words: &[S],
+    arguments: &[S],
     input: &mut Tried<I>,
     output: &mut Tried<W>,
     faults: &mut Tried<F>,
@@ -27,11 +27,11 @@ pub fn diff_command<R: Files, S: AsStr, I: Read, W: Write, F: Write>(
     requires input { has_failed input.old ≡ false }
     requires output { has_failed output.old ≡ false }
     requires faults { has_failed faults.old ≡ false }
-    ensures { ComparesWords (I.remaining (inner_of input.old)) (I.remaining (inner_of input.new)) (has_failed input.new)
+    ensures { ComparesAsked (I.remaining (inner_of input.old)) (I.remaining (inner_of input.new)) (has_failed input.new)
         (W.contents (inner_of output.old)) (W.contents (inner_of output.new)) (has_failed output.new)
         (F.contents (inner_of faults.old)) (F.contents (inner_of faults.new)) (has_failed faults.new) result }
 {
-    match read_diff(alloc, words) {
+    match read_diff(alloc, arguments) {
         Ok(DiffRequest::Tables(files)) => diff_named(rt, alloc, files, output, faults),
         Ok(DiffRequest::Log(files, port)) => {
             diff_log_named(rt, alloc, files, port, input, output, faults)
@@ -39,6 +39,6 @@ pub fn diff_command<R: Files, S: AsStr, I: Read, W: Write, F: Write>(
         Ok(DiffRequest::Ports(files)) => {
             diff_ports_named(rt, alloc, files.as_slice(), output, faults)
         }
-        Err(error) => answer_words(alloc, &error, output, faults),
+        Err(error) => answer_arguments(alloc, &error, output, faults),
     }
 }

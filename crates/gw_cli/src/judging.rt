@@ -2,9 +2,9 @@
 
 ghost use Rattle.std.specs.Prelude.{◌≡◌, false};
 ghost use Rattle.gw_io.specs.Tries.{inner_of, has_failed};
-ghost use Rattle.gw_cli.specs.Asked.{JudgesWords};
+ghost use Rattle.gw_cli.specs.Asked.{JudgesAsked};
 
-use crate::dispatch::answer_words;
+use crate::dispatch::answer_arguments;
 use gw_arguments::{EgressRequest, JudgeRequest, read_judge};
 use gw_commands::judge_named;
 use gw_io::Tried;
@@ -19,7 +19,7 @@ use std::rt::Files;
 pub fn judge_command<R: Files, S: AsStr, I: Read, W: Write, F: Write>(
     rt: &R,
     alloc: Global,
-    words: &[S],
+    arguments: &[S],
     input: &mut Tried<I>,
     output: &mut Tried<W>,
     faults: &mut Tried<F>,
@@ -27,11 +27,11 @@ pub fn judge_command<R: Files, S: AsStr, I: Read, W: Write, F: Write>(
     requires input { has_failed input.old ≡ false }
     requires output { has_failed output.old ≡ false }
     requires faults { has_failed faults.old ≡ false }
-    ensures { JudgesWords (I.remaining (inner_of input.old)) (I.remaining (inner_of input.new)) (has_failed input.new)
+    ensures { JudgesAsked (I.remaining (inner_of input.old)) (I.remaining (inner_of input.new)) (has_failed input.new)
         (W.contents (inner_of output.old)) (W.contents (inner_of output.new)) (has_failed output.new)
         (F.contents (inner_of faults.old)) (F.contents (inner_of faults.new)) (has_failed faults.new) result }
 {
-    match read_judge(alloc, words) {
+    match read_judge(alloc, arguments) {
         Ok(JudgeRequest::Log(query, file)) => {
             judge_named(rt, alloc, query, file, input, output, faults)
         }
@@ -43,6 +43,6 @@ pub fn judge_command<R: Files, S: AsStr, I: Read, W: Write, F: Write>(
             let names = interfaces.as_slice();
             egress_named(rt, alloc, &sources, names, input, output, faults)
         }
-        Err(error) => answer_words(alloc, &error, output, faults),
+        Err(error) => answer_arguments(alloc, &error, output, faults),
     }
 }

@@ -3,9 +3,9 @@
 ghost use Rattle.std.specs.Prelude.{◌≡◌, false, is_some, vec_len};
 ghost use Rattle.std.specs.List.{list_any};
 ghost use Rattle.gw_io.specs.Tries.{inner_of, has_failed, reads_of, unended_reads};
-ghost use Rattle.gw_cli.specs.Asked.{DoesRun, RunsWords, shown_by};
+ghost use Rattle.gw_cli.specs.Asked.{DoesRun, RunsAsked, shown_by};
 
-use crate::dispatch::answer_words;
+use crate::dispatch::answer_arguments;
 use gw_arguments::{RunRequest, read_run};
 use gw_io::Tried;
 use gw_run::{
@@ -38,7 +38,7 @@ impl Console for HostRuntime {
 pub fn run_command<R, S, I, W, F>(
     rt: &R,
     alloc: Global,
-    words: &[S],
+    arguments: &[S],
     input: &mut Tried<I>,
     output: &mut Tried<W>,
     faults: &mut Tried<F>,
@@ -54,14 +54,14 @@ where
     requires input { has_failed input.old ≡ false }
     requires output { has_failed output.old ≡ false }
     requires faults { has_failed faults.old ≡ false }
-    ensures { RunsWords (I.remaining (inner_of input.old)) (I.remaining (inner_of input.new))
+    ensures { RunsAsked (I.remaining (inner_of input.old)) (I.remaining (inner_of input.new))
         (has_failed input.new) (unended_reads input.old input.new)
         (W.contents (inner_of output.old)) (W.contents (inner_of output.new)) (has_failed output.new)
         (F.contents (inner_of faults.old)) (F.contents (inner_of faults.new)) (has_failed faults.new) result }
 {
-    match read_run(alloc, words) {
+    match read_run(alloc, arguments) {
         Ok(run) => run_asked(rt, alloc, &run, input, output, faults),
-        Err(error) => answer_words(alloc, &error, output, faults),
+        Err(error) => answer_arguments(alloc, &error, output, faults),
     }
 }
 

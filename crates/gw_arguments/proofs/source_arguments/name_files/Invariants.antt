@@ -1,5 +1,5 @@
 use Rattle.std.proofs.Common.{◌≡◌, length}
 use Rattle.gw_arguments.proofs.source_arguments.name_files.Given as goal
 
-abbrev pub invariant-loop-word : goal.invariant-loop-word
-invariant-loop-word l = length l.sources ≡ length l.initial.sources
+abbrev pub invariant-loop-value : goal.invariant-loop-value
+invariant-loop-value l = length l.sources ≡ length l.initial.sources

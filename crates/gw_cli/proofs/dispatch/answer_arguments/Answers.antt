@@ -2,7 +2,7 @@ use Rattle.std.proofs.Common.{◌∙◌, inl, inr, refl, sym}
 use Rattle.std.proofs.lemmas.Bool.{false≢true}
 use Rattle.clap.specs.Values.{kind_of}
 use Rattle.gw_cli.proofs.Help.{help, not_help}
-use Rattle.gw_cli.proofs.dispatch.answer_words.Goals as goal
+use Rattle.gw_cli.proofs.dispatch.answer_arguments.Goals as goal
 
 pub returns-then-use_stderr : goal.returns-then-use_stderr
 returns-then-use_stderr g c =
