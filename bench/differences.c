@@ -149,7 +149,7 @@ static size_t write_family(char *text, const struct family *family, int rules, i
     return length;
 }
 
-/* Prints the row of a family but for its memory. */
+/* Prints the row of a family except for its memory. */
 static bool time_family(const struct family *family, int rules)
 {
     static char old[GREATEST_TABLE], new[GREATEST_TABLE];

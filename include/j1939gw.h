@@ -13,7 +13,7 @@
  *
  * MEMORY. A handle is 16 octets that the caller keeps, and may move but not copy. All octets 0, as JGW_NOTHING, it holds nothing.
  * What it holds is freed by jgw_free, or where another thing is put in. No call keeps a pointer to a text, to code or to frames.
- * A gateway takes all its memory when it is opened, but for its policies.
+ * A gateway takes all its memory when it is opened, except for its policies.
  * Calls marked FIXED take no memory. The others call malloc, realloc and free; want of memory is a refusal, never an abort.
  *
  * THREADS. The library starts no thread, takes no lock and keeps no state of its own. One call at a time may use a handle, a

@@ -52,7 +52,7 @@ impl Display for NoReading {
 
 impl Error for NoReading {}
 
-/// Why a batch was not published. It comes back, but for one case.
+/// Why a batch was not published. It comes back, except in one case.
 #[derive(Drop)]
 pub enum ReplaceRefusal {
     /// 81: a pair names a port that the gateway does not have.

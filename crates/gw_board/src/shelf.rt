@@ -146,7 +146,7 @@ impl Shelf {
     }
 }
 
-// More than the others turn a word while one watch copies: each of fifteen comes once for a version, and goes.
+// While one watch copies, each of the other fifteen changes the word at most twice: it comes and it goes. This is more.
 const MOST_TRIES: usize = 4 * MAX_PORTS;
 
 fn copy_from(place: &Place) -> Option<Version>

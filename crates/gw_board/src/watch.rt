@@ -139,8 +139,8 @@ impl Watch {
         Ok(f(&self.set))
     }
 
-    // How many batches are published, as found at the one step of entering. The policies after them are taken in before it
-    // leaves: the operator shows the next version but one only then, and lays another in their place after that.
+    // Enters, and answers how many batches are published at that step. It copies their policies before it leaves. The operator
+    // shows the version after the next only once this watch has left.
     // Inlined, as the reader's two calls are, and `catch_up` is not: else a reading that finds nothing new takes twice as long.
     #[inline(always)]
     fn enter(&mut self) -> Result<u64, NoReading>

@@ -81,7 +81,7 @@ pub fn note_program<F: Write>(alloc: Global, text: &[u8], faults: &mut Tried<F>)
     }
 }
 
-/// Tells which file is refused, but for a refusal of the frame that a word of the command line says.
+/// Tells which file is refused, except where the frame that an argument says is refused.
 pub fn note_refused_file<F: Write>(file: &str, refusal: &Refusal, faults: &mut Tried<F>) {
     match refusal {
         Refusal::Record(_) | Refusal::Candump(_) => (),

@@ -164,7 +164,7 @@ impl PolicySet {
         }
     }
 
-    /// The ports below a number, but for `from`, at which a frame may leave that was taken at the port `from`. Ports that have
+    /// The ports below a number, except `from`, at which a frame may leave that was taken at the port `from`. Ports that have
     /// the same program are judged once.
     pub fn egress_ports(&self, ports: u8, frame: &Frame, from: u8) -> PortSet
         requires { ports ≤ 16 }

@@ -84,7 +84,7 @@ pub fn replay<R: Read, W: Write>(
     replay_told(alloc, reader, writer, &mut Tried::new(io::sink()))
 }
 
-/// Runs a script as `replay` does, and tells a person on a third stream why lines are refused.
+/// Runs a script as `replay` does, and tells on stderr why lines are refused.
 pub fn replay_told<R: Read, W: Write, F: Write>(
     alloc: Global,
     reader: &mut Tried<R>,

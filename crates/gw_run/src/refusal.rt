@@ -22,7 +22,7 @@ const NO_LOG: u32 = 114;
 #[derive(Drop, Debug)]
 pub enum ForwardRefusal {
     /// What a command refuses: 10 to 13, 20 to 30, 50 to 55 and 98 of a policy's text, 96 and 98 of its file, 96 of a port's
-    /// input that could not be read, and 100, a growth of the program's own was refused.
+    /// input that could not be read, and 100, no memory for what the program does.
     Command(Refusal),
     /// 90 to 93, 95 and 96: octets that are no trace.
     Trace(TraceRefusal),

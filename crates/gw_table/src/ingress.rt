@@ -7,7 +7,7 @@ use crate::table::{Action, GREATEST_GROUP, GREATEST_OCTET, Rule, Span};
 use gw_ledger::MAX_PORTS;
 use std::alloc::{AllocError, Global};
 
-/// The ports below a number, but for one.
+/// The ports below a number, except one.
 #[derive(Clone, Copy)]
 pub struct Ingress {
     pub below: u8,

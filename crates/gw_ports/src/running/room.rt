@@ -130,8 +130,8 @@ pub(super) fn kept_lists(
     ))
 }
 
-/// By ingress port, an empty list with room for the outcomes of as many of so many frames as it takes: sinks of `run_with` that
-/// keep all outcomes. It fails where memory is refused.
+/// For each ingress port, in order, an empty list to be its sink in `run_with`. It has room for the outcome of each frame that
+/// the port can take. It fails where memory is refused.
 pub fn outcome_lists(
     alloc: Global,
     limits: Limits,
