@@ -7,17 +7,13 @@ use Rattle.std.proofs.lemmas.List.{get_or_default, take_all}
 use Rattle.std.proofs.lemmas.List.Splits.{slice_split_first, slice_split_none, length-slice_split}
 use Rattle.std.proofs.lemmas.List.Elements.{All-from_get_or}
 use Rattle.std.proofs.lemmas.List.Sums.{prefix_len_passes}
-use Rattle.gw_input.specs.Lines.{is_line_feed, has_end, without_return, first_line, behind_first, without_ends, lines_of}
+use Rattle.gw_input.specs.Lines.{is_line_feed, has_end, without_return, first_line, behind_first, left_behind, without_ends}
+use Rattle.gw_input.specs.Lines.{lines_of}
 
 -- the lines behind a first one, where there is one
 abbrev pub lines_behind : Option (List ℕ) → List (List ℕ)
 lines_behind (Some text) = lines_of text
 lines_behind None = []
-
--- how many octets and lines are left
-abbrev pub left_behind : Option (List ℕ) → ℕ
-left_behind (Some text) = length text + 1
-left_behind None = 0
 
 ends_before : (line : List ℕ) (rest : List (List ℕ)) → 0 < length rest → without_ends (line ∷ rest) ≡ without_return line
     ∷ without_ends rest

@@ -1,6 +1,6 @@
 -- The lines of a text. A line feed ends a line, and a carriage return right before that line feed belongs to the line's end.
 -- What stands behind the last line feed is a line without an end.
-use Rattle.std.specs.Prelude.{ℕ, ◌==◌, ◌-◌, Bool, nat_lt, if◌then◌else◌, List, [], ◌∷◌, length, take, slice_index, Option, Some}
+use Rattle.std.specs.Prelude.{ℕ, ◌==◌, ◌+◌, ◌-◌, Bool, nat_lt, if◌then◌else◌, List, [], ◌∷◌, length, take, slice_index, Option, Some}
 use Rattle.std.specs.Prelude.{None}
 use Rattle.std.specs.List.{position_or_len, before_first, after_first, slice_split}
 
@@ -30,6 +30,11 @@ first_line text = if has_end text then without_return (before_first is_line_feed
 -- what stands behind the first line, where a line feed ends it
 abbrev pub behind_first : List ℕ → Option (List ℕ)
 behind_first text = if has_end text then Some (after_first is_line_feed text) else None
+
+-- how many octets are left there, and one more where there is such a rest
+abbrev pub left_behind : Option (List ℕ) → ℕ
+left_behind (Some text) = length text + 1
+left_behind None = 0
 
 -- lines without their ends: the last one has none
 abbrev pub without_ends : List (List ℕ) → List (List ℕ)

@@ -1,5 +1,5 @@
 -- How far a script was read and answered.
-use Rattle.std.specs.Prelude.{◌≡◌, ◌+◌, ℕ, Bool, true, false, ◌||◌, List, [], ◌∷◌, ◌++◌, length, map, reverse, take, All}
+use Rattle.std.specs.Prelude.{◌≡◌, ◌+◌, ℕ, Bool, true, false, ◌||◌, List, [], ◌∷◌, ◌++◌, map, reverse, take, All}
 use Rattle.std.specs.Prelude.{Option, Some, None, Result, Ok, Err}
 use Rattle.std.specs.Borrow.{Bor}
 use Rattle.std.specs.List.{flat_map}
@@ -59,11 +59,6 @@ abbrev pub FeedsLine : {E : Type 0} → List ℕ → List ℕ → List ℕ → R
 FeedsLine octets piece before (Ok None) new = HasReached (octets ++ piece) new (before ++ new.answers.items)
 FeedsLine octets piece before (Ok (Some behind)) new = Passes octets piece before behind.now new
 FeedsLine octets piece before (Err e) new = BeginsAnswer (octets ++ piece) (before ++ new.answers.items)
-
--- how many octets are left, and one more where any are
-abbrev pub left_behind : Option (List ℕ) → ℕ
-left_behind (Some text) = length text + 1
-left_behind None = 0
 
 -- a piece was read up to what is left of it
 abbrev pub FedSo : List ℕ → List ℕ → List ℕ → Option (List ℕ) → ScriptReader → Type 0

@@ -33,10 +33,10 @@ pub struct ScriptReader {
 impl ScriptReader {
     ghost use Rattle.std.specs.Prelude.{take, ◌-◌};
     ghost use Rattle.gw_replay.specs.Replies.{SessionState};
-    ghost use Rattle.gw_input.specs.Lines.{ended_line};
+    ghost use Rattle.gw_input.specs.Lines.{ended_line, left_behind};
     ghost use Rattle.gw_replay.specs.Standing.{StandsIn};
     ghost use Rattle.gw_replay.specs.Reached.{HasReached, HasFed, FeedsLine, AnswersKept, EndsWith, IsEndFault};
-    ghost use Rattle.gw_replay.specs.Reached.{most_kept, left_behind};
+    ghost use Rattle.gw_replay.specs.Reached.{most_kept};
 
     /// Starts before the first octet.
     pub fn new(alloc: Global) -> ScriptReader

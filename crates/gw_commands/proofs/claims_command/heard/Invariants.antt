@@ -3,8 +3,8 @@ use Rattle.std.specs.Prelude.{option_copied}
 use Rattle.std.specs.List.{list_any}
 use Rattle.gw_claims.specs.Holders.{HoldsAfter}
 use Rattle.gw_commands.specs.ClaimLines.{records_on, is_bad}
-use Rattle.gw_input.specs.Lines.{lines_of}
-use Rattle.gw_input.proofs.Callers.{lines_behind, left_behind}
+use Rattle.gw_input.specs.Lines.{left_behind, lines_of}
+use Rattle.gw_input.proofs.Callers.{lines_behind}
 use Rattle.gw_commands.proofs.claims_command.heard.Given as goal
 
 abbrev pub invariant-loop-rest : goal.invariant-loop-rest

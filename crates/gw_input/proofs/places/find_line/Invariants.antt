@@ -1,9 +1,9 @@
 use Rattle.std.proofs.Common.{◌≡◌, ◌+◌, ◌≤◌, None, length, drop}
 use Rattle.std.specs.Prelude.{option_copied}
 use Rattle.std.specs.List.{find, range_with_len}
-use Rattle.gw_input.specs.Lines.{lines_of}
+use Rattle.gw_input.specs.Lines.{left_behind, lines_of}
 use Rattle.gw_input.specs.Places.{stands_on}
-use Rattle.gw_input.proofs.LineByLine.{lines_behind, left_behind}
+use Rattle.gw_input.proofs.LineByLine.{lines_behind}
 use Rattle.gw_input.proofs.RulePlaces.{rules_above}
 use Rattle.gw_input.proofs.places.find_line.Given as goal
 

@@ -1,9 +1,9 @@
 use Rattle.std.proofs.Common.{◌≡◌, ◌+◌, ◌≤◌, length, drop, flat_map}
 use Rattle.std.specs.Prelude.{option_copied}
 use Rattle.std.specs.List.{range_with_len}
-use Rattle.gw_input.specs.Lines.{lines_of}
+use Rattle.gw_input.specs.Lines.{left_behind, lines_of}
 use Rattle.gw_input.specs.RuleLines.{rule_at}
-use Rattle.gw_input.proofs.LineByLine.{lines_behind, left_behind}
+use Rattle.gw_input.proofs.LineByLine.{lines_behind}
 use Rattle.gw_input.proofs.rule_places.rule_lines.Given as goal
 
 abbrev pub invariant-loop-rest : goal.invariant-loop-rest

@@ -1,6 +1,7 @@
 use Rattle.std.proofs.Common.{ℕ, List, ◌++◌}
 use Rattle.std.specs.Prelude.{option_copied}
-use Rattle.gw_replay.specs.Reached.{HasReached, FedSo, left_behind}
+use Rattle.gw_replay.specs.Reached.{HasReached, FedSo}
+use Rattle.gw_input.specs.Lines.{left_behind}
 use Rattle.gw_replay.proofs.script_reader.ScriptReader.feed.Given as goal
 
 abbrev pub invariant-loop-rest : goal.invariant-loop-rest
