@@ -17,6 +17,9 @@ pub trait Gate: Sync {
     /// After that offer.
     fn leave(&self, port: u8, index: usize);
 
+    /// Where a port stopped at a frame that was refused: it takes no other.
+    fn stopped(&self, _port: u8) {}
+
     /// Before the batch of this index is published.
     fn before_replace(&self, index: usize);
 

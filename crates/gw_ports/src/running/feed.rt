@@ -93,6 +93,7 @@ fn offer_frames<R: Wait, I: Iterator<Item = Frame>, O: Sink<Outcome>, G: Gate>(
         match offered {
             Ok(outcome) => outcomes.take(outcome),
             Err(why) => {
+                gate.stopped(number);
                 return Done {
                     port,
                     input,
