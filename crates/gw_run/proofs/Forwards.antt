@@ -1,7 +1,6 @@
 -- What a forwarding finds, from what its parts found.
 use Rattle.std.proofs.Common.{◌≡◌, ◌∙◌, ℕ, Bool, List, [], Option, IsTrue, Vec, ◌⊎◌, ap, subst, sym, inl, inr, Result, Ok}
-use Rattle.std.proofs.Common.{Err, Global, IfOk}
-use Rattle.std.specs.Iterator.{YieldsFirst}
+use Rattle.std.proofs.Common.{Err, Global, IfOk, false}
 use Rattle.std.specs.List.{AllZip}
 use Rattle.gw_ledger.specs.Bounds.{Bounds}
 use Rattle.gw_ledger.specs.declared.ledger.InLedger.{InLedger}
@@ -16,9 +15,9 @@ use Rattle.gw_run.specs.declared.kept.Kept.{Kept}
 use Rattle.gw_run.specs.declared.lines.Shown.{Shown}
 use Rattle.gw_run.specs.declared.taking.Taking.{Taking}
 use Rattle.gw_run.specs.declared.refusal.ForwardRefusal.{ForwardRefusal}
-use Rattle.gw_run.specs.Forwarding.{IsFirst, IsForwarded, IsForwardRefusal, IsOctetsRun, IsTraceInput, IsTraceRun, AreShares}
-use Rattle.gw_run.specs.Forwarding.{IsKeptOf, IsRunOn, IsRunOver, IsStopOf, KeepsRun, NoneStopped, RefusesInputs}
-use Rattle.gw_run.specs.Forwarding.{RefusesOctets, RefusesTrace, report_text}
+use Rattle.gw_run.specs.Forwarding.{IsFirst, IsForwarded, IsForwardRefusal, IsTraceRun}
+use Rattle.gw_run.specs.Forwarding.{IsKeptOf, IsRunOver, IsStopOf, KeepsRun, NoneStopped, RefusesInputs}
+use Rattle.gw_run.specs.Forwarding.{RefusesTrace, report_text}
 use Rattle.gw_run.specs.declared.refusal.ForwardRefusal.TheVariants.{Command, Run, Stopped}
 use Rattle.gw_run.specs.declared.losses.Losses.{Losses}
 use Rattle.gw_run.specs.Tallies.{AreLosses, AreTallies, IsToldOf}
@@ -38,28 +37,12 @@ pub refused_under_policies : (taking : Taking) (limits : Bounds) (sources : List
 refused_under_policies taking limits sources texts before after failed reads first refusal policies why =
     inr (record { first = first; policies = policies; why = why })
 
--- of the octets that the reader gave
-pub of_trace : (taking : Taking) (limits : Bounds) (first : List Pair) (waits : Bool) (shown : Shown)
-    (before after : Option (List ℕ)) (failed : Bool) (octets given text : List ℕ) → IsTraceInput before after failed octets
-    → given ≡ octets → IsOctetsRun taking limits first waits shown given text
-    → IsTraceRun taking limits first waits shown before after failed text
-of_trace taking limits first waits shown before after failed octets given text read same run = record {
-  octets = octets;
-  read = read;
-  run = subst (λ (o : List ℕ). IsOctetsRun taking limits first waits shown o text) same run;
-}
-
-pub refused_of_trace : (taking : Taking) (limits : Bounds) (first : List Pair) (before after : Option (List ℕ)) (failed : Bool)
-    (reads : ℕ) (octets given : List ℕ) (refusal : ForwardRefusal) → IsTraceInput before after failed octets → given ≡ octets
-    → RefusesOctets taking limits first given refusal → RefusesTrace taking limits first before after failed reads refusal
-refused_of_trace taking limits first before after failed reads octets given refusal read same why =
-    inr (octets, read, subst (λ (o : List ℕ). RefusesOctets taking limits first o refusal) same why)
-
--- a run on inputs that are shares
-pub run_on_shares : (limits : Bounds) (first : List Pair) (frames : List (List ℕ)) (inputs : List (List (List ℕ))) (ran : Ran)
-    → AreShares limits.ports frames inputs → IsRunOver (YieldsFirst (λ s. s)) limits first inputs ran
-    → IsRunOn limits first frames ran
-run_on_shares limits first frames inputs ran shared run = record { inputs = inputs; shared = shared; is_run = run }
+-- memory may be wanting where the reader did not fail
+pub memory_refuses : (taking : Taking) (limits : Bounds) (first : List Pair) (before after : Option (List ℕ)) (failed : Bool)
+    (reads : ℕ) (refusal : ForwardRefusal) → failed ≡ false → refusal ≡ Command OutOfMemory
+    → RefusesTrace taking limits first before after failed reads refusal
+memory_refuses taking limits first before after failed reads refusal whole memory =
+    subst (RefusesTrace taking limits first before after failed reads) (sym memory) (inl whole)
 
 -- a run of which no batch is published behind the first
 pub run_over : {S : Type 0} (steps : S → Option (List ℕ) → S → Type 0) (limits : Bounds) (first : List Pair) (inputs : List S)

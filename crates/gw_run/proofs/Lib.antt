@@ -1,3 +1,9 @@
+pub mod DealtForwards
+pub mod DealtLists
+pub mod DealtRings
+pub mod DealtShares
+pub mod DealtStarts
+pub mod DealtTraces
 pub mod FirstBatch
 pub mod FirstOctets
 pub mod FirstRefusals

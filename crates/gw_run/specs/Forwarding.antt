@@ -143,6 +143,12 @@ IsKeptOf ports kept ran = (kept.ledgers.items ≡ ran.report.ins.items) × AreTa
 abbrev pub KeepsRun : ℕ → (Ran → Type 0) → Bool → Kept → Type 0
 KeepsRun ports Runs waits kept = (ran : Ran) × IsKeptOf ports kept ran × Runs ran × IsWhole waits ran
 
+-- the same of a run on what the ports take of the octets that the reader gave
+abbrev pub KeepsInput : Taking → Bounds → List Pair → Bool → Option (List ℕ) → Option (List ℕ) → Bool → Kept → Type 0
+KeepsInput taking limits first waits before after failed kept =
+    (octets : List ℕ) × IsTraceInput before after failed octets
+    × KeepsRun limits.ports (IsRunOf taking limits first octets) waits kept
+
 -- this port is the least that stopped
 pub record IsFirstStop (stops : List (Option OfferRefusal)) (port : ℕ) (why : OfferRefusal) : Type 0 where
   pub stopped : slice_get stops port ≡ Some (Some why)

@@ -1,42 +1,41 @@
 //! From the octets of an input to the lines of a run.
 
-ghost use Rattle.std.specs.Prelude.{◌≡◌, ◌<◌, length, map, false, IfOk, IfErr, All};
+ghost use Rattle.std.specs.Prelude.{◌≡◌, ◌<◌, ◌⊎◌, ℕ, List, length, map, false, IfOk, IfErr, All};
 ghost use Rattle.gw_io.specs.Tries.{inner_of, has_failed, reads_of, unended_reads};
 ghost use Rattle.gw_run.specs.Forwarding.{
   Forwards,
   IsForwarded,
   IsForwardRefusal,
+  IsTraceFault,
+  IsTraceInput,
   IsTraceRun,
-  IsOctetsRun,
-  IsRunOf,
+  KeepsInput,
   KeepsRun,
   LogRuns,
   RefusesLog,
   RefusesTrace,
-  RefusesOctets,
   report_text,
 };
 ghost use Rattle.gw_answers.specs.declared.refusal.Refusal.TheVariants.{OutOfMemory};
 ghost use Rattle.gw_run.specs.declared.refusal.ForwardRefusal.TheVariants.{Command};
-ghost use Rattle.gw_run.specs.declared.taking.Taking.TheVariants.{InTurn};
 
+use crate::dealt_run::run_dealt;
 use crate::first::first_batch;
 use crate::kept::Kept;
 use crate::lines::{Shown, report_text};
 use crate::log::{named_lists, no_log};
 use crate::log_notes::LogNotes;
-use crate::notes::{note_dealt, note_log, note_lost};
+use crate::notes::note_lost;
 use crate::observing::Observer;
-use crate::octets::read_trace;
+use crate::octets::read_whole;
 use crate::refusal::ForwardRefusal;
-use crate::running::{frame_count, run_lists, run_shares};
+use crate::running::{frame_count, run_lists};
 use crate::taking::Taking;
 use gw_answers::{Answer, PolicySource, Refusal, respond, write_refusal};
 use gw_io::Tried;
 use gw_judge::NamedInterface;
 use gw_ledger::Limits;
 use gw_policy::Batch;
-use gw_trace::Checked;
 use std::alloc::{AllocError, Global};
 use std::io::{Read, Write};
 use std::marker::Sync;
@@ -130,40 +129,73 @@ fn run_input<R: Threads + Wait + Sync, G: Observer, I: Read, F: Write>(
         (I.remaining (inner_of input.old)) (I.remaining (inner_of input.new))
         (has_failed input.new) (unended_reads input.old input.new)) }
 {
-    match read_trace(alloc, input) {
-        Ok(octets) => run_octets(
-            rt,
-            alloc,
-            limits,
-            first,
-            taking,
-            shown,
-            observer,
-            octets.as_slice(),
-            faults,
-        ),
+    match run_taken(rt, alloc, limits, first, taking, observer, input, faults) {
+        Ok(kept) => report_octets(alloc, limits, &kept, shown, faults),
         Err(refusal) => Err(refusal),
     }
 }
 
-/// The lines of the run of an input's octets, or their first refusal.
-fn run_octets<R: Threads + Wait + Sync, G: Observer, F: Write>(
+/// The run on what the ports take of an input, or its first refusal. A trace is read while it is forwarded, and a log before.
+fn run_taken<R: Threads + Wait + Sync, G: Observer, I: Read, F: Write>(
     rt: &R,
     alloc: Global,
     limits: Limits,
     first: Batch,
     taking: &Taking,
-    shown: Shown,
     observer: &G,
-    octets: &[u8],
+    input: &mut Tried<I>,
     faults: &mut Tried<F>,
-) -> Result<Vec<u8>, ForwardRefusal>
-    requires { All (λ pair. pair.port < limits.ports) first }
-    ensures ran { IfOk result (λ text. IsOctetsRun taking.now limits first G.waits shown octets.now text.items) }
-    ensures refused { IfErr result (RefusesOctets taking.now limits first octets.now) }
+) -> Result<Kept, ForwardRefusal>
+    requires ports { All (λ pair. pair.port < limits.ports) first }
+    requires unread { reads_of input.old ≡ 0 }
+    requires input { has_failed input.old ≡ false }
+    ensures ran { IfOk result (KeepsInput taking.now limits first G.waits
+        (I.remaining (inner_of input.old)) (I.remaining (inner_of input.new)) (has_failed input.new)) }
+    ensures refused { IfErr result (RefusesTrace taking.now limits first
+        (I.remaining (inner_of input.old)) (I.remaining (inner_of input.new))
+        (has_failed input.new) (unended_reads input.old input.new)) }
 {
-    match run_taken(rt, alloc, limits, first, taking, observer, octets, faults) {
-        Ok(kept) => report_octets(alloc, limits, &kept, shown, faults),
+    match taking {
+        Taking::InTurn => run_dealt(rt, alloc, limits, first, observer, input, faults),
+        Taking::ByInterface(names) => {
+            run_named(rt, alloc, limits, first, names, observer, input, faults)
+        }
+    }
+}
+
+/// The run on a log that is read, or its first refusal.
+fn run_named<R: Threads + Wait + Sync, G: Observer, I: Read, F: Write>(
+    rt: &R,
+    alloc: Global,
+    limits: Limits,
+    first: Batch,
+    names: &[NamedInterface],
+    observer: &G,
+    input: &mut Tried<I>,
+    faults: &mut Tried<F>,
+) -> Result<Kept, ForwardRefusal>
+    requires ports { All (λ pair. pair.port < limits.ports) first }
+    requires unread { reads_of input.old ≡ 0 }
+    requires input { has_failed input.old ≡ false }
+    ensures ran { IfOk result (λ kept. (octets : List ℕ)
+        × IsTraceInput (I.remaining (inner_of input.old)) (I.remaining (inner_of input.new)) (has_failed input.new) octets
+        × KeepsRun limits.ports (LogRuns names.now limits first octets) G.waits kept) }
+    ensures refused { IfErr result (λ refusal. IsTraceFault (has_failed input.new) (unended_reads input.old input.new) refusal
+        ⊎ ((octets : List ℕ)
+        × IsTraceInput (I.remaining (inner_of input.old)) (I.remaining (inner_of input.new)) (has_failed input.new) octets
+        × RefusesLog names.now limits first octets refusal)) }
+{
+    match read_whole(alloc, input) {
+        Ok(octets) => run_log(
+            rt,
+            alloc,
+            limits,
+            first,
+            names,
+            observer,
+            octets.as_slice(),
+            faults,
+        ),
         Err(refusal) => Err(refusal),
     }
 }
@@ -185,56 +217,6 @@ pub(crate) fn report_octets<F: Write>(
         Ok(text) => Ok(text.into_bytes()),
         Err(AllocError) => Err(ForwardRefusal::Command(Refusal::OutOfMemory)),
     }
-}
-
-/// The run on what the ports take of an input's octets, or their first refusal.
-fn run_taken<R: Threads + Wait + Sync, G: Observer, F: Write>(
-    rt: &R,
-    alloc: Global,
-    limits: Limits,
-    first: Batch,
-    taking: &Taking,
-    observer: &G,
-    octets: &[u8],
-    faults: &mut Tried<F>,
-) -> Result<Kept, ForwardRefusal>
-    requires { All (λ pair. pair.port < limits.ports) first }
-    ensures ran { IfOk result (KeepsRun limits.ports (IsRunOf taking.now limits first octets.now) G.waits) }
-    ensures refused { IfErr result (RefusesOctets taking.now limits first octets.now) }
-{
-    match taking {
-        Taking::InTurn => run_trace(rt, alloc, limits, first, observer, octets, faults),
-        Taking::ByInterface(names) => {
-            run_log(rt, alloc, limits, first, names, observer, octets, faults)
-        }
-    }
-}
-
-/// The run of a trace's octets, or their first refusal.
-fn run_trace<R: Threads + Wait + Sync, G: Observer, F: Write>(
-    rt: &R,
-    alloc: Global,
-    limits: Limits,
-    first: Batch,
-    observer: &G,
-    octets: &[u8],
-    faults: &mut Tried<F>,
-) -> Result<Kept, ForwardRefusal>
-    requires { All (λ pair. pair.port < limits.ports) first }
-    ensures ran { IfOk result (KeepsRun limits.ports (IsRunOf InTurn limits first octets.now) G.waits) }
-    ensures refused { IfErr result (RefusesOctets InTurn limits first octets.now) }
-{
-    let trace = match Checked::new(octets) {
-        Ok(trace) => trace,
-        Err(why) => {
-            note_log(octets, faults);
-            return Err(ForwardRefusal::Trace(why));
-        }
-    };
-    observer.begins(Some(trace.len()));
-    let ran = run_shares(rt, alloc, limits, first, &trace, observer);
-    note_dealt(limits.ports(), faults);
-    ran
 }
 
 /// The run of a log's octets, or their first refusal. A person is told of lines that no port takes.

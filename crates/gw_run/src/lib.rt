@@ -1,10 +1,14 @@
 #![tactic(auto)]
 //! The command `run` of the program `gw`: the frames of a trace, forwarded by a gateway that runs in threads.
 
+mod dealing;
+mod dealt;
+mod dealt_run;
 mod egress_command;
 mod files;
 mod first;
 mod forwarding;
+mod front;
 mod inputs;
 mod json;
 mod kept;
@@ -20,6 +24,7 @@ mod port_files;
 mod port_input;
 mod refusal;
 mod running;
+mod stops;
 mod taking;
 mod tally;
 

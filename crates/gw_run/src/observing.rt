@@ -60,6 +60,10 @@ impl<G: Gate> Gate for Waiting<'_, G> {
         self.0.leave(port, index);
     }
 
+    fn stopped(&self, port: u8) {
+        self.0.stopped(port);
+    }
+
     fn before_replace(&self, index: usize) {
         self.0.before_replace(index);
     }

@@ -1,4 +1,4 @@
-//! The octets of a whole trace.
+//! The octets of a whole input.
 
 ghost use Rattle.std.specs.Prelude.{◌≡◌, ◌⊎◌, ◌++◌, ℕ, List, false, IfOk, IfErr, OnOk};
 ghost use Rattle.gw_io.specs.Tries.{inner_of, has_failed, reads_of, unended_reads};
@@ -13,8 +13,8 @@ use gw_trace::TraceRefusal;
 use std::alloc::Global;
 use std::io::Read;
 
-/// Reads a trace to its end: 96 where a read failed or 16777216 reads did not reach the end, 100 for want of memory.
-pub(crate) fn read_trace<R: Read>(
+/// Reads an input to its end: 96 where a read failed or 16777216 reads did not reach the end, 100 for want of memory.
+pub(crate) fn read_whole<R: Read>(
     alloc: Global,
     reader: &mut Tried<R>,
 ) -> Result<Vec<u8>, ForwardRefusal>
@@ -29,7 +29,7 @@ pub(crate) fn read_trace<R: Read>(
     Ok(octets)
 }
 
-/// Appends what a reader gives to its end. It refuses as `read_trace` does.
+/// Appends what a reader gives to its end. It refuses as `read_whole` does.
 pub(crate) fn read_rest<R: Read>(
     octets: &mut Vec<u8>,
     reader: &mut Tried<R>,

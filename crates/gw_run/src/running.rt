@@ -1,11 +1,10 @@
-//! A run of a gateway on the shares of a trace, or on the lists of a log's frames.
+//! A run of a gateway on inputs of any kind, and on the lists of a log's frames.
 
 ghost use Rattle.std.specs.Prelude.{◌≡◌, ◌≤◌, ◌<◌, ◌⊎◌, ℕ, List, map, slice_index_or, vec_len};
 ghost use Rattle.std.specs.Prelude.{IfOk, IfErr, IfNone, IfSome, All};
 ghost use Rattle.std.specs.Iterator.{IsFinite};
 ghost use Rattle.std.specs.Vec.Iter.{into_iter_items};
-ghost use Rattle.gw_trace.specs.Shares.{share_of};
-ghost use Rattle.gw_run.specs.Forwarding.{AreShares, EndsRun, IsFirstStop, IsListRun, IsRunOn, IsRunOver, IsStopOf};
+ghost use Rattle.gw_run.specs.Forwarding.{EndsRun, IsFirstStop, IsListRun, IsRunOver, IsStopOf};
 ghost use Rattle.gw_run.specs.Forwarding.{KeepsRun, NoneStopped, RefusesInputs};
 ghost use Rattle.gw_run.specs.Tallies.{AreTallies, IsToldOf};
 ghost use Rattle.gw_ledger.specs.Bounds.{Bounds};
@@ -22,30 +21,12 @@ use crate::tally::lane_tallies;
 use gw_frame::Frame;
 use gw_ledger::Limits;
 use gw_policy::Batch;
-use gw_ports::{OfferRefusal, Report, RunEnd, run_with};
-use gw_trace::{Checked, Share};
+use gw_ports::{Gate, OfferRefusal, Report, RunEnd, run_with};
 use std::alloc::{AllocError, Global};
 use std::marker::{Send, Sync};
 use std::sync::Wait;
 use std::thread::Threads;
 use std::vec::IntoIter;
-
-/// Offers each port its share of the frames, and tells what became of them: see `run_inputs`. It may wait.
-pub(crate) fn run_shares<R: Threads + Wait + Sync, G: Observer>(
-    rt: &R,
-    alloc: Global,
-    limits: Limits,
-    first: Batch,
-    trace: &Checked,
-    observer: &G,
-) -> Result<Kept, ForwardRefusal>
-    requires { All (λ pair. pair.port < limits.ports) first }
-    ensures ran { IfOk result (KeepsRun limits.ports (IsRunOn limits first trace.now) G.waits) }
-    ensures refused { IfErr result (RefusesInputs (IsRunOn limits first trace.now) limits first) }
-{
-    let inputs = shares(alloc, trace, limits.ports() as usize)?;
-    run_inputs(rt, alloc, limits, first, inputs, observer)
-}
 
 /// Offers each port the frames of its list, and tells what became of them: see `run_inputs`. It may wait.
 pub(crate) fn run_lists<R: Threads + Wait + Sync, G: Observer>(
@@ -89,7 +70,7 @@ fn run_inputs<R: Threads + Wait + Sync, G: Observer, I: Iterator<Item = Frame> +
 }
 
 /// Offers each port the frames of its input, and counts what became of them. It may wait.
-pub(crate) fn run_over<R: Threads + Wait + Sync, G: Observer, I: Iterator<Item = Frame> + Send>(
+pub(crate) fn run_over<R: Threads + Wait + Sync, G: Gate, I: Iterator<Item = Frame> + Send>(
     rt: &R,
     alloc: Global,
     limits: Limits,
@@ -135,22 +116,6 @@ pub(crate) fn unstopped(
         ledgers: report.ins,
         lanes,
     })
-}
-
-/// The ports' shares.
-fn shares<'a>(
-    alloc: Global,
-    trace: &Checked<'a>,
-    ports: usize,
-) -> Result<Vec<Share<'a>>, AllocError>
-    requires { (0 < ports) × (ports ≤ 16) }
-    ensures { IfOk result (λ made. AreShares ports trace.now made.items) }
-{
-    let mut inputs = Vec::with_capacity(alloc, ports)?;
-    for port in 0..ports {
-        inputs.push_reserved(trace.share(port, ports));
-    }
-    Ok(inputs)
 }
 
 /// The lists as iterators.
