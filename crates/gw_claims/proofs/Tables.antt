@@ -5,7 +5,7 @@ use Rattle.std.proofs.Common.{refl, arith}
 use Rattle.std.proofs.lemmas.Bool.{eqb-true, eqb-false, eq-eqb, ne_eqb, and_parts, and_from, or_cases, or_left, or_right}
 use Rattle.std.proofs.lemmas.Bool.{false≢true, leb-true, le-leb, lt-leb, cases_eq, not_from_false, not_from_true, not-true}
 use Rattle.std.proofs.lemmas.Bool.{and_left, lt-ltb, le-ltb, cases_lt, false_from_ne_true}
-use Rattle.std.proofs.lemmas.List.{get_or-set_other, get_or-set_same, length-set, set_past}
+use Rattle.std.proofs.lemmas.List.{get_or-set_other, get_or-set_same, get_or_past, length-set, set_past}
 use Rattle.std.specs.Option.{is_some, option_map_or}
 use Rattle.gw_claims.specs.Claims.{Claim, is_held_by, is_held, is_defended, without_name, without_address, claims_taken}
 use Rattle.gw_claims.specs.Holders.{holder_of, IsTableOf, IsTable, GivesUp, is_open_to, table_taken}
@@ -190,21 +190,79 @@ not_local false rest a d = refl
 not_local true rest a d = cc
 
 -- what a claim leaves, where the table follows it in the same two steps
-module _ (old between new : List (Option ℕ)) (claims : List Claim) where
-  claim_followed : (address name : ℕ) → GivesUp old between name → new ≡ table_taken between address name → length between ≡ 254
-      → IsTableOf old claims → IsTableOf new (claims_taken address name (without_name name claims))
-  claim_followed a n gives takes long t =
-      subst (λ table. IsTableOf table (claims_taken a n (without_name n claims))) (sym takes)
-      (taken between (without_name n claims) a n long (given_up old between claims n gives t))
+pub claim_followed : (old between new : List (Option ℕ)) (claims : List Claim) (address name : ℕ) → GivesUp old between name
+    → new ≡ table_taken between address name → length between ≡ 254 → IsTableOf old claims
+    → IsTableOf new (claims_taken address name (without_name name claims))
+claim_followed old between new claims a n gives takes long t =
+    subst (λ table. IsTableOf table (claims_taken a n (without_name n claims))) (sym takes)
+    (taken between (without_name n claims) a n long (given_up old between claims n gives t))
 
-  -- a record that counts is heard as the claim that it makes
-  pub record_followed : (counts : Bool) (address name : ℕ) (heard : Heard)
-      → Some heard ≡ (if counts then Some (record { address = address; name = name }) else None)
-      → GivesUp old between heard.name → new ≡ table_taken between heard.address heard.name → length between ≡ 254
-      → IsTableOf old claims
-      → IsTableOf new (if counts then claims_taken address name (without_name name claims) else claims)
-  record_followed true a n heard is gives takes long t =
-      let claim : heard ≡ record { address = a; name = n } = cc in
-      subst (λ h. IsTableOf new (claims_taken h.address h.name (without_name h.name claims))) claim
-      (claim_followed heard.address heard.name gives takes long t)
-  record_followed false a n heard is gives takes long t = cc
+-- a claim of the NAME that holds the address: it gives the address up, and takes it again
+module _ (table : List (Option ℕ)) (address name : ℕ) (t : IsTable table) (has : holder_of table address ≡ Some name) where
+  abbrev cleared : List (Option ℕ)
+  cleared = set table address None
+
+  inside : address < length table
+  inside = elim (cases_lt address (length table)) [
+    | inl below ↦ below
+    | inr past ↦ let nobody_there = get_or_past table address None past in cc
+  ]
+
+  given : GivesUp table cleared name
+  given = record {
+    others = λ a n. (
+      (λ held. let before = still_held table address a n held in (
+        before,
+        (λ same.
+            let here = t.one_each a address name (before ∙ ap Some same) has in
+            let nobody_there = get_or-set_same table address None None inside in
+            let held_there : holder_of (set table address None) address ≡ Some n =
+            subst (λ k. holder_of (set table address None) k ≡ Some n) here held in
+            cc),
+      )),
+      (λ held.
+          get_or-set_other table address a None None
+          (λ same. let before = subst (λ k. holder_of table k ≡ Some n) same held.0 in held.1 cc) ∙ held.0),
+    );
+  }
+
+  retaken : (a : ℕ) → holder_of (set cleared address (Some name)) a ≡ holder_of table a
+  retaken a = elim (cases_eq a address) [
+    | inl same ↦
+        ap (λ k. holder_of (set cleared address (Some name)) k) same
+        ∙ get_or-set_same cleared address (Some name) None (subst (λ n. address < n) (sym (length-set table address None)) inside)
+        ∙ sym has ∙ ap (holder_of table) (sym same)
+    | inr other ↦
+        get_or-set_other cleared address a (Some name) None other ∙ get_or-set_other table address a None None other
+  ]
+
+  free : is_open_to cleared address name ≡ true
+  free =
+      let within : nat_le address 253 ≡ true = le-leb address 253 (omega (arith, inside, t.addresses)) in
+      and_from _ _ within
+      (ap (λ holder. option_map_or (λ held. nat_lt name held) holder true) (get_or-set_same table address None None inside))
+
+  -- so the table stays
+  pub claimed_again : (claims : List Claim) → IsTableOf table claims
+      → IsTableOf table (claims_taken address name (without_name name claims))
+  claimed_again claims is =
+      let after =
+      claim_followed table cleared (set cleared address (Some name)) claims address name given
+      (sym (ap (λ (b : Bool). if b then set cleared address (Some name) else cleared) free))
+      (length-set table address None ∙ t.addresses) is in
+      record {
+        held = λ a n. (
+          (λ held. (after.held a n).0 (retaken a ∙ held)),
+          (λ stands. sym (retaken a) ∙ (after.held a n).1 stands),
+        );
+      }
+
+-- a record that counts is heard as the claim that it makes, and another changes nothing
+pub record_followed : (new : List (Option ℕ)) (claims : List Claim) (counts : Bool) (address name : ℕ) (heard : Heard)
+    → Some heard ≡ (if counts then Some (record { address = address; name = name }) else None)
+    → IsTableOf new (claims_taken heard.address heard.name (without_name heard.name claims))
+    → IsTableOf new (if counts then claims_taken address name (without_name name claims) else claims)
+record_followed new claims true a n heard is follows =
+    let claim : heard ≡ record { address = a; name = n } = cc in
+    subst (λ h. IsTableOf new (claims_taken h.address h.name (without_name h.name claims))) claim follows
+record_followed new claims false a n heard is follows = cc

@@ -1,8 +1,8 @@
 //! The addresses that are held on one segment: SAE J1939-81, address claim and contention.
 
-ghost use Rattle.std.specs.Prelude.{◌≡◌, ◌≢◌, ◌<◌, ℕ, List, [], ◌∷◌, length, Some, None, IfSome, IfNone};
-ghost use Rattle.gw_claims.specs.Claims.{Claim, claims_with, is_local, is_local_among};
-ghost use Rattle.gw_claims.specs.Holders.{holder_of, IsTableOf, HoldsAfter, GivesUp, table_taken};
+ghost use Rattle.std.specs.Prelude.{◌≡◌, ◌≢◌, ◌<◌, ℕ, List, [], ◌∷◌, length, Some, None, IfSome, IfNone, IsTrue};
+ghost use Rattle.gw_claims.specs.Claims.{Claim, claims_taken, claims_with, without_name, is_local, is_local_among};
+ghost use Rattle.gw_claims.specs.Holders.{holder_of, IsTable, IsTableOf, HoldsAfter, GivesUp, table_taken};
 
 use crate::address_claimed::claim_of;
 use gw_frame::Frame;
@@ -53,9 +53,20 @@ impl Claims {
         ensures step { (claims : List Claim) → IsTableOf self.old claims → IsTableOf self.new (claims_with frame.now claims) }
     {
         if let Some(claim) = claim_of(frame) {
-            self.give_up(claim.name);
-            self.take(claim.address, claim.name);
+            self.claim(claim.address, claim.name);
         }
+    }
+
+    /// The NAME claims an address. Most claims are heard again of who holds it: they change nothing, and no table is walked.
+    fn claim(&mut self, address: u8, name: Name)
+        ensures { (claims : List Claim) → IsTableOf self.old claims
+            → IsTableOf self.new (claims_taken address name (without_name name claims)) }
+    {
+        if self.is_held_by(address, name) {
+            return;
+        }
+        self.give_up(name);
+        self.take(address, name);
     }
 
     /// The NAME that holds an address, if any: none holds one above 253.
@@ -90,6 +101,15 @@ impl Claims {
             return false;
         };
         self.holder(address).is_some()
+    }
+
+    /// Whether the NAME holds the address.
+    fn is_held_by(&self, address: u8, name: Name) -> bool
+        ensures held { IsTrue result → holder_of self.now address ≡ Some name }
+        ensures table { IsTable self.now }
+    {
+        let index = usize::from(address);
+        index < ADDRESSES && self.holders[index] == Some(name)
     }
 
     /// The NAME holds no address any more.

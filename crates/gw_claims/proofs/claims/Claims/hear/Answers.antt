@@ -1,19 +1,16 @@
-use Rattle.std.proofs.Common.{List, refl}
+use Rattle.std.proofs.Common.{List}
 use Rattle.gw_claims.specs.Claims.{Claim, is_claim, claimed_address, claimed_name, claims_with, claims_after}
 use Rattle.gw_claims.specs.Holders.{IsTableOf}
 use Rattle.gw_claims.proofs.Tables.{record_followed}
 use Rattle.gw_claims.proofs.claims.Claims.hear.Goals as goal
-use Rattle.gw_claims.proofs.claims.Claims.hear.Goals.{After-take}
+use Rattle.gw_claims.proofs.claims.Claims.hear.Goals.{After-claim}
 
-pub take-requires : goal.take-requires
-take-requires c = λ other has. ((c.give_up.ensures.others.others other _).0 has).1 refl
-
-followed : (c : After-take) (claims : List Claim) → IsTableOf c.args.self.now claims
-    → IsTableOf c.take.new.self (claims_with c.args.frame.now claims)
+followed : (c : After-claim) (claims : List Claim) → IsTableOf c.args.self.now claims
+    → IsTableOf c.claim.new.self (claims_with c.args.frame.now claims)
 followed c claims t =
-    record_followed c.args.self.now c.give_up.new.self c.take.new.self claims (is_claim c.args.frame.now)
+    record_followed c.claim.new.self claims (is_claim c.args.frame.now)
     (claimed_address c.args.frame.now) (claimed_name c.args.frame.now)
-    c.in-Some.claim c.in-Some.ensures c.give_up.ensures.others c.take.ensures c.give_up.ensures.addresses t
+    c.in-Some.claim c.in-Some.ensures (c.claim.ensures claims t)
 
 pub returns-in-Some-clause-heard : goal.returns-in-Some-clause-heard
 returns-in-Some-clause-heard c = λ heard t. followed c (claims_after heard) t
