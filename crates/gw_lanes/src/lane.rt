@@ -1,6 +1,7 @@
 //! The two ends of a lane, which is a ring of `rtrb`. None of their calls waits or takes memory.
 
-ghost use Rattle.std.specs.Prelude.{◌≡◌, ◌+◌, ◌≤◌, ◌++◌, ◌∷◌, [], List, length, MatchResult, MatchOption, vec_len, vec_capacity};
+ghost use Rattle.std.specs.Prelude.{◌≡◌, ◌+◌, ◌≤◌, ◌++◌, ◌∷◌, [], List, length, take, MatchResult, MatchOption};
+ghost use Rattle.std.specs.Prelude.{vec_len, vec_capacity};
 ghost use Rattle.gw_ledger.specs.declared.outcome.FrameCopy.{FrameCopy};
 
 use gw_ledger::FrameCopy;
@@ -83,6 +84,15 @@ impl LaneOut {
             (λ copy. self.new ≡ record self.old { taken = self.old.taken ++ copy ∷ [] }) }
     {
         self.consumer.pop().ok()
+    }
+
+    /// Takes the oldest copies that are found into the front of a slice, as many as it has room for, and tells how many. One step
+    /// on the lane takes them all, so many take little longer than one.
+    pub fn pop_many(&mut self, copies: &mut [FrameCopy]) -> usize
+        ensures fits { (result ≤ length copies.new) × (length copies.new ≡ length copies.old) }
+        ensures taken { self.new ≡ record self.old { taken = self.old.taken ++ take result copies.new } }
+    {
+        self.consumer.pop_partial_slice(copies)
     }
 
     /// How many copies wait between the two ends of one lane.

@@ -13,8 +13,8 @@ use Rattle.gw_ledger.specs.declared.outcome.Outcome.{Outcome}
 use Rattle.gw_lanes.specs.Ends.{Inlet, Outlet}
 use Rattle.gw_ports.specs.Ends.{Ingress, Egress, lane_at}
 use Rattle.gw_ports.specs.Placing.{Appends}
-use Rattle.gw_ports.specs.Running.{Offers, Takes}
-use Rattle.gw_ports.specs.Sending.{PopsFrom, sent_with}
+use Rattle.gw_ports.specs.Running.{Offers}
+use Rattle.gw_ports.specs.Sending.{PopsFrom, Takes, sent_with}
 use Rattle.gw_ports.specs.Reports.{and_sent, copies_to, from_port, placed_copy}
 
 -- the copies that were placed on a lane, and those that were taken from one

@@ -18,6 +18,7 @@ pub mod Runs
 pub mod Gathering
 pub mod Feeding
 pub mod Sinks
+pub mod Taking
 pub mod Room
 pub mod Opening
 pub mod Judged

@@ -10,12 +10,10 @@ use Rattle.gw_board.specs.Ends.{Publishing}
 use Rattle.gw_board.specs.Refusals.{Refuses}
 use Rattle.gw_board.specs.declared.refusals.ReplaceRefusal.{ReplaceRefusal}
 use Rattle.gw_policy.specs.Batches.{Pair}
-use Rattle.gw_ledger.specs.declared.outcome.FrameCopy.{FrameCopy}
 use Rattle.gw_ledger.specs.declared.outcome.Outcome.{Outcome}
-use Rattle.gw_ports.specs.Ends.{Ingress, Egress}
+use Rattle.gw_ports.specs.Ends.{Ingress}
 use Rattle.gw_ports.specs.Offers.{Offered}
-use Rattle.gw_ports.specs.Running.{Offers, Pairwise, Takes, with_batches}
-use Rattle.gw_ports.specs.Sending.{Sends}
+use Rattle.gw_ports.specs.Running.{Offers, Pairwise, with_batches}
 
 -- what was heard, newest first, after more frames
 abbrev pub heard_after : List (List ℕ) → List (List ℕ) → List (List ℕ)
@@ -44,13 +42,6 @@ yields_more steps s [] now item new same step =
     (new, subst (λ m. steps m (Some item) new) (sym same) step, refl)
 yields_more steps s (first ∷ items) now item new yields step =
     (yields.0, yields.1, yields_more steps yields.0 items now item new yields.2 step)
-
-pub takes_more : (old : Egress) (copies : List FrameCopy) (now : Egress) (copy : FrameCopy) (ingress : ℕ) (new : Egress)
-    → Takes old copies now → Sends ingress now copy new → Takes old (copies ++ copy ∷ []) new
-takes_more old [] now copy ingress new same sends =
-    (ingress, new, subst (λ (e : Egress). Sends ingress e copy new) same sends, refl)
-takes_more old (first ∷ copies) now copy ingress new takes sends =
-    (takes.0, takes.1, takes.2, takes_more takes.1 copies now copy ingress new takes.3 sends)
 
 pub pairwise_more : {A B : Type 0} (R : A → B → Type 0) (xs : List A) (ys : List B) (x : A) (y : B) → Pairwise R xs ys → R x y
     → Pairwise R (xs ++ x ∷ []) (ys ++ y ∷ [])

@@ -11,12 +11,17 @@ use Rattle.gw_ports.specs.declared.running.feed.Feed.{Feed}
 use Rattle.gw_ports.specs.declared.running.drain.Drain.{Drain}
 use Rattle.gw_ports.proofs.Runs.{all_tail}
 
+-- one list behind another
+pub handed_on : {K A : Type 0} (takes : K → A → K → Type 0) (old : K) (items more : List A) (now new : K)
+    → Handed takes old items now → Handed takes now more new → Handed takes old (items ++ more) new
+handed_on {K} takes old [] more now new same handed = subst (λ (k : K). Handed takes k more new) same handed
+handed_on takes old (first ∷ items) more now new before handed =
+    (before.0, before.1, handed_on takes before.0 items more now new before.2 handed)
+
 -- one item more
 pub handed_more : {K A : Type 0} (takes : K → A → K → Type 0) (old : K) (items : List A) (now : K) (item : A) (new : K)
     → Handed takes old items now → takes now item new → Handed takes old (items ++ item ∷ []) new
-handed_more {K} takes old [] now item new handed took = (new, subst (λ (k : K). takes k item new) handed took, refl)
-handed_more takes old (first ∷ items) now item new handed took =
-    (handed.0, handed.1, handed_more takes handed.0 items now item new handed.2 took)
+handed_more takes old items now item new handed took = handed_on takes old items (item ∷ []) now new handed (new, took, refl)
 
 -- a list has what it was handed, in the same room
 

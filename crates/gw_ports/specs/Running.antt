@@ -14,7 +14,7 @@ use Rattle.gw_ports.specs.Ends.{Ingress, Egress, end_in, end_out}
 use Rattle.gw_ports.specs.Making.{nothing_counted}
 use Rattle.gw_ports.specs.Offers.{IsPlaced, Offered}
 use Rattle.gw_ports.specs.Reports.{sum_of_others}
-use Rattle.gw_ports.specs.Sending.{Sends}
+use Rattle.gw_ports.specs.Sending.{Takes}
 use Rattle.gw_ports.specs.Sinks.{Handed, HasRoomFor}
 use Rattle.gw_ports.specs.declared.refusals.OfferRefusal.{OfferRefusal}
 use Rattle.gw_ports.specs.declared.refusals.OfferRefusal.TheVariants.{FramesSpent}
@@ -120,11 +120,6 @@ pub record AreRoomFor (frames : ℕ) (sizes : List ℕ) (outcomes : List (Vec Ou
       → sum_of_others k (map (λ size. min size frames) sizes) ≡ slice_index (map (λ list. vec_capacity list) out) k
 
 -- ---- an egress port
-
--- the copies left the port one after another
-abbrev pub Takes : Egress → List FrameCopy → Egress → Type 0
-Takes old [] new = new ≡ old
-Takes old (copy ∷ copies) new = (ingress : ℕ) × (next : Egress) × Sends ingress old copy next × Takes next copies new
 
 -- what an egress port did: the copies that left there
 pub record Drained : Type 0 where

@@ -1,5 +1,6 @@
 -- What taking a copy out does.
-use Rattle.std.specs.Prelude.{◌≡◌, ℕ, ◌<◌, List, length, ◌++◌, ◌∷◌, [], slice_index, slice_set, Option, Some}
+use Rattle.std.specs.Prelude.{◌≡◌, ℕ, zero, suc, ◌<◌, List, length, ◌++◌, ◌∷◌, [], slice_index, slice_set}
+use Rattle.std.specs.Prelude.{Option, Some, option_map}
 use Rattle.gw_ledger.specs.Ledgers.{count_after}
 use Rattle.gw_ledger.specs.declared.ledger.OutLedger.{OutLedger}
 use Rattle.gw_ledger.specs.declared.outcome.FrameCopy.{FrameCopy}
@@ -27,3 +28,17 @@ pub record Sends (ingress : ℕ) (old : Egress) (copy : FrameCopy) (new : Egress
   pub port : new.port ≡ old.port
   pub lanes : PopsFrom ingress old.lanes copy new.lanes
   pub ledger : new.ledger ≡ sent_with old.ledger ingress
+
+-- the copies left the port one after another
+abbrev pub Takes : Egress → List FrameCopy → Egress → Type 0
+Takes old [] new = new ≡ old
+Takes old (copy ∷ copies) new = (ingress : ℕ) × (next : Egress) × Sends ingress old copy next × Takes next copies new
+
+-- the lane once these copies were taken from it
+abbrev pub taken_off : Option Outlet → List FrameCopy → Option Outlet
+taken_off lane copies = option_map (λ (outlet : Outlet). record outlet { taken = outlet.taken ++ copies }) lane
+
+-- the ledger with so many copies more of an ingress port
+abbrev pub sent_many : OutLedger → ℕ → ℕ → OutLedger
+sent_many ledger ingress zero = ledger
+sent_many ledger ingress (suc copies) = sent_with (sent_many ledger ingress copies) ingress

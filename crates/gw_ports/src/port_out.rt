@@ -1,8 +1,8 @@
 //! The end at which copies leave at a port.
 
-ghost use Rattle.std.specs.Prelude.{◌≡◌, ℕ, None, MatchOption, IsSome};
+ghost use Rattle.std.specs.Prelude.{◌≡◌, ◌≤◌, ◌<◌, ℕ, None, MatchOption, IsSome, length, slice_set, take};
 ghost use Rattle.gw_ports.specs.Ends.{lane_at, ring_to, ring_from};
-ghost use Rattle.gw_ports.specs.Sending.{Pops, PopsFrom};
+ghost use Rattle.gw_ports.specs.Sending.{Pops, PopsFrom, sent_many, taken_off};
 ghost use Rattle.gw_ports.specs.Closing.{IsWaiting};
 
 use crate::PortIn;
@@ -34,11 +34,12 @@ impl Model for PortOut {
 }
 
 impl PortOut {
-    ghost use Rattle.std.specs.Prelude.{◌≡◌, ◌≢◌, ◌<◌, ◌++◌, ◌∷◌, [], length, OnOk, ℕ, None, MatchOption, IfSome, IsSome};
+    ghost use Rattle.std.specs.Prelude.{◌≡◌, ◌≢◌, ◌<◌, ◌≤◌, ◌++◌, ◌∷◌, [], length, take, OnOk, ℕ, None, MatchOption, IfSome};
+    ghost use Rattle.std.specs.Prelude.{IsSome};
     ghost use Rattle.gw_ports.specs.Making.{new_egress};
     ghost use Rattle.gw_ports.specs.Ends.{taken_from, lane_at, ring_to, ring_from, end_out, IsSoundEgress};
     ghost use Rattle.gw_ports.specs.Closing.{IsWaiting};
-    ghost use Rattle.gw_ports.specs.Sending.{Sends};
+    ghost use Rattle.gw_ports.specs.Sending.{Sends, Takes};
 
     // An end without lanes.
     pub(crate) fn new(alloc: Global, port: u8) -> PortOut
@@ -62,6 +63,13 @@ impl PortOut {
     {
         self.lanes.push(lane)?;
         Ok(())
+    }
+
+    // How many ports the gateway has.
+    pub(crate) fn ports(&self) -> u8
+        ensures { result ≡ length self.now.lanes }
+    {
+        self.lanes.len() as u8
     }
 
     /// What it counted of the copies that left.
@@ -102,6 +110,18 @@ impl PortOut {
         let copy = dequeue(&mut self.lanes, usize::from(ingress))?;
         self.ledger.add_sent(ingress);
         Some(copy)
+    }
+
+    // The oldest copies that wait on the lane from an ingress port, as many as a slice has room for, in front of it; and how
+    // many.
+    pub(crate) fn many_from(&mut self, ingress: u8, copies: &mut [FrameCopy]) -> usize
+        ensures end { end_out self.new ≡ end_out self.old }
+        ensures fits { (result ≤ length copies.new) × (length copies.new ≡ length copies.old) }
+        ensures sent { Takes self.old (take result copies.new) self.new }
+    {
+        let count = dequeue_many(&mut self.lanes, usize::from(ingress), copies);
+        add_sent(&mut self.ledger, ingress, count);
+        count
     }
 
     // How many copies wait on the lane from an ingress port, whose end is `from`, if there is such a lane.
@@ -147,6 +167,40 @@ fn dequeue_from(lane: &mut Option<LaneOut>) -> Option<FrameCopy>
     match lane {
         Some(lane) => lane.pop(),
         None => None,
+    }
+}
+
+// The oldest copies of a lane, if there is such a lane, in front of a slice, and how many.
+fn dequeue_many(lanes: &mut [Option<LaneOut>], ingress: usize, copies: &mut [FrameCopy]) -> usize
+    ensures fits { (result ≤ length copies.new) × (length copies.new ≡ length copies.old) }
+    ensures there { 0 < result → (ingress < length lanes.old) × IsSome (lane_at lanes.old ingress) }
+    ensures taken { lanes.new
+        ≡ slice_set lanes.old ingress (taken_off (lane_at lanes.old ingress) (take result copies.new)) }
+{
+    if ingress >= lanes.len() {
+        return 0;
+    }
+    dequeue_many_from(&mut lanes[ingress], copies)
+}
+
+fn dequeue_many_from(lane: &mut Option<LaneOut>, copies: &mut [FrameCopy]) -> usize
+    ensures fits { (result ≤ length copies.new) × (length copies.new ≡ length copies.old) }
+    ensures there { 0 < result → IsSome lane.old }
+    ensures taken { lane.new ≡ taken_off lane.old (take result copies.new) }
+{
+    match lane {
+        Some(lane) => lane.pop_many(copies),
+        None => 0,
+    }
+}
+
+// Counts copies of an ingress port.
+fn add_sent(ledger: &mut OutLedger, ingress: u8, copies: usize)
+    requires { 0 < copies → ingress < 16 }
+    ensures { ledger.new ≡ sent_many ledger.old ingress copies }
+{
+    for _ in 0..copies {
+        ledger.add_sent(ingress);
     }
 }
 

@@ -13,9 +13,9 @@ pub trait Sink<T>: Drop {
     // How many items it has room for.
     ghost room: { Self → Count };
 
-    /// Whether it has room for no other item.
-    fn is_full(&self) -> bool
-        ensures { MatchBool result (¬ HasRoomFor (room self.now) 1) (HasRoomFor (room self.now) 1) };
+    /// Whether it has room for so many items.
+    fn has_room_for(&self, items: usize) -> bool
+        ensures { MatchBool result (HasRoomFor (room self.now) items) (¬ HasRoomFor (room self.now) items) };
 
     /// Hands it an item.
     fn take(&mut self, item: T)
@@ -33,8 +33,8 @@ impl<T: Drop> Sink<T> for Vec<T> {
 
     ghost room = { λ list. at_most (vec_capacity list - vec_len list) };
 
-    fn is_full(&self) -> bool {
-        self.len() >= self.capacity()
+    fn has_room_for(&self, items: usize) -> bool {
+        items <= self.capacity() - self.len()
     }
 
     fn take(&mut self, item: T) {

@@ -26,8 +26,8 @@ impl Sink<FrameCopy> for NoCopies {
 
     ghost room = { λ _. endless };
 
-    fn is_full(&self) -> bool {
-        false
+    fn has_room_for(&self, _items: usize) -> bool {
+        true
     }
 
     fn take(&mut self, _copy: FrameCopy) {}

@@ -68,8 +68,8 @@ impl Sink<Outcome> for Losses {
 
     ghost room = { room_of };
 
-    fn is_full(&self) -> bool {
-        self.frames == u64::MAX
+    fn has_room_for(&self, items: usize) -> bool {
+        items as u64 <= u64::MAX - self.frames
     }
 
     // A frame that lost no copy costs one comparison of two sets of ports.

@@ -120,3 +120,24 @@ fn lanes_of_several_lengths(rt: HostRuntime) -> Result<(), Fail> {
     }
     Ok(())
 }
+
+#[test]
+fn many_copies_at_once(rt: HostRuntime) -> Result<(), Fail> {
+    let ends = lanes(rt.alloc(), Limits::new(2, 4, 1, 1)?)?;
+    let (mut from, mut to) = first_lane(ends).expect(&rt, "a lane");
+    let frame = Frame::read(&ENGINE_SPEED)?;
+    for number in 0..3 {
+        assert!(rt; push(&mut from, frame, number).is_none());
+    }
+    let mut copies = [FrameCopy {
+        from: 0,
+        number: 9,
+        frame,
+    }; 2];
+    assert!(rt; to.pop_many(&mut copies) == 2);
+    assert!(rt; copies[0].number == 0 && copies[1].number == 1);
+    assert!(rt; to.pop_many(&mut copies) == 1);
+    assert!(rt; copies[0].number == 2 && copies[1].number == 1);
+    assert!(rt; to.pop_many(&mut copies) == 0);
+    Ok(())
+}

@@ -28,8 +28,8 @@ impl<T: Drop> Sink<T> for Counter {
 
     ghost room = { λ counter. at_most (18446744073709551615 - counter.items) };
 
-    fn is_full(&self) -> bool {
-        self.items == u64::MAX
+    fn has_room_for(&self, items: usize) -> bool {
+        items as u64 <= u64::MAX - self.items
     }
 
     fn take(&mut self, _item: T) {
