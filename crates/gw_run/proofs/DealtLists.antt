@@ -1,6 +1,6 @@
 -- A run on dealt frames is a run on the lists of the ports' shares.
-use Rattle.std.proofs.Common.{◌≡◌, ◌∙◌, ◌⊎◌, inl, inr, ℕ, zero, suc, ◌<◌, Bool, true, false, List, [], ◌∷◌, ◌++◌, length, map}
-use Rattle.std.proofs.Common.{MatchBool, Option, Some, None, slice_index_or, append-nil, append_assoc, ap, arith, refl, subst, sym}
+use Rattle.std.proofs.Common.{◌≡◌, ◌∙◌, ◌⊎◌, inl, inr, ℕ, zero, suc, ◌<◌, false, List, [], ◌∷◌, ◌++◌, length, map}
+use Rattle.std.proofs.Common.{Option, Some, None, slice_index_or, append-nil, append_assoc, ap, arith, refl, subst, sym, ⊎_elim}
 use Rattle.std.specs.Iterator.{Yields}
 use Rattle.gw_ports.specs.Running.{Fed, Feeding, Gives, IsDone, Pairwise}
 use Rattle.gw_ports.specs.declared.refusals.OfferRefusal.{OfferRefusal}
@@ -114,14 +114,9 @@ pub record IsPortDealt (whole : List (List ℕ)) (input rest : Taken) : Type 0 w
 -- what was put behind the frames: their end, where all of them were put, or nothing
 module _ {whole : List (List ℕ)} {input rest : Taken} (is : IsPortDealt whole input rest) where
   behind : (tail : List Dealt) × ((tail ≡ []) ⊎ (tail ≡ None ∷ [])) × (is.ended.put ≡ dealt is.put.front ++ tail)
-  behind = by is.ended.is_left is.end.put
-    where
-      by : (left : Bool)
-          → MatchBool left (is.ended.put ≡ is.dealt_to.put)
-          ((is.ended.put ≡ is.dealt_to.put ++ None ∷ []) × (is.dealt_to.is_left ≡ false))
-          → (tail : List Dealt) × ((tail ≡ []) ⊎ (tail ≡ None ∷ [])) × (is.ended.put ≡ dealt is.put.front ++ tail)
-      by true same = ([], inl refl, same ∙ is.put.put ∙ sym (append-nil (dealt is.put.front)))
-      by false same = (None ∷ [], inr refl, same.0 ∙ ap (λ (l : List Dealt). l ++ None ∷ []) is.put.put)
+  behind =
+      ⊎_elim (λ more. (None ∷ [], inr refl, more.0 ∙ ap (λ (l : List Dealt). l ++ None ∷ []) is.put.put))
+      (λ same. ([], inl refl, same.0 ∙ is.put.put ∙ sym (append-nil (dealt is.put.front)))) is.end.put
 
   -- some of the frames were taken
   some_taken : (frames : List (List ℕ)) → rest.items ≡ dealt frames → (left : List (List ℕ)) × (whole ≡ frames ++ left)
@@ -134,19 +129,16 @@ module _ {whole : List (List ℕ)} {input rest : Taken} (is : IsPortDealt whole 
 
   -- all of them were, and their end
   all_taken : (frames : List (List ℕ)) → rest.items ≡ dealt frames ++ None ∷ [] → whole ≡ frames ++ []
-  all_taken frames taken = by is.ended.is_left is.end.put
+  all_taken frames taken =
+      ⊎_elim
+      (λ more.
+      is.put.parts ∙ ap (λ (l : List (List ℕ)). is.put.front ++ l) (is.put.whole more.1)
+      ∙ ap (λ (l : List (List ℕ)). l ++ [])
+      (sym (taken_all frames is.put.front is.more (so ∙ more.0 ∙ ap (λ (l : List Dealt). l ++ None ∷ []) is.put.put))))
+      (λ same. absurd (no_end frames is.put.front is.more (so ∙ same.0 ∙ is.put.put))) is.end.put
     where
       so : (dealt frames ++ None ∷ []) ++ is.more ≡ is.ended.put
       so = ap (λ (l : List Dealt). l ++ is.more) (sym taken) ∙ is.taken
-
-      by : (left : Bool)
-          → MatchBool left (is.ended.put ≡ is.dealt_to.put)
-          ((is.ended.put ≡ is.dealt_to.put ++ None ∷ []) × (is.dealt_to.is_left ≡ false)) → whole ≡ frames ++ []
-      by true same = absurd (no_end frames is.put.front is.more (so ∙ same ∙ is.put.put))
-      by false same =
-          is.put.parts ∙ ap (λ (l : List (List ℕ)). is.put.front ++ l) (is.put.whole same.1)
-          ∙ ap (λ (l : List (List ℕ)). l ++ [])
-          (sym (taken_all frames is.put.front is.more (so ∙ same.0 ∙ ap (λ (l : List Dealt). l ++ None ∷ []) is.put.put)))
 
 port_list : (whole : List (List ℕ)) (input rest : Taken) (frames : List (List ℕ)) (stop : Option OfferRefusal)
     (gave : Gives TakesItem input frames stop rest) → IsPortDealt whole input rest

@@ -1,7 +1,7 @@
 -- What is dealt to the ports, frame by frame.
 use Rattle.std.proofs.Common.{◌≡◌, ◌≢◌, ◌∙◌, ℕ, zero, suc, ◌+◌, ◌*◌, ◌/◌, ◌%◌, ◌<◌, ◌==◌, Bool, true, false, if◌then◌else◌}
 use Rattle.std.proofs.Common.{List, [], ◌∷◌, ◌++◌, length, map, slice_index_or, slice_set, Some, ap, arith, refl, subst, sym}
-use Rattle.std.proofs.Common.{append-nil, append_assoc, MatchBool, true≢false, ⊎_elim}
+use Rattle.std.proofs.Common.{append-nil, append_assoc, true≢false, ⊎_elim}
 use Rattle.std.proofs.lemmas.Bool.{cases_eq}
 use Rattle.std.proofs.lemmas.Bool.Decides.{nat_tests}
 use Rattle.std.proofs.Math.ListN.{length-set}
@@ -100,28 +100,25 @@ some_more (first ∷ frames) frame = ap (λ (l : List Dealt). Some first ∷ l) 
 
 put_one : (frames : List (List ℕ)) (frame : List ℕ) (old new : Putting) → HasPut frames old → Puts old (Some frame) new
     → HasPut (frames ++ frame ∷ []) new
-put_one frames frame old new has puts = by new.is_left refl puts.put
-  where
-    by : (left : Bool) → new.is_left ≡ left
-        → MatchBool left (new.put ≡ old.put) ((new.put ≡ old.put ++ Some frame ∷ []) × (old.is_left ≡ false))
-        → HasPut (frames ++ frame ∷ []) new
-    by true is same = record {
-      front = has.front;
-      others = has.others ++ frame ∷ [];
-      parts = ap (λ (l : List (List ℕ)). l ++ frame ∷ []) has.parts ∙ append_assoc has.front has.others (frame ∷ []);
-      put = same ∙ has.put;
-      whole = λ fine. absurd (true≢false (sym is ∙ fine));
-    }
-    by false is (more, going) = record {
+put_one frames frame old new has puts =
+    ⊎_elim
+    (λ more. record {
       front = has.front ++ frame ∷ [];
       others = [];
       parts =
           ap (λ (l : List (List ℕ)). l ++ frame ∷ [])
-          (has.parts ∙ ap (λ (l : List (List ℕ)). has.front ++ l) (has.whole going) ∙ append-nil has.front)
+          (has.parts ∙ ap (λ (l : List (List ℕ)). has.front ++ l) (has.whole more.1) ∙ append-nil has.front)
           ∙ sym (append-nil (has.front ++ frame ∷ []));
-      put = more ∙ ap (λ (l : List Dealt). l ++ Some frame ∷ []) has.put ∙ sym (some_more has.front frame);
+      put = more.0 ∙ ap (λ (l : List Dealt). l ++ Some frame ∷ []) has.put ∙ sym (some_more has.front frame);
       whole = λ fine. refl;
-    }
+    })
+    (λ same. record {
+      front = has.front;
+      others = has.others ++ frame ∷ [];
+      parts = ap (λ (l : List (List ℕ)). l ++ frame ∷ []) has.parts ∙ append_assoc has.front has.others (frame ∷ []);
+      put = same.0 ∙ has.put;
+      whole = λ fine. absurd (true≢false (sym same.1 ∙ fine));
+    }) puts.put
 
 -- ---- by port
 
@@ -138,7 +135,8 @@ module _ (ports : List Putting) (turn : ℕ) (new : Putting) (inside : turn < le
   there k d other = get_or-set_other ports turn k new d other
 
   -- no end changed its ring
-  pub same_rings : (item : Dealt) → ((d : Putting) → Puts (slice_index_or ports turn d) item new) → AreSameRings ports (slice_set ports turn new)
+  pub same_rings : (item : Dealt) → ((d : Putting) → Puts (slice_index_or ports turn d) item new)
+      → AreSameRings ports (slice_set ports turn new)
   same_rings item puts = record {
     enough = many;
     each = λ k d below.

@@ -1,3 +1,4 @@
+mod Batches
 pub mod DealtForwards
 pub mod DealtLists
 pub mod DealtRings

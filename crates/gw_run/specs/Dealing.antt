@@ -1,5 +1,6 @@
 -- What the thread that reads a trace deals to the ports.
-use Rattle.std.specs.Prelude.{◌≡◌, ◌<◌, ◌⊎◌, ◌%◌, ℕ, Bool, true, false, List, [], ◌++◌, length, map, slice_index_or, Option, Some, Err}
+use Rattle.std.specs.Prelude.{◌≡◌, ◌<◌, ◌⊎◌, ◌%◌, ℕ, Bool, true, false, List, [], ◌++◌, length, map, slice_index_or}
+use Rattle.std.specs.Prelude.{Option, Some, Err}
 use Rattle.gw_trace.specs.Shares.{share_of}
 use Rattle.gw_trace.specs.Traces.{whole_trace}
 use Rattle.gw_trace.specs.declared.refusal.TraceRefusal.{TraceRefusal}

@@ -1,5 +1,5 @@
--- The two ends of what a thread that reads a trace hands a port: `ring` is which ring of `rtrb` an end is of, as both ends know it.
-use Rattle.std.specs.Prelude.{◌≡◌, ◌<◌, ◌^◌, ℕ, Bool, true, false, List, [], ◌∷◌, ◌++◌, length, Option, MatchBool, is_none}
+-- The two ends of what a thread that reads a trace hands a port: `ring` is which ring of `rtrb` it is, as both ends know it.
+use Rattle.std.specs.Prelude.{◌≡◌, ◌⊎◌, ◌<◌, ◌^◌, ℕ, Bool, true, false, List, [], ◌∷◌, ◌++◌, length, Option, is_none}
 use Rattle.std.specs.declared.alloc.Global.{Global}
 use Rattle.rtrb.specs.Shared.{Names}
 use Rattle.rtrb.specs.declared.end.End.{End}
@@ -31,6 +31,10 @@ pub record Taken : Type 0 where
   pub items : List Dealt
   pub is_over : Bool
 
+-- a list ends with these items
+abbrev pub EndsWith : List Dealt → List Dealt → Type 0
+EndsWith items last = (first : List Dealt) × (items ≡ first ++ last)
+
 -- the ends of a new ring
 pub record IsNewRing (dealt_in : Putting) (dealt_out : Taken) : Type 0 where
   pub one : dealt_in.ring ≡ dealt_out.ring
@@ -41,10 +45,15 @@ pub record IsNewRing (dealt_in : Putting) (dealt_out : Taken) : Type 0 where
 abbrev pub MayFollow : List Dealt → Dealt → Type 0
 MayFollow before item = length before < 2 ^ 64
 
--- an item was put behind the others; or the port was left, now or before, and none is put any more
+-- an item was put behind the others, which no port that was left before gets; or none was put, and the port is left
 pub record Puts (old : Putting) (item : Dealt) (new : Putting) : Type 0 where
   pub same : new.ring ≡ old.ring
-  pub put : MatchBool new.is_left (new.put ≡ old.put) ((new.put ≡ old.put ++ item ∷ []) × (old.is_left ≡ false))
+  pub put : ((new.put ≡ old.put ++ item ∷ []) × (old.is_left ≡ false)) ⊎ ((new.put ≡ old.put) × (new.is_left ≡ true))
+  pub stays : old.is_left ≡ true → new.is_left ≡ true
+
+-- nothing was put, and the port may be left
+pub record Flushes (old : Putting) (new : Putting) : Type 0 where
+  pub same : new ≡ record old { is_left = new.is_left }
   pub stays : old.is_left ≡ true → new.is_left ≡ true
 
 -- the next item was taken: a frame, or the end of the frames

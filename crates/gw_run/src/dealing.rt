@@ -30,9 +30,9 @@ pub(crate) struct Dealer<'a, R> {
 }
 
 impl<R: Wait> Dealer<'_, R> {
-    /// Reads a trace to its end, and deals its frames: frame i to port i mod the number of ports. It refuses 90 to 93 and 95, what
-    /// is wrong with the trace, 94, no memory, and 96, that a read failed or 16777216 reads did not reach the end. `front` sees
-    /// how the trace begins. It may wait.
+    /// Reads a trace to its end, and deals its frames: frame i to port i mod the number of ports. It refuses 90 to 93 and 95,
+    /// what is wrong with the trace, 94, no memory, and 96, that a read failed or 16777216 reads did not reach the end. `front`
+    /// sees how the trace begins. It may wait.
     pub fn deal_trace<I: Read>(
         &mut self,
         alloc: Global,
@@ -75,7 +75,10 @@ impl<R: Wait> Dealer<'_, R> {
         ensures refused { IfErr result (λ why. why ≡ OutOfMemory) }
     {
         match trace.feed(alloc, piece) {
-            Ok(frames) => self.deal_all(frames),
+            Ok(frames) => {
+                self.deal_all(frames);
+                self.flush();
+            }
             Err(why) => {
                 if why == TraceRefusal::OutOfMemory {
                     return Err(why);
@@ -113,6 +116,17 @@ impl<R: Wait> Dealer<'_, R> {
         };
     }
 
+    /// Lets each port take what it was dealt.
+    fn flush(&mut self)
+        ensures turn { self.new.turn ≡ self.old.turn }
+        ensures rings { AreSameRings self.old.ports.items self.new.ports.items }
+        ensures dealt { (given : List (List ℕ)) → IsDealt given self.old → IsDealt given self.new }
+    {
+        for port in 0..self.ports.len() {
+            self.ports[port].flush(self.rt, port, self.stops);
+        }
+    }
+
     /// Tells each port that no other frame follows.
     pub fn end(&mut self)
         ensures rings { AreSameRings self.old.ports.items self.new.ports.items }
@@ -120,7 +134,7 @@ impl<R: Wait> Dealer<'_, R> {
             → Puts (slice_index_or self.old.ports.items k d) None (slice_index_or self.new.ports.items k d) }
     {
         for port in 0..self.ports.len() {
-            self.ports[port].put(self.rt, None, port, self.stops);
+            self.ports[port].end(self.rt, port, self.stops);
         }
     }
 }

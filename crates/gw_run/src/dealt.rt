@@ -1,23 +1,21 @@
 //! A port's frames of a trace, which another thread reads.
 
-ghost use Rattle.std.specs.Prelude.{◌≡◌, ◌<◌, ◌++◌, ℕ, List, Option, IfOk, IsTrue, false};
-ghost use Rattle.rtrb.specs.Ring.{ProducerLooked, known_free};
-ghost use Rattle.gw_run.specs.Dealt.{IsNewRing, Puts};
+ghost use Rattle.std.specs.Prelude.{◌≡◌, ◌++◌, ℕ, List, Option, None, IfOk};
+ghost use Rattle.rtrb.specs.Ring.{ProducerLooked};
+ghost use Rattle.gw_run.specs.Dealt.{Flushes, IsNewRing, Puts};
 
+use crate::batch::{BATCH, Batch};
 use crate::stops::Stops;
+use crate::waits::nap;
+use arrayvec::ArrayVec;
 use gw_frame::Frame;
 use rtrb::{Consumer, Producer, Protocol, RingBuffer};
 use std::alloc::{AllocError, Global};
-use std::hint::spin_loop;
 use std::marker::Model;
 use std::sync::Wait;
-use std::thread::yield_now;
 
-/// How many frames may wait for a port.
+/// How many frames may wait in a port's ring.
 const ROOM: usize = 4096;
-
-/// How many pauses of the processor stand between two looks at a ring.
-const PAUSES: u32 = 64;
 
 /// What a port is handed: the next of its frames, or none behind the last.
 pub(crate) type Dealt = Option<Frame>;
@@ -36,6 +34,8 @@ impl Protocol<Dealt> for Bounded {
 #[derive(Drop)]
 pub(crate) struct DealtIn {
     ring: Producer<Dealt, Global, Bounded>,
+    /// What was put here, and not yet into the ring: each step there is dear, so many items go at once.
+    batch: ArrayVec<Dealt, BATCH>,
     /// How many items may be put yet.
     room: u64,
     /// Whether the port takes no other frame.
@@ -43,7 +43,7 @@ pub(crate) struct DealtIn {
 }
 
 impl Model for DealtIn {
-    ghost use Rattle.std.specs.Prelude.{◌≡◌, ◌+◌, ◌-◌, ◌^◌, length};
+    ghost use Rattle.std.specs.Prelude.{◌≡◌, ◌+◌, ◌-◌, ◌^◌, ◌++◌, length};
     ghost use Rattle.rtrb.specs.Ring.{sent};
     ghost use Rattle.gw_run.specs.Dealt.{Putting, ring_of};
 
@@ -51,11 +51,11 @@ impl Model for DealtIn {
 
     ghost view = { λ d. record {
       ring = ring_of d.ring.end;
-      put = sent d.ring;
+      put = sent d.ring ++ d.batch.items;
       is_left = d.is_left;
     } };
 
-    ghost invariant = { λ d. d.room + length (sent d.ring) ≡ 2 ^ 64 - 1 };
+    ghost invariant = { λ d. d.room + (length (sent d.ring) + length d.batch.items) ≡ 2 ^ 64 - 1 };
 }
 
 /// The end from which a port takes its frames. Contracts see it as `Taken`.
@@ -63,21 +63,26 @@ impl Model for DealtIn {
 pub(crate) struct DealtOut<'a, R> {
     rt: &'a R,
     ring: Consumer<Dealt, Global, Bounded>,
+    /// What was taken out of the ring, and is not given yet.
+    batch: Batch,
     /// Whether all frames were taken.
     is_over: bool,
 }
 
 impl<'a, R> Model for DealtOut<'a, R> {
+    ghost use Rattle.std.specs.Prelude.{◌-◌, ◌^◌, ◌≤◌, length, take};
     ghost use Rattle.rtrb.specs.Ring.{received};
-    ghost use Rattle.gw_run.specs.Dealt.{Taken, ring_of};
+    ghost use Rattle.gw_run.specs.Dealt.{EndsWith, Taken, ring_of};
 
     ghost Value = { Taken };
 
     ghost view = { λ d. record {
       ring = ring_of d.ring.end;
-      items = received d.ring;
+      items = take (length (received d.ring) - length d.batch) (received d.ring);
       is_over = d.is_over;
     } };
+
+    ghost invariant = { λ d. EndsWith (received d.ring) d.batch × (length (received d.ring) ≤ 2 ^ 64) };
 }
 
 /// The two ends for a port's frames.
@@ -88,12 +93,14 @@ pub(crate) fn dealt_ring<R>(rt: &R, alloc: Global) -> Result<(DealtIn, DealtOut<
     Ok((
         DealtIn {
             ring: producer,
+            batch: ArrayVec::new(),
             room: u64::MAX,
             is_left: false,
         },
         DealtOut {
             rt,
             ring: consumer,
+            batch: Batch::new(),
             is_over: false,
         },
     ))
@@ -104,35 +111,65 @@ impl DealtIn {
     pub fn put<R: Wait>(&mut self, rt: &R, item: Dealt, port: usize, stops: &Stops)
         ensures { Puts self.old item self.new }
     {
-        if self.is_left || self.room == 0 || !has_slot(rt, &mut self.ring, port, stops) {
+        if self.batch.is_full() {
+            self.flush(rt, port, stops);
+        }
+        if self.is_left || self.room == 0 || self.batch.is_full() {
             self.is_left = true;
             return;
         }
-        self.ring.push_reserved(item);
+        self.batch.push(item);
         self.room -= 1;
+    }
+
+    /// Puts the end of the frames behind them, and lets the port take all. It may be left, as by `put`.
+    pub fn end<R: Wait>(&mut self, rt: &R, port: usize, stops: &Stops)
+        ensures { Puts self.old None self.new }
+    {
+        self.put(rt, None, port, stops);
+        self.flush(rt, port, stops);
+    }
+
+    /// Lets the port take all that was put here, and waits for room in its ring. It may be left, as by `put`.
+    pub fn flush<R: Wait>(&mut self, rt: &R, port: usize, stops: &Stops)
+        ensures { Flushes self.old self.new }
+    {
+        if self.is_left {
+            return;
+        }
+        wait_for_room(rt, &mut self.ring, self.batch.len(), port, stops);
+        match self.ring.push_entire_slice(&self.batch) {
+            Ok(()) => self.batch.clear(),
+            Err(_) => self.is_left = true,
+        }
     }
 }
 
-/// Waits until a ring has a free slot, and tells whether it has: it may have none where the port stopped or its end is gone.
-fn has_slot<R: Wait>(
+/// Waits until a ring has so many free slots. It may have fewer where the port stopped or its end is gone. A full ring keeps its
+/// port busy for longer than a nap.
+fn wait_for_room<R: Wait>(
     rt: &R,
     ring: &mut Producer<Dealt, Global, Bounded>,
+    slots: usize,
     port: usize,
     stops: &Stops,
-) -> bool
-    ensures looked { ProducerLooked ring.old ring.new }
-    ensures free { IsTrue result → 0 < known_free ring.new }
+)
+    ensures { ProducerLooked ring.old ring.new }
 {
     for _ in rt.forever() {
-        if !ring.is_full() {
-            return true;
+        if has_room(ring, slots) || stops.has(port) || ring.is_abandoned() {
+            return;
         }
-        if stops.has(port) || ring.is_abandoned() {
-            return false;
-        }
-        pause();
+        nap(rt);
     }
     unreachable!()
+}
+
+/// Whether a ring has so many free slots. The port's end is looked at only where it may have fewer.
+fn has_room(ring: &mut Producer<Dealt, Global, Bounded>, slots: usize) -> bool
+    ensures { ProducerLooked ring.old ring.new }
+{
+    ring.cached_slots() >= slots || ring.slots() >= slots
 }
 
 impl<R> DealtOut<'_, R> {
@@ -161,24 +198,8 @@ impl<R: Wait> Iterator for DealtOut<'_, R> {
         if self.is_over {
             return None;
         }
-        for _ in self.rt.forever() {
-            match self.ring.pop() {
-                Ok(Some(frame)) => return Some(frame),
-                Ok(None) => {
-                    self.is_over = true;
-                    return None;
-                }
-                Err(_) => pause(),
-            }
-        }
-        unreachable!()
+        let item = self.batch.next_of(self.rt, &mut self.ring);
+        self.is_over = item.is_none();
+        item
     }
-}
-
-/// Lets some items gather, or leave, before the next look. A look takes the ring's words from the thread at its other end.
-fn pause() {
-    for _ in 0..PAUSES {
-        spin_loop();
-    }
-    yield_now();
 }

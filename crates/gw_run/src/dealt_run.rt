@@ -235,8 +235,8 @@ where
     )
 }
 
-/// What is left of a run whose trace was read whole, or the first refusal: what is wrong with the trace is told before what refuses
-/// the run. A person is told where the octets are those of a log, and how the frames were dealt.
+/// What is left of a run whose trace was read whole, or the first refusal: what is wrong with the trace is told before what
+/// refuses the run. A person is told where the octets are those of a log, and how the frames were dealt.
 fn whole_end<'a, R, F: Write>(
     ports: u32,
     end: DealtEnd<'a, R>,

@@ -1,6 +1,7 @@
 #![tactic(auto)]
 //! The command `run` of the program `gw`: the frames of a trace, forwarded by a gateway that runs in threads.
 
+mod batch;
 mod dealing;
 mod dealt;
 mod dealt_run;
@@ -27,6 +28,7 @@ mod running;
 mod stops;
 mod taking;
 mod tally;
+mod waits;
 
 pub use egress_command::{egress_named, write_egress_under};
 pub use files::forward_named;

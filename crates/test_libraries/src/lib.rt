@@ -57,6 +57,8 @@ mod running;
 #[cfg(test)]
 mod sinks;
 #[cfg(test)]
+mod stopping;
+#[cfg(test)]
 mod streams;
 #[cfg(test)]
 mod table;

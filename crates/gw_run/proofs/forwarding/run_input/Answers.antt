@@ -27,7 +27,8 @@ pub returns-in-Ok-clause-refused : goal.returns-in-Ok-clause-refused
 returns-in-Ok-clause-refused g c =
     let after = c.run_taken.new.input in
     IfErr-weaker c.report_octets.result _ _
-    (λ refusal memory. memory_refuses c.args.taking.now c.args.limits c.args.first (g.I.Read.remaining (inner_of c.args.input.now))
+    (λ refusal memory.
+    memory_refuses c.args.taking.now c.args.limits c.args.first (g.I.Read.remaining (inner_of c.args.input.now))
     (g.I.Read.remaining (inner_of after)) (has_failed after) (unended_reads c.args.input.now after) refusal
     c.in-Ok.ensures.ran.1.whole memory)
     c.report_octets.ensures.refused

@@ -10,7 +10,8 @@ returns-in-Ok-clause-ran g c =
       c.in-Ok.octets.items,
       c.in-Ok.ensures.input,
       subst
-          (λ (o : List ℕ). KeepsRun c.args.limits.ports (LogRuns c.args.names.now c.args.limits c.args.first o) g.G.Gate.waits kept)
+          (λ (o : List ℕ).
+          KeepsRun c.args.limits.ports (LogRuns c.args.names.now c.args.limits c.args.first o) g.G.Gate.waits kept)
           c.as_slice.ensures.value run,
     ))
     c.run_log.ensures.ran

@@ -1,5 +1,5 @@
 use Rattle.rtrb.specs.Ring.{ProducerLooked}
-use Rattle.gw_run.proofs.dealt.has_slot.Given as goal
+use Rattle.gw_run.proofs.dealt.wait_for_room.Given as goal
 
 abbrev pub invariant-loop : goal.invariant-loop
 invariant-loop g l = ProducerLooked l.fn.ring l.ring
