@@ -1,7 +1,7 @@
 -- The lines of a text. A line feed ends a line, and a carriage return right before that line feed belongs to the line's end.
 -- What stands behind the last line feed is a line without an end.
-use Rattle.std.specs.Prelude.{ℕ, ◌==◌, ◌+◌, ◌-◌, Bool, nat_lt, if◌then◌else◌, List, [], ◌∷◌, length, take, slice_index, Option, Some}
-use Rattle.std.specs.Prelude.{None}
+use Rattle.std.specs.Prelude.{ℕ, ◌==◌, ◌+◌, ◌-◌, Bool, nat_lt, if◌then◌else◌, List, [], ◌∷◌, length, take, slice_index}
+use Rattle.std.specs.Prelude.{Option, None, Some}
 use Rattle.std.specs.List.{position_or_len, before_first, after_first, slice_split}
 
 -- an octet of this value, and a line feed

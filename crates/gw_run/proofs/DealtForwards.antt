@@ -97,8 +97,8 @@ module _ {R G : Type 0} (run : DealtRun R G) (can : CanDeal run) (waits : Bool) 
 
     dealt_run : IsRunOf InTurn run.limits run.first read.octets is.ran
     dealt_run =
-        let lists = dealt_lists is.is_run.feeds is.is_run.done is.is_run.offered wholes (shared.enough ∙ sym inputs_many) port_dealt
-        in (
+        let lists =
+        dealt_lists is.is_run.feeds is.is_run.done is.is_run.offered wholes (shared.enough ∙ sym inputs_many) port_dealt in (
           read.frames,
           read.whole,
           record {

@@ -1,5 +1,5 @@
 -- The batch with which a run begins, one source after another.
-use Rattle.std.proofs.Common.{◌≡◌, ◌∙◌, ℕ, ◌+◌, ◌<◌, ◌≤◌, ◌==◌, true, false, List, [], ◌∷◌, ◌++◌, length, get_or}
+use Rattle.std.proofs.Common.{◌≡◌, ◌∙◌, ℕ, ◌+◌, ◌<◌, ◌≤◌, ◌==◌, false, List, [], ◌∷◌, ◌++◌, length, get_or}
 use Rattle.std.proofs.Common.{ap, sym, subst, refl, arith, map, Vec, Global}
 use Rattle.std.proofs.Common.{zero, suc, Option, Some, None, if◌then◌else◌, length-append, ⊎_elim}
 use Rattle.std.specs.List.{All}
