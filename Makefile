@@ -60,7 +60,7 @@ soak: crates/test_soak/out/test_soak
 	@$< 2500000 10000
 
 crates/test_soak/out/test_soak:
-	@cd crates/test_soak && rt run -- $$(cat args)
+	@./prove test_soak
 
 # Our loop beside libpcap's on the same programs and records, and the times of tables, scripts, traces and threads
 # (docs/BENCHMARKS.md). Debian: libpcap-dev, and can-utils for log2asc.
