@@ -1,7 +1,7 @@
 /*
  * Times the event machine: `Core::run` on the events of 1024 records at sixteen ports, each with the policy of one table, and
- * a step of it beside a step of the machine alone, on a long program so that the steps and not the takings count. Prints a table in
- * markdown. Fails where the two make other numbers of steps.
+ * a step of it beside a step of the machine alone, on a long program so that the steps and not the takings count. Prints a table
+ * in markdown. Fails where the two make other numbers of steps.
  */
 #include "bench.h"
 

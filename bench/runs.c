@@ -1,8 +1,9 @@
 /*
  * Times `gw run` beside libpcap's reader and filter, both as whole processes on the same file: a trace of four million frames of
  * the vehicle's bus, on which libpcap runs `ret #1`, or the program of a table of 40 rules, on each frame and counts those that
- * pass. `gw run` forwards them between 2 ports, and with the table also between 4, 8 and 16: dealt to the ports in turn, or read by
- * port 0 as its own file (`--in`). Prints a table in markdown. Fails where a process fails, or `gw run` takes other than all frames.
+ * pass. `gw run` forwards them between 2 ports, and with the table also between 4, 8 and 16: dealt to the ports in turn, or read
+ * by port 0 as its own file (`--in`). Prints a table in markdown. Fails where a process fails, or `gw run` takes other than all
+ * frames.
  */
 #define _GNU_SOURCE
 #include "bench.h"
@@ -115,8 +116,8 @@ static bool time_pair(const char *settings, const char *input, int ports, const 
 {
     char command[600];
     struct cost ours = {1e30, 0, 0}, theirs = {1e30, 0, 0}, cost;
-    snprintf(command, sizeof command, "exec env %s ../crates/gw/out/gw run --ports %d %s %s%s > out/counts", settings, ports,
-             policies, input, trace_name);
+    snprintf(command, sizeof command, "exec env %s ../crates/gw/out/gw run --ports %d %s %s%s > out/counts 2> out/notes",
+             settings, ports, policies, input, trace_name);
     for (int repeat = 0; repeat < RUN_REPEATS; repeat++) {
         if (!run_command(command, &cost) || taken() != FRAMES)
             return false;
@@ -161,7 +162,7 @@ bool time_runs(const char *name, const char *text, size_t length, const uint8_t 
             && time_pair(plain, own, ports, words, code, "the table, `--in`");
     }
     if (!is_done)
-        fprintf(stderr, "runs: a process failed, or frames are missing\n");
+        fprintf(stderr, "runs: a process failed, or frames are missing (what it said: bench/out/notes)\n");
     remove(trace_name);
     return is_done;
 }
