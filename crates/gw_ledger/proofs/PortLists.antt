@@ -176,6 +176,22 @@ fewer (suc n) strict test implies =
     fewer_when false true port implies = omega arith
     fewer_when false false port implies = omega arith
 
+-- the ports below a number that pass a test are those below a greater one that pass it and are below the number
+pub ports_within : (count n : ℕ) (test : ℕ → Bool) → n ≤ count
+    → ports_below count (λ port. nat_lt port n && test port) ≡ ports_below n test
+unfolding ports_below
+ports_within zero n test fits = let none : 0 ≡ n = omega arith in ap (λ k. ports_below k test) none
+ports_within (suc c) n test fits = elim (cases_lt c n) [
+  | inl all ↦
+      let is : suc c ≡ n = omega arith in
+      same_ports (suc c) (λ port. nat_lt port n && test port) test
+      (λ port below. ap (λ b. b && test port) (lt-ltb port n (omega arith)))
+      ∙ ap (λ k. ports_below k test) is
+  | inr past ↦
+      ap (λ b. ports_below c (λ port. nat_lt port n && test port) ++ when (b && test c) c) (le-ltb c n past)
+      ∙ append-nil (ports_below c (λ port. nat_lt port n && test port)) ∙ ports_within c n test past
+]
+
 -- the ports below 16 that pass are a set
 pub is_set : (test : ℕ → Bool) → IsPortSet (ports_below 16 test)
 is_set test = record { in_order = same_ports 16 test (λ port. has_port port (ports_below 16 test)) passes }

@@ -1,7 +1,7 @@
 //! Sets of ports.
 
-ghost use Rattle.std.specs.Prelude.{◌≡◌, ◌<◌, ◌≤◌, ◌==◌, ◌||◌, ℕ, [], ◌∷◌, ◌++◌, length, All};
-ghost use Rattle.gw_ledger.specs.Ports.{has_port, with_port, IsPortSet};
+ghost use Rattle.std.specs.Prelude.{◌≡◌, ◌<◌, ◌≤◌, ◌==◌, ◌&&◌, ◌||◌, not, true, ℕ, [], ◌∷◌, ◌++◌, length, All, IsTrue, ◌↔◌};
+ghost use Rattle.gw_ledger.specs.Ports.{has_port, with_port, ports_below, IsPortSet};
 
 use std::marker::Model;
 
@@ -39,6 +39,16 @@ impl PortSet {
         PortSet { word: 0 }
     }
 
+    /// The ports below a number.
+    pub fn below(ports: u8) -> PortSet
+        requires { ports ≤ 16 }
+        ensures { result ≡ ports_below ports (λ _. true) }
+    {
+        PortSet {
+            word: ((1_u32 << ports) - 1) as u16,
+        }
+    }
+
     /// Adds a port, which may be there already.
     pub fn add(&mut self, port: u8)
         requires { port < 16 }
@@ -54,6 +64,44 @@ impl PortSet {
         ensures { result ≡ has_port port self }
     {
         usize::from(port) < MAX_PORTS && (self.word >> port) & 1 == 1
+    }
+
+    /// The set without a port.
+    pub fn without(self, port: u8) -> PortSet
+        ensures { result ≡ ports_below 16 (λ other. not (other == port) && has_port other self) }
+    {
+        if usize::from(port) < MAX_PORTS {
+            PortSet {
+                word: self.word & !(1 << port),
+            }
+        } else {
+            self
+        }
+    }
+
+    /// The ports that are in both sets.
+    pub fn intersection(self, other: PortSet) -> PortSet
+        ensures { result ≡ ports_below 16 (λ port. has_port port self && has_port port other) }
+    {
+        PortSet {
+            word: self.word & other.word,
+        }
+    }
+
+    /// The ports that are in one of two sets, or in both.
+    pub fn union(self, other: PortSet) -> PortSet
+        ensures { result ≡ ports_below 16 (λ port. has_port port self || has_port port other) }
+    {
+        PortSet {
+            word: self.word | other.word,
+        }
+    }
+
+    /// Whether no port is in the set.
+    pub fn is_empty(self) -> bool
+        ensures { IsTrue result ↔ (self ≡ []) }
+    {
+        self.word == 0
     }
 
     /// How many ports are in the set, 0 to 16.

@@ -1,61 +1,223 @@
--- Ports that are judged one after another.
-use Rattle.std.proofs.Common.{◌≡◌, ℕ, suc, ◌+◌, ◌<◌, ◌≢◌, Bool, true, false, if◌then◌else◌, List, [], ◌∷◌, ◌++◌, sym, ap, ◌∙◌}
-use Rattle.std.proofs.Common.{subst, refl, arith, append-nil, Option, Some, None, IfSome, not, ◌==◌, ◌&&◌, nat_lt}
-use Rattle.std.proofs.lemmas.Bool.Decides.{nat_tests}
-use Rattle.std.specs.List.{All}
+-- The ports at which a frame may leave, by groups of ports whose policies pass the same frames.
+use Rattle.std.proofs.Common.{◌≡◌, ℕ, suc, ◌+◌, ◌<◌, ◌≤◌, Bool, true, false, if◌then◌else◌, List, [], sym, ap, ◌∙◌}
+use Rattle.std.proofs.Common.{subst, refl, arith, not, ◌==◌, ◌&&◌, ◌||◌, nat_lt}
+use Rattle.std.proofs.Common.{inl, inr, slice_index_or, set, length, replicate, Option, zero}
+use Rattle.std.proofs.lemmas.Bool.{cases_eq, cases_lt, eq-eqb, false≢true, lt-ltb, ltb-true, ne_eqb}
+use Rattle.std.proofs.lemmas.List.{get_or_default, get_or-set_other, get_or-set_same, length-set}
 use Rattle.gw_ledger.specs.Ports.{has_port, ports_below}
-use Rattle.gw_ledger.proofs.Callers.{all_below, has_port-ports_below}
+use Rattle.gw_ledger.proofs.Callers.{has_port-ports_below, ports_within, same_ports}
 use Rattle.gw_policy.specs.Filter.{Filter}
-use Rattle.gw_policy.specs.Batches.{PassAlike, PortPolicies, policy_at}
+use Rattle.gw_policy.specs.Batches.{HasGroups, IsInGroup, PassAlike, PortPolicies, policy_at}
 
-pub none_yet : (test : ℕ → Bool) → [] ≡ ports_below 0 test
+-- ---- tests
+
+-- both tests hold
+both : (a b : Bool) → (a && b) ≡ true → (a ≡ true) × (b ≡ true)
+both true b is = (refl, is)
+both false b is = absurd (false≢true is)
+
+of_both : (a b : Bool) → a ≡ true → b ≡ true → (a && b) ≡ true
+of_both true b one other = other
+of_both false b one other = absurd (false≢true one)
+
+second_holds : (a b : Bool) → b ≡ true → (a || b) ≡ true
+second_holds true b is = refl
+second_holds false b is = is
+
+first_holds : (a b : Bool) → a ≡ true → (a || b) ≡ true
+first_holds true b is = refl
+first_holds false b is = absurd (false≢true is)
+
+same_test : (a b : Bool) → (a ≡ true → b ≡ true) → (b ≡ true → a ≡ true) → a ≡ b
+same_test true b there back = sym (there refl)
+same_test false true there back = back refl
+same_test false false there back = refl
+
+-- ---- groups of ports
+
+pub alike_itself : (policy : Option Filter) → PassAlike policy policy
+alike_itself policy octets port is_record fits = refl
+
+-- one port more is put into the group of one that passes the same frames
+pub one_more_group : (n first : ℕ) (policies : PortPolicies) (groups : List (List ℕ)) (group absent : List ℕ)
+    → HasGroups n policies groups → first ≤ n → n < 16 → PassAlike (policy_at first policies) (policy_at n policies)
+    → ((port : ℕ) → has_port port group ≡ ((n == port) || has_port port (slice_index_or groups first absent)))
+    → HasGroups (n + 1) policies (set groups first group)
+one_more_group n first policies groups group absent before up_to below alike more = record {
+  long = length-set groups first group ∙ before.long;
+  alike = λ other port has. elim (cases_eq other first) [
+    | inl same ↦ subst (λ k. PassAlike (policy_at k policies) (policy_at port policies)) (sym same)
+        (own port (sym (members port) ∙ sym (ap (has_port port) here)
+        ∙ sym (ap (λ k. has_port port (slice_index_or (set groups first group) k [])) same) ∙ has))
+    | inr apart ↦ before.alike other port (sym (ap (has_port port) (get_or-set_other groups first other group [] apart)) ∙ has)
+  ];
+  all = λ port less. elim (cases_eq port n) [
+    | inl same ↦ record {
+      first = first;
+      up_to = omega (arith, up_to, same);
+      has = ap (has_port port) here ∙ members port
+          ∙ first_holds (n == port) (has_port port (slice_index_or groups first [])) (eq-eqb n port (sym same));
+    }
+    | inr apart ↦ kept port (before.all port (omega arith))
+  ];
+}
+  where
+    within : first < length groups
+    within = omega (arith, before.long)
+
+    here : slice_index_or (set groups first group) first [] ≡ group
+    here = get_or-set_same groups first group [] within
+
+    members : (port : ℕ) → has_port port group ≡ ((n == port) || has_port port (slice_index_or groups first []))
+    members port =
+        more port ∙ ap (λ old. (n == port) || has_port port old) (get_or_default groups first absent [] within)
+
+    own : (port : ℕ) → ((n == port) || has_port port (slice_index_or groups first [])) ≡ true
+        → PassAlike (policy_at first policies) (policy_at port policies)
+    own port is = elim (cases_eq n port) [
+      | inl same ↦ subst (λ k. PassAlike (policy_at first policies) (policy_at k policies)) same alike
+      | inr apart ↦ before.alike first port
+          (ap (λ b. b || has_port port (slice_index_or groups first [])) (sym (ne_eqb n port apart)) ∙ is)
+    ]
+
+    kept : (port : ℕ) → IsInGroup groups port → IsInGroup (set groups first group) port
+    kept port group_of = record {
+      first = group_of.first;
+      up_to = group_of.up_to;
+      has = elim (cases_eq group_of.first first) [
+        | inl same ↦ ap (λ k. has_port port (slice_index_or (set groups first group) k [])) same ∙ ap (has_port port) here
+            ∙ members port ∙ second_holds (n == port) (has_port port (slice_index_or groups first []))
+            (ap (λ k. has_port port (slice_index_or groups k [])) (sym same) ∙ group_of.has)
+        | inr apart ↦ ap (has_port port) (get_or-set_other groups first group_of.first group [] apart) ∙ group_of.has
+      ];
+    }
+
+all_empty : (n k : ℕ) (empty : List ℕ) → empty ≡ [] → slice_index_or (replicate n empty) k [] ≡ []
+all_empty zero k empty is = refl
+all_empty (suc n) zero empty is = is
+all_empty (suc n) (suc k) empty is = all_empty n k empty is
+
+-- no port is in a group yet
+pub no_groups : (policies : PortPolicies) (empty : List ℕ) → empty ≡ [] → HasGroups 0 policies (replicate 16 empty)
+no_groups policies empty is = record {
+  long = refl;
+  alike = λ first port has. absurd (false≢true (sym (ap (has_port port) (all_empty 16 first empty is)) ∙ has));
+  all = λ port less. absurd (omega arith);
+}
+
+-- ---- a frame's egress ports
+
+-- what the groups of the first ports give of those asked for
+pub record Gathered (n : ℕ) (groups : List (List ℕ)) (asked : List ℕ) (test : ℕ → Bool) (passing : List ℕ) : Type 0 where
+  pub set : passing ≡ ports_below 16 (λ port. has_port port passing)
+  pub sound : (port : ℕ) → has_port port passing ≡ true → (has_port port asked && test port) ≡ true
+  pub whole : (first port : ℕ) → first < n → port < 16 → has_port port (slice_index_or groups first []) ≡ true
+      → (has_port port asked && test port) ≡ true → has_port port passing ≡ true
+
+pub nothing_yet : (groups : List (List ℕ)) (asked passing : List ℕ) (test : ℕ → Bool) → passing ≡ []
+    → Gathered 0 groups asked test passing
 unfolding ports_below
-none_yet test = refl
+nothing_yet groups asked passing test is = record {
+  set = is ∙ sym (ap (λ l. ports_below 16 (λ port. has_port port l)) is);
+  sound = λ port has. absurd (false≢true (ap (has_port port) (sym is) ∙ has));
+  whole = λ first port less. absurd (omega arith);
+}
 
--- the next port passes, or does not
-pub one_more_passes : (n : ℕ) (test : ℕ → Bool) (s s' : List ℕ) → s ≡ ports_below n test → test n ≡ true
-    → (All (λ other. other < n) s → s' ≡ s ++ n ∷ []) → s' ≡ ports_below (n + 1) test
-unfolding ports_below
-one_more_passes n test s s' is passing greatest =
-    let below : All (λ other. other < n) s = subst (λ (l : List ℕ). All (λ other. other < n) l) (sym is) (all_below n test) in
-    let next : suc n ≡ n + 1 = omega arith in
-    let last : (if test n then n ∷ [] else []) ≡ n ∷ [] = ap (λ b. if b then n ∷ [] else []) passing in
-    greatest below ∙ ap (λ l. l ++ n ∷ []) is ∙ ap (λ l. ports_below n test ++ l) (sym last) ∙ ap (λ k. ports_below k test) next
+-- The group of one port more gives all it has of those asked for, or none: as its first port's policy passes.
+pub one_more_gathered : (n : ℕ) (groups : List (List ℕ)) (asked passing group part more : List ℕ) (test : ℕ → Bool)
+    → Gathered n groups asked test passing
+    → ((port : ℕ) → has_port port (slice_index_or groups n []) ≡ true → test n ≡ test port)
+    → group ≡ ports_below 16 (λ port. has_port port (slice_index_or groups n []) && has_port port asked)
+    → part ≡ (if test n then group else []) → more ≡ ports_below 16 (λ port. has_port port passing || has_port port part)
+    → Gathered (n + 1) groups asked test more
+one_more_gathered n groups asked passing group part more test before alike group_is part_is more_is = record {
+  set = more_is ∙ same_ports 16 (λ port. has_port port passing || has_port port part) (λ port. has_port port more)
+      (λ port low. sym (in_more port low));
+  sound = λ port has.
+      let (low, either) = both (nat_lt port 16) (has_port port passing || has_port port part) (sym (more_has port) ∙ has) in
+      one_passes port (has_port port passing) (has_port port part) (before.sound port) (new port) either;
+  whole = λ first port less low has asks. in_more port low ∙ elim (cases_lt first n) [
+    | inl earlier ↦ first_holds (has_port port passing) (has_port port part) (before.whole first port earlier low has asks)
+    | inr this ↦ second_holds (has_port port passing) (has_port port part)
+        (let same : first ≡ n = omega arith in
+        given port low (ap (λ k. has_port port (slice_index_or groups k [])) (sym same) ∙ has) asks)
+  ];
+}
+  where
+    more_has : (port : ℕ) → has_port port more ≡ (nat_lt port 16 && (has_port port passing || has_port port part))
+    more_has port =
+        ap (has_port port) more_is ∙ has_port-ports_below 16 port (λ port. has_port port passing || has_port port part)
 
-pub one_more_blocked : (n : ℕ) (test : ℕ → Bool) (s : List ℕ) → s ≡ ports_below n test → test n ≡ false
-    → s ≡ ports_below (n + 1) test
-unfolding ports_below
-one_more_blocked n test s is blocked =
-    let next : suc n ≡ n + 1 = omega arith in
-    let last : (if test n then n ∷ [] else []) ≡ [] = ap (λ b. if b then n ∷ [] else []) blocked in
-    is ∙ sym (append-nil (ports_below n test)) ∙ ap (λ l. ports_below n test ++ l) (sym last) ∙ ap (λ k. ports_below k test) next
+    in_more : (port : ℕ) → port < 16 → has_port port more ≡ (has_port port passing || has_port port part)
+    in_more port low = more_has port ∙ ap (λ b. b && (has_port port passing || has_port port part)) (lt-ltb port 16 low)
 
-kept : (b : Bool) → (true && b) ≡ b
-kept b = refl
+    group_has : (port : ℕ)
+        → has_port port group ≡ (nat_lt port 16 && (has_port port (slice_index_or groups n []) && has_port port asked))
+    group_has port =
+        ap (has_port port) group_is
+        ∙ has_port-ports_below 16 port (λ port. has_port port (slice_index_or groups n []) && has_port port asked)
 
--- a port that was judged, and is not the ingress port, is in the set where its policy passes
-pub judged_before : (n from before : ℕ) (passing : ℕ → Bool) (judged : List ℕ)
-    → judged ≡ ports_below n (λ port. not (port == from) && passing port) → before < n → before ≢ from
-    → has_port before judged ≡ passing before
-judged_before n from before passing judged is below apart =
-    let test : ℕ → Bool = λ port. not (port == from) && passing port in
-    let inside : nat_lt before n ≡ true = grind (arith, nat_tests) in
-    let other : (before == from) ≡ false = grind (arith, nat_tests) in
-    ap (has_port before) is ∙ has_port-ports_below n before test
-    ∙ ap (λ b. b && test before) inside ∙ kept (test before) ∙ ap (λ b. not b && passing before) other ∙ kept (passing before)
+    part_has : (port : ℕ) (b : Bool) → test n ≡ b → has_port port part ≡ (b && has_port port group)
+    part_has port true is = ap (has_port port) (part_is ∙ ap (λ b. if b then group else []) is)
+    part_has port false is = ap (has_port port) (part_is ∙ ap (λ b. if b then group else []) is)
 
-alike_twice : (one middle other : Option Filter) → PassAlike one middle → PassAlike middle other → PassAlike one other
-alike_twice one middle other first second octets port is_record fits =
-    first octets port is_record fits ∙ second octets port is_record fits
+    new : (port : ℕ) → has_port port part ≡ true → (has_port port asked && test port) ≡ true
+    new port has =
+        let (passes, inside) = both (test n) (has_port port group) (sym (part_has port (test n) refl) ∙ has) in
+        let (low, there) = both (nat_lt port 16) (has_port port (slice_index_or groups n []) && has_port port asked)
+        (sym (group_has port) ∙ inside) in
+        let (own, asks) = both (has_port port (slice_index_or groups n [])) (has_port port asked) there in
+        of_both (has_port port asked) (test port) asks (sym (alike port own) ∙ passes)
 
--- what passes the frames of the ingress port's policy passes those of a port that does
-pub stands_in : (set : PortPolicies) (from port : ℕ) (before : Option ℕ)
-    → IfSome before (λ b. (b < from) × PassAlike (policy_at b set) (policy_at from set)) → from < port
-    → PassAlike (policy_at from set) (policy_at port set)
-    → IfSome before (λ b. (b < port) × (b ≢ from) × PassAlike (policy_at b set) (policy_at port set))
-stands_in set from port None known less alike = tt
-stands_in set from port (Some b) known less alike = (
-  omega (arith, known.0),
-  λ same. absurd (omega (arith, known.0, same)),
-  alike_twice (policy_at b set) (policy_at from set) (policy_at port set) known.1 alike,
-)
+    given : (port : ℕ) → port < 16 → has_port port (slice_index_or groups n []) ≡ true → (has_port port asked && test port) ≡ true
+        → has_port port part ≡ true
+    given port low own asks =
+        let (is_asked, passes) = both (has_port port asked) (test port) asks in
+        part_has port (test n) refl
+        ∙ of_both (test n) (has_port port group) (alike port own ∙ passes) (group_has port
+        ∙ of_both (nat_lt port 16) (has_port port (slice_index_or groups n []) && has_port port asked) (lt-ltb port 16 low)
+        (of_both (has_port port (slice_index_or groups n [])) (has_port port asked) own is_asked))
+
+    one_passes : (port : ℕ) (a b : Bool) → (a ≡ true → (has_port port asked && test port) ≡ true)
+        → (b ≡ true → (has_port port asked && test port) ≡ true) → (a || b) ≡ true → (has_port port asked && test port) ≡ true
+    one_passes port true b old new is = old refl
+    one_passes port false b old new is = new is
+
+-- those below a number, but the ingress port, are asked for
+module _ (ports from : ℕ) (below asked : List ℕ) (fits : ports ≤ 16) (below_is : below ≡ ports_below ports (λ _. true))
+    (asked_is : asked ≡ ports_below 16 (λ other. not (other == from) && has_port other below)) where
+  is_asked : (port : ℕ) → port < 16 → has_port port asked ≡ (not (port == from) && (nat_lt port ports && true))
+  is_asked port low =
+      ap (has_port port) asked_is ∙ has_port-ports_below 16 port (λ other. not (other == from) && has_port other below)
+      ∙ ap (λ b. b && (not (port == from) && has_port port below)) (lt-ltb port 16 low)
+      ∙ ap (λ b. not (port == from) && b) (ap (has_port port) below_is ∙ has_port-ports_below ports port (λ _. true))
+
+  turned : (a b p : Bool) → ((a && (b && true)) && p) ≡ (b && (a && p))
+  turned true true p = refl
+  turned true false p = refl
+  turned false true p = refl
+  turned false false p = refl
+
+  asked_passes : (port : ℕ) (passing : ℕ → Bool) → port < 16
+      → (has_port port asked && passing port) ≡ (nat_lt port ports && (not (port == from) && passing port))
+  asked_passes port passing low =
+      ap (λ b. b && passing port) (is_asked port low) ∙ turned (not (port == from)) (nat_lt port ports) (passing port)
+
+  -- the groups of the ports below the number give those that pass
+  pub all_gathered : (groups : List (List ℕ)) (policies : PortPolicies) (egress : List ℕ) (passing : ℕ → Bool)
+      → HasGroups 16 policies groups → Gathered ports groups asked passing egress
+      → egress ≡ ports_below ports (λ port. not (port == from) && passing port)
+  all_gathered groups policies egress passing known all =
+      all.set
+      ∙ same_ports 16 (λ port. has_port port egress) (λ port. nat_lt port ports && (not (port == from) && passing port)) agree
+      ∙ ports_within 16 ports (λ port. not (port == from) && passing port) fits
+    where
+      agree : (port : ℕ) → port < 16
+          → has_port port egress ≡ (nat_lt port ports && (not (port == from) && passing port))
+      agree port low = same_test (has_port port egress) (nat_lt port ports && (not (port == from) && passing port))
+          (λ has. sym (asked_passes port passing low) ∙ all.sound port has)
+          (λ passes.
+          let (inside, rest) = both (nat_lt port ports) (not (port == from) && passing port) passes in
+          let less : port < ports = ltb-true port ports inside in
+          let group = known.all port low in
+          all.whole group.first port (omega (arith, group.up_to, less)) low group.has (asked_passes port passing low ∙ passes))

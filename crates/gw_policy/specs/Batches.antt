@@ -1,11 +1,13 @@
 -- Batches of policies for ports, and the policy in force. A list of batches has the newest first.
-use Rattle.std.specs.Prelude.{◌≡◌, ◌<◌, ℕ, ◌+◌, min, Bool, false, ◌==◌, nat_lt, if◌then◌else◌, List, [], ◌∷◌, length, reverse}
-use Rattle.std.specs.Prelude.{Option, Some, None, IfSome, option_map, slice_get, slice_index_or}
+use Rattle.std.specs.Prelude.{◌≡◌, ◌<◌, ◌≤◌, ℕ, ◌+◌, min, Bool, true, false, ◌==◌, nat_lt, if◌then◌else◌}
+use Rattle.std.specs.Prelude.{List, [], ◌∷◌, length, reverse}
+use Rattle.std.specs.Prelude.{Option, Some, None, option_map, slice_get, slice_index_or}
 use Rattle.std.specs.List.{find, filter_map, list_any}
 use Rattle.std.specs.Option.{option_flatten, option_map_or}
 use Rattle.std.specs.declared.sync.Arc.{Arc}
 use Rattle.std.specs.declared.alloc.Global.{Global}
 use Rattle.gw_frame.specs.Record.{IsRecord}
+use Rattle.gw_ledger.specs.Ports.{has_port}
 use Rattle.gw_policy.specs.Filter.{Filter, filter_passes, filter_steps}
 
 -- a port, and the policy that is to be in force for it
@@ -58,10 +60,21 @@ pub record PortPolicies : Type 0 where
 abbrev pub policy_at : ℕ → PortPolicies → Option Filter
 policy_at port set = option_flatten (slice_get set.policies port)
 
--- by port, one before it whose policy passes the same frames, if one is known
-abbrev pub AreAlike : PortPolicies → List (Option ℕ) → Type 0
-AreAlike set alike = (port : ℕ) → port < 16
-    → IfSome (slice_index_or alike port None) (λ before. (before < port) × PassAlike (policy_at before set) (policy_at port set))
+-- the port is in the group of a port up to it
+pub record IsInGroup (groups : List (List ℕ)) (port : ℕ) : Type 0 where
+  pub first : ℕ
+  pub up_to : first ≤ port
+  pub has : has_port port (slice_index_or groups first []) ≡ true
+
+-- by port, ports whose policies pass the frames that its own passes. Each port below a number is in a group.
+pub record HasGroups (n : ℕ) (set : PortPolicies) (groups : List (List ℕ)) : Type 0 where
+  pub long : length groups ≡ 16
+  pub alike : (first port : ℕ) → has_port port (slice_index_or groups first []) ≡ true
+      → PassAlike (policy_at first set) (policy_at port set)
+  pub all : (port : ℕ) → port < n → IsInGroup groups port
+
+abbrev pub AreGroups : PortPolicies → List (List ℕ) → Type 0
+AreGroups = HasGroups 16
 
 -- the policies in force after these batches
 pub record StandsAfter (set : PortPolicies) (batches : List (List Pair)) : Type 0 where

@@ -16,11 +16,13 @@ ghost use Rattle.std.specs.Prelude.{
   OnErr,
   option_copied,
 };
+ghost use Rattle.gw_policy.specs.Batches.{AreGroups, PortPolicies, passes};
 
 use crate::batch::Batch;
 use crate::policy::Policy;
 use gw_frame::Frame;
 use gw_ledger::{MAX_PORTS, PortSet};
+use gw_table::FrameFields;
 use std::alloc::AllocError;
 use std::clone::Clone;
 use std::marker::Model;
@@ -31,21 +33,22 @@ use std::sync::Arc;
 #[derive(Drop)]
 pub struct PolicySet {
     policies: [Option<Arc<Policy>>; MAX_PORTS],
-    // By port, the nearest one before it whose policy has the same program.
-    alike: [Option<u8>; MAX_PORTS],
+    // By port, the ports whose policies have its program, where no port before it has. So each port is in one group, which is
+    // that of a port up to it.
+    groups: [PortSet; MAX_PORTS],
     front: u32,
 }
 
 impl Model for PolicySet {
     ghost use Rattle.std.specs.Prelude.{◌≡◌, length, map, option_map};
-    ghost use Rattle.gw_policy.specs.Batches.{AreAlike, PortPolicies};
+    ghost use Rattle.gw_policy.specs.Batches.{AreGroups, PortPolicies};
 
     ghost Value = { PortPolicies };
 
     ghost view = { λ s. record { policies = map (option_map (λ policy. policy.value)) s.policies; front = s.front } };
 
-    ghost invariant = { λ s. (length s.policies ≡ 16) × (length s.alike ≡ 16)
-        × AreAlike (record { policies = map (option_map (λ policy. policy.value)) s.policies; front = s.front }) s.alike };
+    ghost invariant = { λ s. (length s.policies ≡ 16)
+        × AreGroups (record { policies = map (option_map (λ policy. policy.value)) s.policies; front = s.front }) s.groups };
 }
 
 // One owner more of each policy. The copy of an `Arc` can be refused.
@@ -57,7 +60,7 @@ impl Clone for PolicySet {
     fn clone(&self) -> Result<PolicySet, AllocError> {
         Ok(PolicySet {
             policies: self.policies.clone()?,
-            alike: self.alike,
+            groups: self.groups,
             front: self.front,
         })
     }
@@ -76,7 +79,7 @@ impl PolicySet {
     {
         PolicySet {
             policies: Default::default(),
-            alike: [None; MAX_PORTS],
+            groups: each_alone(),
             front: 0,
         }
     }
@@ -97,7 +100,7 @@ impl PolicySet {
         ensures unchanged { OnErr result (self.new ≡ self.old) }
     {
         self.put_all(batch)?;
-        self.note_alike();
+        self.note_groups();
         Ok(())
     }
 
@@ -114,27 +117,28 @@ impl PolicySet {
         Ok(())
     }
 
-    // Notes which ports have the programs of ports before them. So a frame's path need not judge them.
-    fn note_alike(&mut self)
+    // Notes which ports have one program, so that a frame's path judges it once.
+    fn note_groups(&mut self)
         ensures { self.new ≡ self.old }
     {
-        for port in 0..MAX_PORTS {
-            self.alike[port] = self.nearest_alike(port);
+        let mut groups = [PortSet::new(); MAX_PORTS];
+        for port in 0..MAX_PORTS as u8 {
+            groups[usize::from(self.first_alike(port))].add(port);
         }
+        self.groups = groups;
     }
 
-    // The nearest port before this one whose policy has the same program.
-    fn nearest_alike(&self, port: usize) -> Option<u8>
-        requires { port < 16 }
-        ensures { IfSome result (λ before. (before < port)
-            × PassAlike (policy_at before self.now) (policy_at port self.now)) }
+    // The first port whose policy has the program of this one's: the port itself, where none before it has.
+    fn first_alike(&self, port: u8) -> u8
+        ensures first { result ≤ port }
+        ensures alike { PassAlike (policy_at result self.now) (policy_at port self.now) }
     {
-        for before in (0..port).rev() {
-            if self.has_one_program(before as u8, port as u8) {
-                return Some(before as u8);
+        for before in 0..port {
+            if self.has_one_program(before, port) {
+                return before;
             }
         }
-        None
+        port
     }
 
     // Whether two ports have policies of the same program.
@@ -170,51 +174,17 @@ impl PolicySet {
         requires { ports ≤ 16 }
         ensures { result ≡ ports_below ports (λ port. not (port == from) && passes (policy_at port self.now) frame.now from) }
     {
+        // Policies of one program are alike on records.
+        let _octets = frame.bytes();
+        let fields = FrameFields::new(frame);
+        let asked = PortSet::below(ports).without(from);
         let mut egress = PortSet::new();
-        for port in 0..ports {
-            if self.may_leave(port, egress, frame, from) {
-                egress.add(port);
-            }
+        for first in 0..ports {
+            let group = self.groups[usize::from(first)];
+            let passing = judged(group.intersection(asked), self.get(first), &fields, from);
+            egress = egress.union(passing);
         }
         egress
-    }
-
-    // The verdict of a port, by those of the ports before it where one of them is its own too.
-    fn may_leave(&self, port: u8, judged: PortSet, frame: &Frame, from: u8) -> bool
-        requires port { port < 16 }
-        requires judged { (before : ℕ) → before < port → before ≢ from
-            → has_port before judged ≡ passes (policy_at before self.now) frame.now from }
-        ensures { result ≡ (not (port == from) && passes (policy_at port self.now) frame.now from) }
-    {
-        if port == from {
-            return false;
-        }
-        let _octets = frame.bytes();
-        match self.judged_alike(port, from) {
-            Some(before) => judged.has(before),
-            None => self.verdict(port, frame, from),
-        }
-    }
-
-    // A port before this one whose policy passes the same frames. The ingress port is not judged, so its own stands in for it.
-    fn judged_alike(&self, port: u8, from: u8) -> Option<u8>
-        requires { (port < 16) × (port ≢ from) }
-        ensures { IfSome result (λ before. (before < port) × (before ≢ from)
-            × PassAlike (policy_at before self.now) (policy_at port self.now)) }
-    {
-        match self.alike_before(port) {
-            Some(before) if before == from => self.alike_before(from),
-            before => before,
-        }
-    }
-
-    // A port before this one whose policy passes the same frames.
-    fn alike_before(&self, port: u8) -> Option<u8>
-        requires { port < 16 }
-        ensures { IfSome result (λ before. (before < port)
-            × PassAlike (policy_at before self.now) (policy_at port self.now)) }
-    {
-        self.alike[usize::from(port)]
     }
 
     // Replaces the policy of a port; one above 15 is ignored.
@@ -225,8 +195,32 @@ impl PolicySet {
     {
         let index = usize::from(port);
         if index < MAX_PORTS {
-            self.alike = [None; MAX_PORTS];
+            self.groups = each_alone();
             self.policies[index] = Some(policy);
         }
+    }
+}
+
+// A group of each port alone.
+fn each_alone() -> [PortSet; MAX_PORTS]
+    ensures { (set : PortPolicies) → AreGroups set result }
+{
+    let mut groups = [PortSet::new(); MAX_PORTS];
+    for port in 0..MAX_PORTS {
+        groups[port].add(port as u8);
+    }
+    groups
+}
+
+// The ports of a group whose policy passes a frame: all or none. Where there are none, it is not judged.
+fn judged(group: PortSet, policy: Option<&Policy>, fields: &FrameFields, from: u8) -> PortSet
+    ensures { result ≡ (if passes (option_copied policy.entry) fields.now from then group else []) }
+{
+    if group.is_empty() {
+        return group;
+    }
+    match policy {
+        Some(policy) if policy.passes(fields, from) => group,
+        _ => PortSet::new(),
     }
 }

@@ -6,7 +6,7 @@ ghost use Rattle.gw_table.specs.Emission.{emission};
 use gw_frame::Frame;
 use gw_insn::Insn;
 use gw_machine::run;
-use gw_table::{IndexedTable, Table, compile};
+use gw_table::{FrameFields, IndexedTable, Table, compile};
 use gw_verify::Program;
 use std::alloc::Global;
 use std::marker::Model;
@@ -90,6 +90,17 @@ impl Policy {
         match &self.table {
             Some(table) => table.verdict(frame, from),
             None => run(&self.program, frame, from) != 0,
+        }
+    }
+
+    // The same, where the fields that tables look up are found already.
+    #[inline(always)]
+    pub(crate) fn passes(&self, fields: &FrameFields, from: u8) -> bool
+        ensures { result ≡ filter_passes self.now fields.now from }
+    {
+        match &self.table {
+            Some(table) => table.passes(fields, from),
+            None => run(&self.program, fields.frame(), from) != 0,
         }
     }
 }

@@ -8,6 +8,7 @@ ghost use Rattle.gw_table.specs.Table.{lies_in, is_pass, table_passes, action_fo
 ghost use Rattle.gw_table.specs.RuleSets.{span_of, IsLowest};
 ghost use Rattle.gw_table.specs.Index.{IsGroup, splits, position_in, group_position, shared, Stands, Indexes};
 
+use crate::fields::FrameFields;
 use crate::refusal::Field;
 use crate::rule_set::{is_member, lowest_common};
 use crate::rule_sets::RuleSets;
@@ -75,9 +76,16 @@ impl IndexedTable {
     pub fn verdict(&self, frame: &Frame, from: u8) -> bool
         ensures { result ≡ table_passes self.now frame.now from }
     {
+        self.passes(&FrameFields::new(frame), from)
+    }
+
+    /// Whether the table passes a frame that was taken at the port `from`, where its fields are found already.
+    pub fn passes(&self, fields: &FrameFields, from: u8) -> bool
+        ensures { result ≡ table_passes self.now fields.now from }
+    {
         match &self.index {
-            Some(index) => index.verdict(&self.table, frame, from),
-            None => self.table.verdict(frame, from),
+            Some(index) => index.verdict(&self.table, fields, from),
+            None => self.table.verdict(fields.frame(), from),
         }
     }
 
@@ -121,16 +129,15 @@ impl Index {
         Ok(Index { sets, ranks })
     }
 
-    fn verdict(&self, table: &Table, frame: &Frame, from: u8) -> bool
+    fn verdict(&self, table: &Table, fields: &FrameFields, from: u8) -> bool
         requires { Indexes table.now.rules self.now }
-        ensures { result ≡ table_passes table.now frame.now from }
+        ensures { result ≡ table_passes table.now fields.now from }
     {
-        let id = frame.id();
         // Extended data frames alone have a destination.
-        let Some(destination) = id.destination() else {
+        let Some(destination) = fields.destination() else {
             return table.other().passes();
         };
-        self.passes(table, id.pgn(), id.source(), destination, from)
+        self.passes(table, fields.pgn(), fields.source(), destination, from)
     }
 
     fn decides(&self, table: &Table, frame: &Frame, from: u8) -> Part

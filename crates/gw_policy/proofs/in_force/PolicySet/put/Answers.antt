@@ -1,4 +1,5 @@
 use Rattle.std.proofs.Common.{◌≡◌, ℕ, ◌≤◌, Some, map, set, ap, ◌∙◌, subst, arith}
+use Rattle.std.proofs.Math.ListN.{length-set}
 use Rattle.gw_policy.proofs.PolicySets.{policy_in, policy_of, sixteen_after, put_within, put_beyond}
 use Rattle.gw_policy.specs.Batches.{PortPolicies, policy_at}
 use Rattle.gw_policy.proofs.in_force.PolicySet.put.Goals as goal
@@ -21,6 +22,18 @@ put_there c after is other =
     (subst (λ p. P p (record { policies = map policy_of c.self.inside.policies; front = c.self.inside.front }))
     c.from-index.ensures (put_within c.self.inside.policies port (Some c.args.policy) c.self.invariant.0
     c.if-index-lt-MAX_PORTS.true other))
+
+pub invariant_of-self : goal.invariant_of-self
+invariant_of-self c = (
+  length-set c.self.inside.policies c.from-index.result (Some c.args.policy) ∙ c.self.invariant.0,
+  c.each_alone-self-inside.ensures _,
+)
+
+pub invariant_of-self-then-index-lt-MAX_PORTS-2 : goal.invariant_of-self-then-index-lt-MAX_PORTS-2
+invariant_of-self-then-index-lt-MAX_PORTS-2 c = (
+  length-set c.self.inside.policies c.from-index.result (Some c.args.policy) ∙ c.self.invariant.0,
+  c.each_alone-self-inside.ensures _,
+)
 
 pub returns-then-index-lt-MAX_PORTS-clause-policies : goal.returns-then-index-lt-MAX_PORTS-clause-policies
 returns-then-index-lt-MAX_PORTS-clause-policies c =

@@ -1,16 +1,16 @@
 use Rattle.std.proofs.Common.{◌∙◌, ap, rules, sym, subst, List, Option}
 use Rattle.gw_policy.specs.Filter.{Filter}
-use Rattle.gw_policy.specs.Batches.{AreAlike, PortPolicies}
+use Rattle.gw_policy.specs.Batches.{AreGroups, PortPolicies}
 use Rattle.gw_policy.proofs.PolicySets.{policies_copied}
 use Rattle.gw_policy.proofs.in_force.PolicySetClone.clone.Goals as goal
 
 pub invariant_of-result : goal.invariant_of-result
 invariant_of-result c =
-    let alike : List (Option Filter) → Type 0 =
-    λ policies. AreAlike (record { policies = policies; front = c.self.inside.front }) c.self.inside.alike in
+    let grouped : List (Option Filter) → Type 0 =
+    λ policies. AreGroups (record { policies = policies; front = c.self.inside.front }) c.self.inside.groups in
     let copied = policies_copied _ c.self.inside.policies c.in_ok-clone.field-0 (λ x y same. search rules)
     c.in_ok-clone.ensures.cases.whole in
-    (c.in_ok-clone.ensures.cases.long, c.self.invariant.1, subst alike (sym copied) c.self.invariant.2)
+    (c.in_ok-clone.ensures.cases.long, subst grouped (sym copied) c.self.invariant.1)
 
 pub returns : goal.returns
 returns c =
