@@ -192,6 +192,36 @@ ports_within (suc c) n test fits = elim (cases_lt c n) [
       ∙ append-nil (ports_below c (λ port. nat_lt port n && test port)) ∙ ports_within c n test past
 ]
 
+-- no port passes
+none_pass : (count : ℕ) (test : ℕ → Bool) → ((port : ℕ) → port < count → test port ≡ false) → ports_below count test ≡ []
+unfolding ports_below
+none_pass zero test none = refl
+none_pass (suc n) test none =
+    ap (λ b. ports_below n test ++ when b n) (none n (omega arith)) ∙ append-nil (ports_below n test)
+    ∙ none_pass n test (λ port below. none port (omega arith))
+
+-- the least port that passes stands in front of the others
+pub least_first : (count least : ℕ) (test others : ℕ → Bool) → least < count → test least ≡ true
+    → ((port : ℕ) → port < least → test port ≡ false) → others least ≡ false
+    → ((port : ℕ) → port < count → (port ≡ least → ⊥) → others port ≡ test port)
+    → ports_below count test ≡ least ∷ ports_below count others
+unfolding ports_below
+least_first zero least test others within passes below left same = absurd (omega arith)
+least_first (suc n) least test others within passes below left same = elim (cases_lt least n) [
+  | inl lower ↦
+      ap (λ ports. ports ++ when (test n) n)
+      (least_first n least test others lower passes below left (λ port under apart. same port (omega arith) apart))
+      ∙ ap (λ b. least ∷ (ports_below n others ++ when b n)) (sym (same n (omega arith) (λ is. omega arith)))
+  | inr from ↦
+      let is : n ≡ least = omega arith in
+      let last : test n ≡ true = ap test is ∙ passes in
+      let gone : others n ≡ false = ap others is ∙ left in
+      let before = none_pass n test (λ port under. below port (omega arith)) in
+      let rest = none_pass n others (λ port under. same port (omega arith) (λ e. omega arith) ∙ below port (omega arith)) in
+      ap (λ ports. ports ++ when (test n) n) before ∙ ap (λ b. when b n) last ∙ ap (λ k. k ∷ []) is
+      ∙ sym (ap (λ ports. least ∷ (ports ++ when (others n) n)) rest ∙ ap (λ b. least ∷ when b n) gone)
+]
+
 -- the ports below 16 that pass are a set
 pub is_set : (test : ℕ → Bool) → IsPortSet (ports_below 16 test)
 is_set test = record { in_order = same_ports 16 test (λ port. has_port port (ports_below 16 test)) passes }

@@ -11,4 +11,4 @@ pub use balancing::balance;
 pub use ledger::{InLedger, OutLedger};
 pub use limits::{BadLimit, Limits};
 pub use outcome::{FrameCopy, Outcome};
-pub use port_set::{MAX_PORTS, PortSet};
+pub use port_set::{MAX_PORTS, PortSet, Ports};

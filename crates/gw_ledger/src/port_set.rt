@@ -1,6 +1,7 @@
 //! Sets of ports.
 
-ghost use Rattle.std.specs.Prelude.{◌≡◌, ◌<◌, ◌≤◌, ◌==◌, ◌&&◌, ◌||◌, not, true, ℕ, [], ◌∷◌, ◌++◌, length, All, IsTrue, ◌↔◌};
+ghost use Rattle.std.specs.Prelude.{◌≡◌, ◌<◌, ◌≤◌, ◌==◌, ◌&&◌, ◌||◌, ◌↔◌, not, true, false, ℕ, [], ◌∷◌, ◌++◌, length, All};
+ghost use Rattle.std.specs.Prelude.{IsTrue, MatchOption};
 ghost use Rattle.gw_ledger.specs.Ports.{has_port, with_port, ports_below, IsPortSet};
 
 use std::marker::Model;
@@ -97,6 +98,25 @@ impl PortSet {
         }
     }
 
+    /// The least port.
+    pub fn first(self) -> Option<u8>
+        ensures least { MatchOption result (self ≡ []) (λ port. (port < 16) × (has_port port self ≡ true)
+            × ((other : ℕ) → other < port → has_port other self ≡ false)) }
+        ensures set { IsPortSet self }
+    {
+        if self.word == 0 {
+            return None;
+        }
+        Some(self.word.trailing_zeros() as u8)
+    }
+
+    /// The ports, from the least up.
+    pub fn iter(self) -> Ports
+        ensures { result ≡ self }
+    {
+        Ports { left: self }
+    }
+
     /// Whether no port is in the set.
     pub fn is_empty(self) -> bool
         ensures { IsTrue result ↔ (self ≡ []) }
@@ -111,5 +131,35 @@ impl PortSet {
         ensures set { IsPortSet self }
     {
         self.word.count_ones()
+    }
+}
+
+/// The ports of a set, from the least up.
+#[derive(Drop)]
+pub struct Ports {
+    left: PortSet,
+}
+
+impl Model for Ports {
+    ghost use Rattle.std.specs.Prelude.{ℕ, List};
+
+    ghost Value = { List ℕ };
+
+    ghost view = { λ ports. ports.left };
+}
+
+impl Iterator for Ports {
+    type Item = u8;
+
+    ghost use Rattle.std.specs.Iterator.{YieldsFirst, item_count};
+
+    ghost next_gives = { YieldsFirst (λ ports. ports) };
+
+    ghost remaining = { item_count (λ ports. ports) };
+
+    fn next(&mut self) -> Option<u8> {
+        let port = self.left.first()?;
+        self.left = self.left.without(port);
+        Some(port)
     }
 }

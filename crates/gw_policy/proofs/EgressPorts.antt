@@ -1,8 +1,8 @@
 -- The ports at which a frame may leave, by groups of ports whose policies pass the same frames.
 use Rattle.std.proofs.Common.{◌≡◌, ℕ, suc, ◌+◌, ◌<◌, ◌≤◌, Bool, true, false, if◌then◌else◌, List, [], sym, ap, ◌∙◌}
 use Rattle.std.proofs.Common.{subst, refl, arith, not, ◌==◌, ◌&&◌, ◌||◌, nat_lt}
-use Rattle.std.proofs.Common.{inl, inr, slice_index_or, set, length, replicate, Option, zero}
-use Rattle.std.proofs.lemmas.Bool.{cases_eq, cases_lt, eq-eqb, false≢true, lt-ltb, ltb-true, ne_eqb}
+use Rattle.std.proofs.Common.{inl, inr, slice_index_or, set, length, replicate, Option, zero, ◌∷◌}
+use Rattle.std.proofs.lemmas.Bool.{cases_eq, eq-eqb, false≢true, lt-ltb, ltb-true, ne_eqb}
 use Rattle.std.proofs.lemmas.List.{get_or_default, get_or-set_other, get_or-set_same, length-set}
 use Rattle.gw_ledger.specs.Ports.{has_port, ports_below}
 use Rattle.gw_ledger.proofs.Callers.{has_port-ports_below, ports_within, same_ports}
@@ -20,7 +20,7 @@ of_both : (a b : Bool) → a ≡ true → b ≡ true → (a && b) ≡ true
 of_both true b one other = other
 of_both false b one other = absurd (false≢true one)
 
-second_holds : (a b : Bool) → b ≡ true → (a || b) ≡ true
+pub second_holds : (a b : Bool) → b ≡ true → (a || b) ≡ true
 second_holds true b is = refl
 second_holds false b is = is
 
@@ -39,11 +39,12 @@ pub alike_itself : (policy : Option Filter) → PassAlike policy policy
 alike_itself policy octets port is_record fits = refl
 
 -- one port more is put into the group of one that passes the same frames
-pub one_more_group : (n first : ℕ) (policies : PortPolicies) (groups : List (List ℕ)) (group absent : List ℕ)
-    → HasGroups n policies groups → first ≤ n → n < 16 → PassAlike (policy_at first policies) (policy_at n policies)
+pub one_more_group : (n first : ℕ) (policies : PortPolicies) (groups : List (List ℕ)) (group absent leaders leading : List ℕ)
+    → HasGroups n policies groups leaders → first ≤ n → n < 16 → PassAlike (policy_at first policies) (policy_at n policies)
     → ((port : ℕ) → has_port port group ≡ ((n == port) || has_port port (slice_index_or groups first absent)))
-    → HasGroups (n + 1) policies (set groups first group)
-one_more_group n first policies groups group absent before up_to below alike more = record {
+    → has_port first leading ≡ true → ((port : ℕ) → has_port port leaders ≡ true → has_port port leading ≡ true)
+    → HasGroups (n + 1) policies (set groups first group) leading
+one_more_group n first policies groups group absent leaders leading before up_to below alike more leads still = record {
   long = length-set groups first group ∙ before.long;
   alike = λ other port has. elim (cases_eq other first) [
     | inl same ↦ subst (λ k. PassAlike (policy_at k policies) (policy_at port policies)) (sym same)
@@ -55,6 +56,7 @@ one_more_group n first policies groups group absent before up_to below alike mor
     | inl same ↦ record {
       first = first;
       up_to = omega (arith, up_to, same);
+      leads = leads;
       has = ap (has_port port) here ∙ members port
           ∙ first_holds (n == port) (has_port port (slice_index_or groups first [])) (eq-eqb n port (sym same));
     }
@@ -80,10 +82,11 @@ one_more_group n first policies groups group absent before up_to below alike mor
           (ap (λ b. b || has_port port (slice_index_or groups first [])) (sym (ne_eqb n port apart)) ∙ is)
     ]
 
-    kept : (port : ℕ) → IsInGroup groups port → IsInGroup (set groups first group) port
+    kept : (port : ℕ) → IsInGroup groups leaders port → IsInGroup (set groups first group) leading port
     kept port group_of = record {
       first = group_of.first;
       up_to = group_of.up_to;
+      leads = still group_of.first group_of.leads;
       has = elim (cases_eq group_of.first first) [
         | inl same ↦ ap (λ k. has_port port (slice_index_or (set groups first group) k [])) same ∙ ap (has_port port) here
             ∙ members port ∙ second_holds (n == port) (has_port port (slice_index_or groups first []))
@@ -98,8 +101,9 @@ all_empty (suc n) zero empty is = is
 all_empty (suc n) (suc k) empty is = all_empty n k empty is
 
 -- no port is in a group yet
-pub no_groups : (policies : PortPolicies) (empty : List ℕ) → empty ≡ [] → HasGroups 0 policies (replicate 16 empty)
-no_groups policies empty is = record {
+pub no_groups : (policies : PortPolicies) (empty leaders : List ℕ) → empty ≡ []
+    → HasGroups 0 policies (replicate 16 empty) leaders
+no_groups policies empty leaders is = record {
   long = refl;
   alike = λ first port has. absurd (false≢true (sym (ap (has_port port) (all_empty 16 first empty is)) ∙ has));
   all = λ port less. absurd (omega arith);
@@ -107,42 +111,56 @@ no_groups policies empty is = record {
 
 -- ---- a frame's egress ports
 
--- what the groups of the first ports give of those asked for
-pub record Gathered (n : ℕ) (groups : List (List ℕ)) (asked : List ℕ) (test : ℕ → Bool) (passing : List ℕ) : Type 0 where
+-- what the groups give of the ports asked for, but those of the leaders that are left
+pub record Gathered (left leaders : List ℕ) (groups : List (List ℕ)) (asked : List ℕ) (test : ℕ → Bool) (passing : List ℕ)
+    : Type 0 where
+  pub low : (port : ℕ) → has_port port left ≡ true → port < 16
   pub set : passing ≡ ports_below 16 (λ port. has_port port passing)
   pub sound : (port : ℕ) → has_port port passing ≡ true → (has_port port asked && test port) ≡ true
-  pub whole : (first port : ℕ) → first < n → port < 16 → has_port port (slice_index_or groups first []) ≡ true
-      → (has_port port asked && test port) ≡ true → has_port port passing ≡ true
+  pub whole : (first port : ℕ) → has_port first leaders ≡ true → has_port first left ≡ false → port < 16
+      → has_port port (slice_index_or groups first []) ≡ true → (has_port port asked && test port) ≡ true
+      → has_port port passing ≡ true
 
-pub nothing_yet : (groups : List (List ℕ)) (asked passing : List ℕ) (test : ℕ → Bool) → passing ≡ []
-    → Gathered 0 groups asked test passing
+pub nothing_yet : (leaders : List ℕ) (leading : ℕ → Bool) (groups : List (List ℕ)) (asked passing : List ℕ) (test : ℕ → Bool)
+    → leaders ≡ ports_below 16 leading → passing ≡ [] → Gathered leaders leaders groups asked test passing
 unfolding ports_below
-nothing_yet groups asked passing test is = record {
+nothing_yet leaders leading groups asked passing test leaders_are is = record {
+  low = λ port has. ltb-true port 16 (both (nat_lt port 16) (leading port)
+      (sym (ap (has_port port) leaders_are ∙ has_port-ports_below 16 port leading) ∙ has)).0;
   set = is ∙ sym (ap (λ l. ports_below 16 (λ port. has_port port l)) is);
   sound = λ port has. absurd (false≢true (ap (has_port port) (sym is) ∙ has));
-  whole = λ first port less. absurd (omega arith);
+  whole = λ first port leads gone. absurd (false≢true (sym gone ∙ leads));
 }
 
--- The group of one port more gives all it has of those asked for, or none: as its first port's policy passes.
-pub one_more_gathered : (n : ℕ) (groups : List (List ℕ)) (asked passing group part more : List ℕ) (test : ℕ → Bool)
-    → Gathered n groups asked test passing
+-- the next leader is a port
+pub next_low : (n : ℕ) (left rest leaders : List ℕ) (groups : List (List ℕ)) (asked passing : List ℕ) (test : ℕ → Bool)
+    → Gathered left leaders groups asked test passing → left ≡ n ∷ rest → n < 16
+next_low n left rest leaders groups asked passing test before next =
+    before.low n (ap (has_port n) next ∙ first_holds (n == n) (has_port n rest) (eq-eqb n n refl))
+
+-- The group of one leader more gives all it has of those asked for, or none: as the leader's policy passes.
+pub one_more_gathered : (n : ℕ) (left rest leaders : List ℕ) (groups : List (List ℕ)) (asked passing group part more : List ℕ)
+    (test : ℕ → Bool) → Gathered left leaders groups asked test passing → left ≡ n ∷ rest
     → ((port : ℕ) → has_port port (slice_index_or groups n []) ≡ true → test n ≡ test port)
     → group ≡ ports_below 16 (λ port. has_port port (slice_index_or groups n []) && has_port port asked)
     → part ≡ (if test n then group else []) → more ≡ ports_below 16 (λ port. has_port port passing || has_port port part)
-    → Gathered (n + 1) groups asked test more
-one_more_gathered n groups asked passing group part more test before alike group_is part_is more_is = record {
-  set = more_is ∙ same_ports 16 (λ port. has_port port passing || has_port port part) (λ port. has_port port more)
-      (λ port low. sym (in_more port low));
-  sound = λ port has.
-      let (low, either) = both (nat_lt port 16) (has_port port passing || has_port port part) (sym (more_has port) ∙ has) in
-      one_passes port (has_port port passing) (has_port port part) (before.sound port) (new port) either;
-  whole = λ first port less low has asks. in_more port low ∙ elim (cases_lt first n) [
-    | inl earlier ↦ first_holds (has_port port passing) (has_port port part) (before.whole first port earlier low has asks)
-    | inr this ↦ second_holds (has_port port passing) (has_port port part)
-        (let same : first ≡ n = omega arith in
-        given port low (ap (λ k. has_port port (slice_index_or groups k [])) (sym same) ∙ has) asks)
-  ];
-}
+    → Gathered rest leaders groups asked test more
+one_more_gathered n left rest leaders groups asked passing group part more test before next alike group_is part_is more_is =
+    record {
+      low = λ port has. before.low port (ap (has_port port) next ∙ second_holds (n == port) (has_port port rest) has);
+      set = more_is ∙ same_ports 16 (λ port. has_port port passing || has_port port part) (λ port. has_port port more)
+          (λ port low. sym (in_more port low));
+      sound = λ port has.
+          let (low, either) = both (nat_lt port 16) (has_port port passing || has_port port part) (sym (more_has port) ∙ has) in
+          one_passes port (has_port port passing) (has_port port part) (before.sound port) (new port) either;
+      whole = λ first port leads gone low has asks. in_more port low ∙ elim (cases_eq n first) [
+        | inl this ↦ second_holds (has_port port passing) (has_port port part)
+            (given port low (ap (λ k. has_port port (slice_index_or groups k [])) this ∙ has) asks)
+        | inr other ↦ first_holds (has_port port passing) (has_port port part)
+            (before.whole first port leads
+            (ap (has_port first) next ∙ ap (λ b. b || has_port first rest) (ne_eqb n first other) ∙ gone) low has asks)
+      ];
+    }
   where
     more_has : (port : ℕ) → has_port port more ≡ (nat_lt port 16 && (has_port port passing || has_port port part))
     more_has port =
@@ -203,15 +221,25 @@ module _ (ports from : ℕ) (below asked : List ℕ) (fits : ports ≤ 16) (belo
   asked_passes port passing low =
       ap (λ b. b && passing port) (is_asked port low) ∙ turned (not (port == from)) (nat_lt port ports) (passing port)
 
-  -- the groups of the ports below the number give those that pass
-  pub all_gathered : (groups : List (List ℕ)) (policies : PortPolicies) (egress : List ℕ) (passing : ℕ → Bool)
-      → HasGroups 16 policies groups → Gathered ports groups asked passing egress
+  -- the groups of the leaders below the number give those that pass
+  pub all_gathered : (groups : List (List ℕ)) (leaders here none : List ℕ) (policies : PortPolicies) (egress : List ℕ)
+      (passing : ℕ → Bool) → HasGroups 16 policies groups leaders
+      → here ≡ ports_below 16 (λ port. has_port port leaders && has_port port below) → none ≡ []
+      → Gathered none here groups asked passing egress
       → egress ≡ ports_below ports (λ port. not (port == from) && passing port)
-  all_gathered groups policies egress passing known all =
+  all_gathered groups leaders here none policies egress passing known here_is none_is all =
       all.set
       ∙ same_ports 16 (λ port. has_port port egress) (λ port. nat_lt port ports && (not (port == from) && passing port)) agree
       ∙ ports_within 16 ports (λ port. not (port == from) && passing port) fits
     where
+      leads_here : (first : ℕ) → first < ports → has_port first leaders ≡ true → has_port first here ≡ true
+      leads_here first less leads =
+          let inside : has_port first below ≡ true = ap (has_port first) below_is ∙ has_port-ports_below ports first (λ _. true)
+          ∙ ap (λ b. b && true) (lt-ltb first ports less) in
+          ap (has_port first) here_is ∙ has_port-ports_below 16 first (λ port. has_port port leaders && has_port port below)
+          ∙ of_both (nat_lt first 16) (has_port first leaders && has_port first below)
+          (lt-ltb first 16 (omega (arith, less, fits))) (of_both (has_port first leaders) (has_port first below) leads inside)
+
       agree : (port : ℕ) → port < 16
           → has_port port egress ≡ (nat_lt port ports && (not (port == from) && passing port))
       agree port low = same_test (has_port port egress) (nat_lt port ports && (not (port == from) && passing port))
@@ -220,4 +248,5 @@ module _ (ports from : ℕ) (below asked : List ℕ) (fits : ports ≤ 16) (belo
           let (inside, rest) = both (nat_lt port ports) (not (port == from) && passing port) passes in
           let less : port < ports = ltb-true port ports inside in
           let group = known.all port low in
-          all.whole group.first port (omega (arith, group.up_to, less)) low group.has (asked_passes port passing low ∙ passes))
+          all.whole group.first port (leads_here group.first (omega (arith, group.up_to, less)) group.leads)
+          (ap (has_port group.first) none_is) low group.has (asked_passes port passing low ∙ passes))

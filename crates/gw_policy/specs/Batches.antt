@@ -60,20 +60,21 @@ pub record PortPolicies : Type 0 where
 abbrev pub policy_at : ℕ → PortPolicies → Option Filter
 policy_at port set = option_flatten (slice_get set.policies port)
 
--- the port is in the group of a port up to it
-pub record IsInGroup (groups : List (List ℕ)) (port : ℕ) : Type 0 where
+-- the port is in the group that a port up to it leads
+pub record IsInGroup (groups : List (List ℕ)) (leaders : List ℕ) (port : ℕ) : Type 0 where
   pub first : ℕ
   pub up_to : first ≤ port
+  pub leads : has_port first leaders ≡ true
   pub has : has_port port (slice_index_or groups first []) ≡ true
 
 -- by port, ports whose policies pass the frames that its own passes. Each port below a number is in a group.
-pub record HasGroups (n : ℕ) (set : PortPolicies) (groups : List (List ℕ)) : Type 0 where
+pub record HasGroups (n : ℕ) (set : PortPolicies) (groups : List (List ℕ)) (leaders : List ℕ) : Type 0 where
   pub long : length groups ≡ 16
   pub alike : (first port : ℕ) → has_port port (slice_index_or groups first []) ≡ true
       → PassAlike (policy_at first set) (policy_at port set)
-  pub all : (port : ℕ) → port < n → IsInGroup groups port
+  pub all : (port : ℕ) → port < n → IsInGroup groups leaders port
 
-abbrev pub AreGroups : PortPolicies → List (List ℕ) → Type 0
+abbrev pub AreGroups : PortPolicies → List (List ℕ) → List ℕ → Type 0
 AreGroups = HasGroups 16
 
 -- the policies in force after these batches

@@ -15,7 +15,9 @@ ghost use Rattle.std.specs.Prelude.{
   OnOk,
   OnErr,
   option_copied,
+  true,
 };
+ghost use Rattle.gw_ledger.specs.Ports.{ports_below};
 ghost use Rattle.gw_policy.specs.Batches.{AreGroups, PortPolicies, passes};
 
 use crate::batch::Batch;
@@ -33,9 +35,11 @@ use std::sync::Arc;
 #[derive(Drop)]
 pub struct PolicySet {
     policies: [Option<Arc<Policy>>; MAX_PORTS],
-    // By port, the ports whose policies have its program, where no port before it has. So each port is in one group, which is
-    // that of a port up to it.
+    // By port, the ports whose policies have its program, where no port before it has. So each port is in one group, which a port
+    // up to it leads.
     groups: [PortSet; MAX_PORTS],
+    // The ports that lead a group.
+    leaders: PortSet,
     front: u32,
 }
 
@@ -48,7 +52,8 @@ impl Model for PolicySet {
     ghost view = { λ s. record { policies = map (option_map (λ policy. policy.value)) s.policies; front = s.front } };
 
     ghost invariant = { λ s. (length s.policies ≡ 16)
-        × AreGroups (record { policies = map (option_map (λ policy. policy.value)) s.policies; front = s.front }) s.groups };
+        × AreGroups (record { policies = map (option_map (λ policy. policy.value)) s.policies; front = s.front })
+        s.groups s.leaders };
 }
 
 // One owner more of each policy. The copy of an `Arc` can be refused.
@@ -61,6 +66,7 @@ impl Clone for PolicySet {
         Ok(PolicySet {
             policies: self.policies.clone()?,
             groups: self.groups,
+            leaders: self.leaders,
             front: self.front,
         })
     }
@@ -80,6 +86,7 @@ impl PolicySet {
         PolicySet {
             policies: Default::default(),
             groups: each_alone(),
+            leaders: PortSet::below(MAX_PORTS as u8),
             front: 0,
         }
     }
@@ -122,10 +129,14 @@ impl PolicySet {
         ensures { self.new ≡ self.old }
     {
         let mut groups = [PortSet::new(); MAX_PORTS];
+        let mut leaders = PortSet::new();
         for port in 0..MAX_PORTS as u8 {
-            groups[usize::from(self.first_alike(port))].add(port);
+            let first = self.first_alike(port);
+            groups[usize::from(first)].add(port);
+            leaders.add(first);
         }
         self.groups = groups;
+        self.leaders = leaders;
     }
 
     // The first port whose policy has the program of this one's: the port itself, where none before it has.
@@ -177,11 +188,12 @@ impl PolicySet {
         // Policies of one program are alike on records.
         let _octets = frame.bytes();
         let fields = FrameFields::new(frame);
-        let asked = PortSet::below(ports).without(from);
+        let there = PortSet::below(ports);
+        let asked = there.without(from);
         let mut egress = PortSet::new();
-        for first in 0..ports {
-            let group = self.groups[usize::from(first)];
-            let passing = judged(group.intersection(asked), self.get(first), &fields, from);
+        for leader in self.leaders.intersection(there).iter() {
+            let group = self.groups[usize::from(leader)];
+            let passing = judged(group.intersection(asked), self.get(leader), &fields, from);
             egress = egress.union(passing);
         }
         egress
@@ -196,14 +208,15 @@ impl PolicySet {
         let index = usize::from(port);
         if index < MAX_PORTS {
             self.groups = each_alone();
+            self.leaders = PortSet::below(MAX_PORTS as u8);
             self.policies[index] = Some(policy);
         }
     }
 }
 
-// A group of each port alone.
+// A group of each port alone, which it leads.
 fn each_alone() -> [PortSet; MAX_PORTS]
-    ensures { (set : PortPolicies) → AreGroups set result }
+    ensures { (set : PortPolicies) (leaders : List ℕ) → leaders ≡ ports_below 16 (λ _. true) → AreGroups set result leaders }
 {
     let mut groups = [PortSet::new(); MAX_PORTS];
     for port in 0..MAX_PORTS {

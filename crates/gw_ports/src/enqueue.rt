@@ -76,6 +76,10 @@ pub(crate) fn enqueue<F: FullLane>(
     ensures all { F.waits ≡ true → PlacesAll allowed result }
 {
     let mut placed = PortSet::new();
+    // A frame that is allowed nowhere looks at no lane.
+    if allowed.is_empty() {
+        return placed;
+    }
     for index in 0..lanes.len() {
         let port = index as u8;
         let is_allowed = allowed.has(port);

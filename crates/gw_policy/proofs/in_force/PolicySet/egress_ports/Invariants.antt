@@ -2,6 +2,7 @@ use Rattle.gw_policy.specs.Batches.{passes, policy_at}
 use Rattle.gw_policy.proofs.EgressPorts.{Gathered}
 use Rattle.gw_policy.proofs.in_force.PolicySet.egress_ports.Given as goal
 
-abbrev pub invariant-loop-first : goal.invariant-loop-first
-invariant-loop-first l =
-    Gathered l.first l.self-inside.groups l.asked (λ port. passes (policy_at port l.self) l.frame l.from) l.egress
+abbrev pub invariant-loop-leader : goal.invariant-loop-leader
+invariant-loop-leader l =
+    Gathered l.leader-iterator l.initial.leader-iterator l.self-inside.groups l.asked
+    (λ port. passes (policy_at port l.self) l.frame l.from) l.egress

@@ -3,7 +3,7 @@ use Rattle.gw_policy.proofs.PolicySets.{empty_policies, none_in_force}
 use Rattle.gw_policy.proofs.in_force.PolicySet.new.Goals as goal
 
 pub invariant_of-result : goal.invariant_of-result
-invariant_of-result c = (c.default.ensures.long, c.each_alone.ensures _)
+invariant_of-result c = (c.default.ensures.long, c.each_alone.ensures _ _ c.below.ensures)
 
 pub returns-clause-blocks : goal.returns-clause-blocks
 returns-clause-blocks c = empty_policies c.default.result (λ i d within. search rules)

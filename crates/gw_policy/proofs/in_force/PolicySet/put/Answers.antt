@@ -26,13 +26,13 @@ put_there c after is other =
 pub invariant_of-self : goal.invariant_of-self
 invariant_of-self c = (
   length-set c.self.inside.policies c.from-index.result (Some c.args.policy) ∙ c.self.invariant.0,
-  c.each_alone-self-inside.ensures _,
+  c.each_alone-self-inside.ensures _ _ c.below-self-inside.ensures,
 )
 
 pub invariant_of-self-then-index-lt-MAX_PORTS-2 : goal.invariant_of-self-then-index-lt-MAX_PORTS-2
 invariant_of-self-then-index-lt-MAX_PORTS-2 c = (
   length-set c.self.inside.policies c.from-index.result (Some c.args.policy) ∙ c.self.invariant.0,
-  c.each_alone-self-inside.ensures _,
+  c.each_alone-self-inside.ensures _ _ c.below-self-inside.ensures,
 )
 
 pub returns-then-index-lt-MAX_PORTS-clause-policies : goal.returns-then-index-lt-MAX_PORTS-clause-policies

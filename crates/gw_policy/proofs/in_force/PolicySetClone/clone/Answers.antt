@@ -7,7 +7,8 @@ use Rattle.gw_policy.proofs.in_force.PolicySetClone.clone.Goals as goal
 pub invariant_of-result : goal.invariant_of-result
 invariant_of-result c =
     let grouped : List (Option Filter) → Type 0 =
-    λ policies. AreGroups (record { policies = policies; front = c.self.inside.front }) c.self.inside.groups in
+    λ policies. AreGroups (record { policies = policies; front = c.self.inside.front }) c.self.inside.groups
+    c.self.inside.leaders in
     let copied = policies_copied _ c.self.inside.policies c.in_ok-clone.field-0 (λ x y same. search rules)
     c.in_ok-clone.ensures.cases.whole in
     (c.in_ok-clone.ensures.cases.long, subst grouped (sym copied) c.self.invariant.1)
