@@ -1,6 +1,8 @@
 //! The end that reads.
 
-ghost use Rattle.std.specs.Prelude.{◌≡◌, ◌≤◌, IfOk, MatchResult, OnOk, length};
+ghost use Rattle.std.specs.Prelude.{◌≡◌, ◌≤◌, IfOk, MatchResult, OnOk, length, reverse};
+ghost use Rattle.gw_ledger.specs.Ports.{ports_below};
+ghost use Rattle.gw_policy.specs.Allowed.{may_leave};
 ghost use Rattle.gw_policy.specs.Batches.{PortPolicies};
 ghost use Rattle.std.specs.Arc.{arc_value};
 ghost use Rattle.std.specs.Fn.{FnOnceReturnsAt};
@@ -12,7 +14,9 @@ use crate::count::CountReader;
 use crate::history::Prefix;
 use crate::refusals::NoReading;
 use crate::shelf::Shelf;
-use gw_policy::PolicySet;
+use gw_frame::Frame;
+use gw_ledger::PortSet;
+use gw_policy::{PolicySet, VerdictCache};
 use std::alloc::Global;
 use std::marker::Model;
 use std::sync::Arc;
@@ -55,6 +59,8 @@ pub struct Watch {
     shelf: Arc<Shelf, Global>,
     // The policies in force after the batches of `read`.
     set: PolicySet,
+    // What the tables of `set` said of the last frames.
+    verdicts: VerdictCache,
     read: Prefix,
     known: Prefix,
 }
@@ -64,13 +70,14 @@ impl Model for Watch {
     ghost use Rattle.std.specs.Arc.{arc_value};
     ghost use Rattle.gw_board.specs.Lists.{InForceAfter};
     ghost use Rattle.gw_board.specs.Ends.{Watching, visits_of};
+    ghost use Rattle.gw_policy.specs.Cached.{Keeps};
 
     ghost Value = { Watching };
 
     ghost view = { λ w. record { board = w.known.board; batches = w.known.batches; visits = visits_of w.reader } };
 
     ghost invariant = { λ w. InForceAfter w.set w.read.batches × (w.read.board ≡ w.known.board)
-        × (arc_value w.shelf ≡ w.known.board) };
+        × (arc_value w.shelf ≡ w.known.board) × Keeps w.set w.verdicts };
 }
 
 impl Watch {
@@ -87,6 +94,7 @@ impl Watch {
             reader: Some(reader),
             shelf,
             set: PolicySet::new(),
+            verdicts: VerdictCache::new(),
             read: nothing.again(),
             known: nothing,
         }
@@ -139,6 +147,29 @@ impl Watch {
         Ok(f(&self.set))
     }
 
+    /// The ports below a number, except `from`, at which a frame may leave that was taken at the port `from`, by the policies that
+    /// `with` would hand over. Tables are not asked again of an identifier that they judged lately. Refused, 77, it knows what it
+    /// knew.
+    pub fn egress_ports(&mut self, ports: u8, frame: &Frame, from: u8) -> Result<PortSet, NoReading>
+        requires { ports ≤ 16 }
+        ensures board { self.new.board ≡ self.old.board }
+        ensures judged { MatchResult result
+            (λ egress. IsPrefix self.old.batches self.new.batches
+            × (egress ≡ ports_below ports (may_leave (reverse self.new.batches) from frame.now)))
+            (λ _. self.new.batches ≡ self.old.batches) }
+        ensures entered { OnOk result (Enters self.old self.new) }
+    {
+        let shown = self.enter()?;
+        if self.read.len() < self.len().max(shown) {
+            return Err(NoReading);
+        }
+        self.known = self.read.longer(&self.known);
+        Ok(
+            self.set
+                .cached_egress_ports(&mut self.verdicts, ports, frame, from),
+        )
+    }
+
     // Enters, and answers how many batches are published at that step. It copies their policies before it leaves. The operator
     // shows the version after the next only once this watch has left.
     // Inlined, as the reader's two calls are, and `catch_up` is not: else a reading that finds nothing new takes twice as long.
@@ -176,6 +207,7 @@ impl Watch {
         if version.len() == count {
             let (set, list) = version.into_parts();
             self.set = set;
+            self.verdicts.clear();
             self.read = list;
         }
     }

@@ -1,15 +1,15 @@
 -- The ports of a word, by its bits.
 use Rattle.std.proofs.Common.{◌≡◌, ℕ, zero, suc, ◌+◌, ◌*◌, ◌%◌, ◌^◌, ◌<◌, ◌==◌, if◌then◌else◌, List, [], ◌∷◌, length, inl, inr}
-use Rattle.std.proofs.Common.{min, max, true, nat_lt, ◌-◌}
+use Rattle.std.proofs.Common.{min, max, true, nat_lt, not, w16, ◌-◌}
 use Rattle.std.proofs.Common.{sym, ap, ◌∙◌, subst, arith, ◌&&◌, ◌||◌}
 use Rattle.std.specs.Int.RustNames.{bit_and, bit_or}
-use Rattle.std.specs.Int.{bit_at}
+use Rattle.std.specs.Int.{bit_at, bit_not}
 use Rattle.std.specs.Int.Count.{ones}
 use Rattle.std.proofs.Math.Nat.{mod-eq_of_lt, mod-one}
 use Rattle.std.proofs.lemmas.Bool.{cases_lt, lt-ltb, le-ltb}
 use Rattle.std.proofs.lemmas.List.{length-append}
 use Rattle.std.proofs.lemmas.Nat.{ones_cat, mod-pow-add, mod_below, pow_pos}
-use Rattle.std.proofs.lemmas.Nat.Bits.{bit_at-lt, bit_at_and, bit_at_or, bit_at_ones, bit_at_ones_above}
+use Rattle.std.proofs.lemmas.Nat.Bits.{bit_at-lt, bit_at_and, bit_at_not, bit_at_or, bit_at_ones, bit_at_ones_above}
 use lib.Count.{ones-ones}
 use Rattle.gw_ledger.specs.Ports.{has_port, ports_below}
 use Rattle.gw_ledger.specs.PortWord.{ports_of_word}
@@ -81,6 +81,19 @@ pub bit_of_either : (one other port : ℕ)
 bit_of_either one other port =
     one_set (bit_at one port) (bit_at other port) (bit_at (bit_or one other) port) (bit_at-lt one port) (bit_at-lt other port)
     (bit_at_or one other port)
+
+not_set : (bit other : ℕ) → bit < 2 → other ≡ 1 - bit → (other == 1) ≡ not (bit == 1)
+not_set zero other below is = ap (λ b. b == 1) is
+not_set (suc zero) other below is = ap (λ b. b == 1) is
+not_set (suc (suc n)) other below is = absurd (omega arith)
+
+-- the bits of one word that are not those of another
+pub bit_of_rest : (one other port : ℕ) → other < 2 ^ 16 → port < 16
+    → (bit_at (bit_and one (bit_not w16 other)) port == 1) ≡ ((bit_at one port == 1) && not (bit_at other port == 1))
+bit_of_rest one other port fits below =
+    bit_of_both one (bit_not w16 other) port
+    ∙ ap (λ b. (bit_at one port == 1) && b)
+    (not_set (bit_at other port) (bit_at (bit_not w16 other) port) (bit_at-lt other port) (bit_at_not w16 other port fits below))
 
 -- the bits of the ports below a number
 pub bit_below : (n port : ℕ) → (bit_at (2 ^ n - 1) port == 1) ≡ (nat_lt port n && true)

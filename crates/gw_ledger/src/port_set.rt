@@ -98,6 +98,15 @@ impl PortSet {
         }
     }
 
+    /// The ports of this set that are not in the other.
+    pub fn difference(self, other: PortSet) -> PortSet
+        ensures { result ≡ ports_below 16 (λ port. has_port port self && not (has_port port other)) }
+    {
+        PortSet {
+            word: self.word & !other.word,
+        }
+    }
+
     /// The least port.
     pub fn first(self) -> Option<u8>
         ensures least { MatchOption result (self ≡ []) (λ port. (port < 16) × (has_port port self ≡ true)

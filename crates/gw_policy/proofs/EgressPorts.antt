@@ -2,7 +2,7 @@
 use Rattle.std.proofs.Common.{◌≡◌, ℕ, suc, ◌+◌, ◌<◌, ◌≤◌, Bool, true, false, if◌then◌else◌, List, [], sym, ap, ◌∙◌}
 use Rattle.std.proofs.Common.{subst, refl, arith, not, ◌==◌, ◌&&◌, ◌||◌, nat_lt}
 use Rattle.std.proofs.Common.{inl, inr, slice_index_or, set, length, replicate, Option, zero, ◌∷◌}
-use Rattle.std.proofs.lemmas.Bool.{cases_eq, eq-eqb, false≢true, lt-ltb, ltb-true, ne_eqb}
+use Rattle.std.proofs.lemmas.Bool.{and_from, and_parts, cases_eq, eq-eqb, false≢true, lt-ltb, ltb-true, ne_eqb, or_left, or_right}
 use Rattle.std.proofs.lemmas.List.{get_or_default, get_or-set_other, get_or-set_same, length-set}
 use Rattle.gw_ledger.specs.Ports.{has_port, ports_below}
 use Rattle.gw_ledger.proofs.Callers.{has_port-ports_below, ports_within, same_ports}
@@ -10,23 +10,6 @@ use Rattle.gw_policy.specs.Filter.{Filter}
 use Rattle.gw_policy.specs.Batches.{HasGroups, IsInGroup, PassAlike, PortPolicies, policy_at}
 
 -- ---- tests
-
--- both tests hold
-both : (a b : Bool) → (a && b) ≡ true → (a ≡ true) × (b ≡ true)
-both true b is = (refl, is)
-both false b is = absurd (false≢true is)
-
-of_both : (a b : Bool) → a ≡ true → b ≡ true → (a && b) ≡ true
-of_both true b one other = other
-of_both false b one other = absurd (false≢true one)
-
-pub second_holds : (a b : Bool) → b ≡ true → (a || b) ≡ true
-second_holds true b is = refl
-second_holds false b is = is
-
-first_holds : (a b : Bool) → a ≡ true → (a || b) ≡ true
-first_holds true b is = refl
-first_holds false b is = absurd (false≢true is)
 
 same_test : (a b : Bool) → (a ≡ true → b ≡ true) → (b ≡ true → a ≡ true) → a ≡ b
 same_test true b there back = sym (there refl)
@@ -58,7 +41,7 @@ one_more_group n first policies groups group absent leaders leading before up_to
       up_to = omega (arith, up_to, same);
       leads = leads;
       has = ap (has_port port) here ∙ members port
-          ∙ first_holds (n == port) (has_port port (slice_index_or groups first [])) (eq-eqb n port (sym same));
+          ∙ or_left (n == port) (has_port port (slice_index_or groups first [])) (eq-eqb n port (sym same));
     }
     | inr apart ↦ kept port (before.all port (omega arith))
   ];
@@ -89,7 +72,7 @@ one_more_group n first policies groups group absent leaders leading before up_to
       leads = still group_of.first group_of.leads;
       has = elim (cases_eq group_of.first first) [
         | inl same ↦ ap (λ k. has_port port (slice_index_or (set groups first group) k [])) same ∙ ap (has_port port) here
-            ∙ members port ∙ second_holds (n == port) (has_port port (slice_index_or groups first []))
+            ∙ members port ∙ or_right (n == port) (has_port port (slice_index_or groups first []))
             (ap (λ k. has_port port (slice_index_or groups k [])) (sym same) ∙ group_of.has)
         | inr apart ↦ ap (has_port port) (get_or-set_other groups first group_of.first group [] apart) ∙ group_of.has
       ];
@@ -125,7 +108,7 @@ pub nothing_yet : (leaders : List ℕ) (leading : ℕ → Bool) (groups : List (
     → leaders ≡ ports_below 16 leading → passing ≡ [] → Gathered leaders leaders groups asked test passing
 unfolding ports_below
 nothing_yet leaders leading groups asked passing test leaders_are is = record {
-  low = λ port has. ltb-true port 16 (both (nat_lt port 16) (leading port)
+  low = λ port has. ltb-true port 16 (and_parts (nat_lt port 16) (leading port)
       (sym (ap (has_port port) leaders_are ∙ has_port-ports_below 16 port leading) ∙ has)).0;
   set = is ∙ sym (ap (λ l. ports_below 16 (λ port. has_port port l)) is);
   sound = λ port has. absurd (false≢true (ap (has_port port) (sym is) ∙ has));
@@ -136,7 +119,7 @@ nothing_yet leaders leading groups asked passing test leaders_are is = record {
 pub next_low : (n : ℕ) (left rest leaders : List ℕ) (groups : List (List ℕ)) (asked passing : List ℕ) (test : ℕ → Bool)
     → Gathered left leaders groups asked test passing → left ≡ n ∷ rest → n < 16
 next_low n left rest leaders groups asked passing test before next =
-    before.low n (ap (has_port n) next ∙ first_holds (n == n) (has_port n rest) (eq-eqb n n refl))
+    before.low n (ap (has_port n) next ∙ or_left (n == n) (has_port n rest) (eq-eqb n n refl))
 
 -- The group of one leader more gives all it has of those asked for, or none: as the leader's policy passes.
 pub one_more_gathered : (n : ℕ) (left rest leaders : List ℕ) (groups : List (List ℕ)) (asked passing group part more : List ℕ)
@@ -147,16 +130,17 @@ pub one_more_gathered : (n : ℕ) (left rest leaders : List ℕ) (groups : List 
     → Gathered rest leaders groups asked test more
 one_more_gathered n left rest leaders groups asked passing group part more test before next alike group_is part_is more_is =
     record {
-      low = λ port has. before.low port (ap (has_port port) next ∙ second_holds (n == port) (has_port port rest) has);
+      low = λ port has. before.low port (ap (has_port port) next ∙ or_right (n == port) (has_port port rest) has);
       set = more_is ∙ same_ports 16 (λ port. has_port port passing || has_port port part) (λ port. has_port port more)
           (λ port low. sym (in_more port low));
       sound = λ port has.
-          let (low, either) = both (nat_lt port 16) (has_port port passing || has_port port part) (sym (more_has port) ∙ has) in
+          let (low, either) = and_parts (nat_lt port 16) (has_port port passing || has_port port part)
+          (sym (more_has port) ∙ has) in
           one_passes port (has_port port passing) (has_port port part) (before.sound port) (new port) either;
       whole = λ first port leads gone low has asks. in_more port low ∙ elim (cases_eq n first) [
-        | inl this ↦ second_holds (has_port port passing) (has_port port part)
+        | inl this ↦ or_right (has_port port passing) (has_port port part)
             (given port low (ap (λ k. has_port port (slice_index_or groups k [])) this ∙ has) asks)
-        | inr other ↦ first_holds (has_port port passing) (has_port port part)
+        | inr other ↦ or_left (has_port port passing) (has_port port part)
             (before.whole first port leads
             (ap (has_port first) next ∙ ap (λ b. b || has_port first rest) (ne_eqb n first other) ∙ gone) low has asks)
       ];
@@ -181,72 +165,91 @@ one_more_gathered n left rest leaders groups asked passing group part more test 
 
     new : (port : ℕ) → has_port port part ≡ true → (has_port port asked && test port) ≡ true
     new port has =
-        let (passes, inside) = both (test n) (has_port port group) (sym (part_has port (test n) refl) ∙ has) in
-        let (low, there) = both (nat_lt port 16) (has_port port (slice_index_or groups n []) && has_port port asked)
+        let (passes, inside) = and_parts (test n) (has_port port group) (sym (part_has port (test n) refl) ∙ has) in
+        let (low, there) = and_parts (nat_lt port 16) (has_port port (slice_index_or groups n []) && has_port port asked)
         (sym (group_has port) ∙ inside) in
-        let (own, asks) = both (has_port port (slice_index_or groups n [])) (has_port port asked) there in
-        of_both (has_port port asked) (test port) asks (sym (alike port own) ∙ passes)
+        let (own, asks) = and_parts (has_port port (slice_index_or groups n [])) (has_port port asked) there in
+        and_from (has_port port asked) (test port) asks (sym (alike port own) ∙ passes)
 
     given : (port : ℕ) → port < 16 → has_port port (slice_index_or groups n []) ≡ true → (has_port port asked && test port) ≡ true
         → has_port port part ≡ true
     given port low own asks =
-        let (is_asked, passes) = both (has_port port asked) (test port) asks in
+        let (is_asked, passes) = and_parts (has_port port asked) (test port) asks in
         part_has port (test n) refl
-        ∙ of_both (test n) (has_port port group) (alike port own ∙ passes) (group_has port
-        ∙ of_both (nat_lt port 16) (has_port port (slice_index_or groups n []) && has_port port asked) (lt-ltb port 16 low)
-        (of_both (has_port port (slice_index_or groups n [])) (has_port port asked) own is_asked))
+        ∙ and_from (test n) (has_port port group) (alike port own ∙ passes) (group_has port
+        ∙ and_from (nat_lt port 16) (has_port port (slice_index_or groups n []) && has_port port asked) (lt-ltb port 16 low)
+        (and_from (has_port port (slice_index_or groups n [])) (has_port port asked) own is_asked))
 
     one_passes : (port : ℕ) (a b : Bool) → (a ≡ true → (has_port port asked && test port) ≡ true)
         → (b ≡ true → (has_port port asked && test port) ≡ true) → (a || b) ≡ true → (has_port port asked && test port) ≡ true
     one_passes port true b old new is = old refl
     one_passes port false b old new is = new is
 
--- those below a number, but the ingress port, are asked for
-module _ (ports from : ℕ) (below asked : List ℕ) (fits : ports ≤ 16) (below_is : below ≡ ports_below ports (λ _. true))
-    (asked_is : asked ≡ ports_below 16 (λ other. not (other == from) && has_port other below)) where
-  is_asked : (port : ℕ) → port < 16 → has_port port asked ≡ (not (port == from) && (nat_lt port ports && true))
-  is_asked port low =
-      ap (has_port port) asked_is ∙ has_port-ports_below 16 port (λ other. not (other == from) && has_port other below)
-      ∙ ap (λ b. b && (not (port == from) && has_port port below)) (lt-ltb port 16 low)
-      ∙ ap (λ b. not (port == from) && b) (ap (has_port port) below_is ∙ has_port-ports_below ports port (λ _. true))
+-- The groups of the leaders below a number give those of the ports asked for that pass.
+pub all_gathered : (ports : ℕ) (below asked : List ℕ) (groups : List (List ℕ)) (leaders here none : List ℕ)
+    (policies : PortPolicies) (egress : List ℕ) (passing : ℕ → Bool) → ports ≤ 16 → below ≡ ports_below ports (λ _. true)
+    → ((port : ℕ) → has_port port asked ≡ true → port < ports) → HasGroups 16 policies groups leaders
+    → here ≡ ports_below 16 (λ port. has_port port leaders && has_port port below) → none ≡ []
+    → Gathered none here groups asked passing egress → egress ≡ ports_below 16 (λ port. has_port port asked && passing port)
+all_gathered ports below asked groups leaders here none policies egress passing fits below_is within known here_is none_is all =
+    all.set ∙ same_ports 16 (λ port. has_port port egress) (λ port. has_port port asked && passing port) agree
+  where
+    leads_here : (first : ℕ) → first < ports → has_port first leaders ≡ true → has_port first here ≡ true
+    leads_here first less leads =
+        let inside : has_port first below ≡ true = ap (has_port first) below_is ∙ has_port-ports_below ports first (λ _. true)
+        ∙ ap (λ b. b && true) (lt-ltb first ports less) in
+        ap (has_port first) here_is ∙ has_port-ports_below 16 first (λ port. has_port port leaders && has_port port below)
+        ∙ and_from (nat_lt first 16) (has_port first leaders && has_port first below)
+        (lt-ltb first 16 (omega (arith, less, fits))) (and_from (has_port first leaders) (has_port first below) leads inside)
 
-  turned : (a b p : Bool) → ((a && (b && true)) && p) ≡ (b && (a && p))
-  turned true true p = refl
-  turned true false p = refl
-  turned false true p = refl
-  turned false false p = refl
+    agree : (port : ℕ) → port < 16 → has_port port egress ≡ (has_port port asked && passing port)
+    agree port low = same_test (has_port port egress) (has_port port asked && passing port) (λ has. all.sound port has)
+        (λ passes.
+        let (asks, rest) = and_parts (has_port port asked) (passing port) passes in
+        let less = within port asks in
+        let group = known.all port low in
+        all.whole group.first port (leads_here group.first (omega (arith, group.up_to, less)) group.leads)
+        (ap (has_port group.first) none_is) low group.has passes)
 
-  asked_passes : (port : ℕ) (passing : ℕ → Bool) → port < 16
-      → (has_port port asked && passing port) ≡ (nat_lt port ports && (not (port == from) && passing port))
-  asked_passes port passing low =
-      ap (λ b. b && passing port) (is_asked port low) ∙ turned (not (port == from)) (nat_lt port ports) (passing port)
+-- ---- the ports but the ingress port
 
-  -- the groups of the leaders below the number give those that pass
-  pub all_gathered : (groups : List (List ℕ)) (leaders here none : List ℕ) (policies : PortPolicies) (egress : List ℕ)
-      (passing : ℕ → Bool) → HasGroups 16 policies groups leaders
-      → here ≡ ports_below 16 (λ port. has_port port leaders && has_port port below) → none ≡ []
-      → Gathered none here groups asked passing egress
+without_own : (a b : Bool) → (a && (b && true)) ≡ (b && a)
+without_own true true = refl
+without_own true false = refl
+without_own false true = refl
+without_own false false = refl
+
+-- those below a number, without one port
+pub others_below : (ports from : ℕ) (below others : List ℕ) → ports ≤ 16 → below ≡ ports_below ports (λ _. true)
+    → others ≡ ports_below 16 (λ other. not (other == from) && has_port other below)
+    → others ≡ ports_below ports (λ port. not (port == from))
+others_below ports from below others fits below_is others_is =
+    others_is
+    ∙ same_ports 16 (λ other. not (other == from) && has_port other below) (λ port. nat_lt port ports && not (port == from))
+    (λ port low. ap (λ b. not (port == from) && b) (ap (has_port port) below_is ∙ has_port-ports_below ports port (λ _. true))
+    ∙ without_own (not (port == from)) (nat_lt port ports))
+    ∙ ports_within 16 ports (λ port. not (port == from)) fits
+
+module _ (ports from : ℕ) (others : List ℕ) (others_is : others ≡ ports_below ports (λ port. not (port == from))) where
+  has_other : (port : ℕ) → has_port port others ≡ (nat_lt port ports && not (port == from))
+  has_other port = ap (has_port port) others_is ∙ has_port-ports_below ports port (λ port. not (port == from))
+
+  pub others_within : (port : ℕ) → has_port port others ≡ true → port < ports
+  others_within port has =
+      ltb-true port ports (and_parts (nat_lt port ports) (not (port == from)) (sym (has_other port) ∙ has)).0
+
+  turned : (a b p : Bool) → ((a && b) && p) ≡ (a && (b && p))
+  turned true b p = refl
+  turned false b p = refl
+
+  -- those that pass are the egress ports
+  pub sent_elsewhere : ports ≤ 16 → (egress : List ℕ) (passing : ℕ → Bool)
+      → egress ≡ ports_below 16 (λ port. has_port port others && passing port)
       → egress ≡ ports_below ports (λ port. not (port == from) && passing port)
-  all_gathered groups leaders here none policies egress passing known here_is none_is all =
-      all.set
-      ∙ same_ports 16 (λ port. has_port port egress) (λ port. nat_lt port ports && (not (port == from) && passing port)) agree
+  sent_elsewhere fits egress passing egress_is =
+      egress_is
+      ∙ same_ports 16 (λ port. has_port port others && passing port)
+      (λ port. nat_lt port ports && (not (port == from) && passing port))
+      (λ port low. ap (λ b. b && passing port) (has_other port)
+      ∙ turned (nat_lt port ports) (not (port == from)) (passing port))
       ∙ ports_within 16 ports (λ port. not (port == from) && passing port) fits
-    where
-      leads_here : (first : ℕ) → first < ports → has_port first leaders ≡ true → has_port first here ≡ true
-      leads_here first less leads =
-          let inside : has_port first below ≡ true = ap (has_port first) below_is ∙ has_port-ports_below ports first (λ _. true)
-          ∙ ap (λ b. b && true) (lt-ltb first ports less) in
-          ap (has_port first) here_is ∙ has_port-ports_below 16 first (λ port. has_port port leaders && has_port port below)
-          ∙ of_both (nat_lt first 16) (has_port first leaders && has_port first below)
-          (lt-ltb first 16 (omega (arith, less, fits))) (of_both (has_port first leaders) (has_port first below) leads inside)
-
-      agree : (port : ℕ) → port < 16
-          → has_port port egress ≡ (nat_lt port ports && (not (port == from) && passing port))
-      agree port low = same_test (has_port port egress) (nat_lt port ports && (not (port == from) && passing port))
-          (λ has. sym (asked_passes port passing low) ∙ all.sound port has)
-          (λ passes.
-          let (inside, rest) = both (nat_lt port ports) (not (port == from) && passing port) passes in
-          let less : port < ports = ltb-true port ports inside in
-          let group = known.all port low in
-          all.whole group.first port (leads_here group.first (omega (arith, group.up_to, less)) group.leads)
-          (ap (has_port group.first) none_is) low group.has (asked_passes port passing low ∙ passes))

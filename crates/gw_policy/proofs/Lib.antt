@@ -5,3 +5,4 @@ mod PairLists
 pub mod PolicyExamples
 pub mod PolicySets
 mod Programs
+mod Recalling

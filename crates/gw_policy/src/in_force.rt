@@ -4,7 +4,9 @@ ghost use Rattle.std.specs.Prelude.{
   ◌≡◌,
   ℕ,
   ◌<◌,
+  ◌≤◌,
   ◌==◌,
+  not,
   nat_lt,
   if◌then◌else◌,
   List,
@@ -19,9 +21,11 @@ ghost use Rattle.std.specs.Prelude.{
 };
 ghost use Rattle.gw_ledger.specs.Ports.{ports_below};
 ghost use Rattle.gw_policy.specs.Batches.{AreGroups, PortPolicies, passes};
+ghost use Rattle.gw_policy.specs.Cached.{AreByWord, IsByWord, Keeps};
 
 use crate::batch::Batch;
 use crate::policy::Policy;
+use crate::verdict_cache::VerdictCache;
 use gw_frame::Frame;
 use gw_ledger::{MAX_PORTS, PortSet};
 use gw_table::FrameFields;
@@ -40,12 +44,15 @@ pub struct PolicySet {
     groups: [PortSet; MAX_PORTS],
     // The ports that lead a group.
     leaders: PortSet,
+    // The ports whose policies are tables: those judge a frame by its identifier word alone.
+    tables: PortSet,
     front: u32,
 }
 
 impl Model for PolicySet {
     ghost use Rattle.std.specs.Prelude.{◌≡◌, length, map, option_map};
     ghost use Rattle.gw_policy.specs.Batches.{AreGroups, PortPolicies};
+    ghost use Rattle.gw_policy.specs.Cached.{AreByWord};
 
     ghost Value = { PortPolicies };
 
@@ -53,7 +60,8 @@ impl Model for PolicySet {
 
     ghost invariant = { λ s. (length s.policies ≡ 16)
         × AreGroups (record { policies = map (option_map (λ policy. policy.value)) s.policies; front = s.front })
-        s.groups s.leaders };
+        s.groups s.leaders
+        × AreByWord (record { policies = map (option_map (λ policy. policy.value)) s.policies; front = s.front }) s.tables };
 }
 
 // One owner more of each policy. The copy of an `Arc` can be refused.
@@ -67,13 +75,14 @@ impl Clone for PolicySet {
             policies: self.policies.clone()?,
             groups: self.groups,
             leaders: self.leaders,
+            tables: self.tables,
             front: self.front,
         })
     }
 }
 
 impl PolicySet {
-    ghost use Rattle.std.specs.Prelude.{◌≢◌, ◌≤◌, ◌&&◌, not, IfSome, IsTrue};
+    ghost use Rattle.std.specs.Prelude.{◌≢◌, ◌&&◌, IfSome, IsTrue};
     ghost use Rattle.gw_ledger.specs.Ports.{has_port, ports_below};
     ghost use Rattle.gw_policy.specs.Batches.{Pair, PassAlike, passes, policy_at, Absorbs, StandsAfter};
 
@@ -87,6 +96,7 @@ impl PolicySet {
             policies: Default::default(),
             groups: each_alone(),
             leaders: PortSet::below(MAX_PORTS as u8),
+            tables: PortSet::new(),
             front: 0,
         }
     }
@@ -108,6 +118,7 @@ impl PolicySet {
     {
         self.put_all(batch)?;
         self.note_groups();
+        self.note_tables();
         Ok(())
     }
 
@@ -137,6 +148,29 @@ impl PolicySet {
         }
         self.groups = groups;
         self.leaders = leaders;
+    }
+
+    // Notes which ports have tables, so that a frame's path need not judge each frame by them.
+    fn note_tables(&mut self)
+        ensures { self.new ≡ self.old }
+    {
+        let mut tables = PortSet::new();
+        for port in 0..MAX_PORTS as u8 {
+            if self.has_table(port) {
+                tables.add(port);
+            }
+        }
+        self.tables = tables;
+    }
+
+    // Whether the policy of a port is a table.
+    fn has_table(&self, port: u8) -> bool
+        ensures { IsTrue result → IsByWord (policy_at port self.now) }
+    {
+        let Some(policy) = self.get(port) else {
+            return false;
+        };
+        policy.is_table()
     }
 
     // The first port whose policy has the program of this one's: the port itself, where none before it has.
@@ -185,13 +219,67 @@ impl PolicySet {
         requires { ports ≤ 16 }
         ensures { result ≡ ports_below ports (λ port. not (port == from) && passes (policy_at port self.now) frame.now from) }
     {
+        self.judge(ports, others(ports, from), frame, from)
+    }
+
+    /// The same, where tables are not asked again of an identifier whose verdicts the cache keeps. What they say now is kept.
+    pub fn cached_egress_ports(
+        &self,
+        cache: &mut VerdictCache,
+        ports: u8,
+        frame: &Frame,
+        from: u8,
+    ) -> PortSet
+        requires fits { ports ≤ 16 }
+        requires cache { Keeps self.now cache.old }
+        ensures ports { result
+            ≡ ports_below ports (λ port. not (port == from) && passes (policy_at port self.now) frame.now from) }
+        ensures cache { Keeps self.now cache.new }
+    {
+        if self.tables.is_empty() {
+            return self.egress_ports(ports, frame, from);
+        }
+        self.recall(cache, ports, others(ports, from), frame, from)
+    }
+
+    // Those of the ports asked for that pass a frame: by the verdicts that the cache keeps, and else by their policies.
+    fn recall(
+        &self,
+        cache: &mut VerdictCache,
+        ports: u8,
+        asked: PortSet,
+        frame: &Frame,
+        from: u8,
+    ) -> PortSet
+        requires fits { ports ≤ 16 }
+        requires within { (port : ℕ) → has_port port asked ≡ true → port < ports }
+        requires cache { Keeps self.now cache.old }
+        ensures ports { result ≡ ports_below 16 (λ port. has_port port asked && passes (policy_at port self.now) frame.now from) }
+        ensures cache { Keeps self.now cache.new }
+    {
+        let known = cache.get(frame, from);
+        let kept = known.passing.intersection(asked);
+        let unknown = asked.difference(known.judged);
+        if unknown.is_empty() {
+            return kept;
+        }
+        let passing = kept.union(self.judge(ports, unknown, frame, from));
+        let judged = asked.intersection(self.tables);
+        cache.put(frame, from, judged, passing.intersection(self.tables));
+        passing
+    }
+
+    // Those of the ports asked for that pass a frame. Ports that have the same program are judged once.
+    fn judge(&self, ports: u8, asked: PortSet, frame: &Frame, from: u8) -> PortSet
+        requires fits { ports ≤ 16 }
+        requires within { (port : ℕ) → has_port port asked ≡ true → port < ports }
+        ensures { result ≡ ports_below 16 (λ port. has_port port asked && passes (policy_at port self.now) frame.now from) }
+    {
         // Policies of one program are alike on records.
         let _octets = frame.bytes();
         let fields = FrameFields::new(frame);
-        let there = PortSet::below(ports);
-        let asked = there.without(from);
         let mut egress = PortSet::new();
-        for leader in self.leaders.intersection(there).iter() {
+        for leader in self.leaders.intersection(PortSet::below(ports)).iter() {
             let group = self.groups[usize::from(leader)];
             let passing = judged(group.intersection(asked), self.get(leader), &fields, from);
             egress = egress.union(passing);
@@ -209,9 +297,19 @@ impl PolicySet {
         if index < MAX_PORTS {
             self.groups = each_alone();
             self.leaders = PortSet::below(MAX_PORTS as u8);
+            self.tables = PortSet::new();
             self.policies[index] = Some(policy);
         }
     }
+}
+
+// The ports below a number, except one.
+fn others(ports: u8, from: u8) -> PortSet
+    requires { ports ≤ 16 }
+    ensures { result ≡ ports_below ports (λ port. not (port == from)) }
+{
+    let there = PortSet::below(ports);
+    there.without(from)
 }
 
 // A group of each port alone, which it leads.

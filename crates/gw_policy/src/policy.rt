@@ -33,6 +33,7 @@ impl Policy {
     ghost use Rattle.std.specs.Prelude.{Some, IsTrue};
     ghost use Rattle.gw_policy.specs.Filter.{filter_passes, IsFilter};
     ghost use Rattle.gw_policy.specs.Batches.{PassAlike};
+    ghost use Rattle.gw_policy.specs.Cached.{IsByWord};
 
     /// The policy of a program: it passes the frames on which the program's answer is not 0.
     pub fn from_program(program: Program) -> Policy
@@ -71,6 +72,16 @@ impl Policy {
         ensures { option_copied result ≡ self.now.table }
     {
         self.table.as_ref()
+    }
+
+    // Whether it is a table. Then it judges a frame by its identifier word alone.
+    pub(crate) fn is_table(&self) -> bool
+        ensures { IsTrue result → IsByWord (Some self.now) }
+    {
+        match &self.table {
+            Some(_) => true,
+            None => false,
+        }
     }
 
     // Whether both have one program, and so pass the same frames.

@@ -4,7 +4,7 @@
 //! - Programs: `read_listing`, `assemble`, `Program::check`, `State` and `run_program`, `disassemble`, `write_listing`.
 //! - Tables: `Table`, `IndexedTable`, `compile`, and `table` from octets. `Table::differences` compares two, and `crossings`
 //!   those of a gateway's ports. `Table::answers` answers a `Question`.
-//! - Policies: `Policy`, `Batch`, `PolicySet`; `program_policy` and `table_policy` from octets.
+//! - Policies: `Policy`, `Batch`, `PolicySet`, `VerdictCache`; `program_policy` and `table_policy` from octets.
 //! - A gateway: `Limits`, `gateway`, its ends `Operator`, `PortIn` and `PortOut`, `close`; or `run_from`, with its own threads.
 //! - The model of every order of events: `Core`, `Event`, `Answer`. In one thread `Core::forward` and `Core::next` suffice.
 //! - Traces: `frames`, `Trace`, `Checked`. Scripts: `replay`.
@@ -58,6 +58,7 @@ pub use gw_policy::Batch;
 pub use gw_policy::BatchRefusal;
 pub use gw_policy::Policy;
 pub use gw_policy::PolicySet;
+pub use gw_policy::VerdictCache;
 pub use gw_ports::CloseRefusal;
 pub use gw_ports::Gate;
 pub use gw_ports::LaneLeft;

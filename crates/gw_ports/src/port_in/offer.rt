@@ -7,13 +7,8 @@ ghost use Rattle.std.specs.Prelude.{
   ◌↔◌,
   ℕ,
   List,
-  [],
   length,
   reverse,
-  if◌then◌else◌,
-  ◌==◌,
-  ◌&&◌,
-  not,
   IfOk,
   MatchResult,
   true,
@@ -22,10 +17,9 @@ ghost use Rattle.std.specs.Prelude.{
   Err,
 };
 ghost use mathlib.Core.List.{IsPrefix};
-ghost use Rattle.gw_policy.specs.Batches.{passes, policy_at};
 ghost use Rattle.gw_policy.specs.Allowed.{allowed_ports};
 ghost use Rattle.gw_claims.specs.Holders.{HoldsAfter};
-ghost use Rattle.gw_ledger.specs.Ports.{ports_below, IsPartOf, IsPortSet};
+ghost use Rattle.gw_ledger.specs.Ports.{IsPartOf, IsPortSet};
 ghost use Rattle.gw_ledger.specs.Ledgers.{ledger_with};
 ghost use Rattle.gw_ports.specs.Ends.{IsCounted, end_in};
 ghost use Rattle.gw_ports.specs.Offers.{IsPlaced, Offered};
@@ -37,7 +31,6 @@ use crate::refusals::OfferRefusal;
 use gw_board::{NoReading, Watch};
 use gw_frame::Frame;
 use gw_ledger::{FrameCopy, InLedger, Outcome, PortSet};
-use gw_policy::PolicySet;
 
 impl PortIn {
     /// Takes a frame, and places a copy of it on the lane to each port to which the policies in force allow it. A local frame
@@ -112,19 +105,10 @@ fn judge(
         × (allowed ≡ allowed_ports ports local (reverse watch.new.batches) ingress frame.now))
         (λ _. watch.new.batches ≡ watch.old.batches) }
 {
-    watch.with(|set| allowed(set, ports, ingress, local, frame))
-}
-
-fn allowed(set: &PolicySet, ports: u8, ingress: u8, local: bool, frame: &Frame) -> PortSet
-    requires { ports ≤ 16 }
-    ensures { result ≡ (if local then [] else
-        ports_below ports (λ egress. not (egress == ingress) && passes (policy_at egress set.now) frame.now ingress)) }
-{
     if local {
-        PortSet::new()
-    } else {
-        set.egress_ports(ports, frame, ingress)
+        return watch.with(|_| PortSet::new());
     }
+    watch.egress_ports(ports, frame, ingress)
 }
 
 // Counts a frame that was taken and is finished.

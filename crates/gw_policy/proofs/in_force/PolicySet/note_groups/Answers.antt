@@ -1,8 +1,8 @@
 use Rattle.std.proofs.Common.{◌≡◌, arith, refl, sym, subst, ap, ◌∙◌, ◌||◌, ◌==◌}
-use Rattle.std.proofs.lemmas.Bool.{eq-eqb}
+use Rattle.std.proofs.lemmas.Bool.{eq-eqb, or_right}
 use Rattle.gw_ledger.specs.Ports.{has_port}
 use Rattle.gw_policy.specs.Batches.{AreGroups, HasGroups, PassAlike, policy_at}
-use Rattle.gw_policy.proofs.EgressPorts.{no_groups, one_more_group, second_holds}
+use Rattle.gw_policy.proofs.EgressPorts.{no_groups, one_more_group}
 use Rattle.gw_policy.proofs.in_force.PolicySet.note_groups.Goals as goal
 
 pub loop-port-init : goal.loop-port-init
@@ -26,7 +26,7 @@ loop-port-preserved c =
           ∙ ap (λ b. b || has_port c.from.result c.loop-port.leaders)
           (eq-eqb c.first_alike-first.result c.from.result (sym c.from.ensures)))
           (λ other leads. c.add-in-loop-port.ensures.members other
-          ∙ second_holds (c.first_alike-first.result == other) (has_port other c.loop-port.leaders) leads);
+          ∙ or_right (c.first_alike-first.result == other) (has_port other c.loop-port.leaders) leads);
     }
 
 pub invariant_of-self : goal.invariant_of-self
@@ -36,4 +36,4 @@ invariant_of-self c =
     let leaders = c.loop-port.leaders in
     let all : c.loop-port.port ≡ 16 = omega (arith, c.loop-port-test.false, c.loop-port.auto.port-end) in
     let whole : AreGroups set groups leaders = subst (λ n. HasGroups n set groups leaders) all c.loop-port.invariant.groups in
-    (c.self.invariant.0, subst (λ s. AreGroups s groups leaders) (sym c.self.view_is) whole)
+    (c.self.invariant.0, subst (λ s. AreGroups s groups leaders) (sym c.self.view_is) whole, c.self.invariant.2)

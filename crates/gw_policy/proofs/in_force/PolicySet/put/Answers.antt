@@ -1,6 +1,7 @@
 use Rattle.std.proofs.Common.{◌≡◌, ℕ, ◌≤◌, Some, map, set, ap, ◌∙◌, subst, arith}
 use Rattle.std.proofs.Math.ListN.{length-set}
 use Rattle.gw_policy.proofs.PolicySets.{policy_in, policy_of, sixteen_after, put_within, put_beyond}
+use Rattle.gw_policy.proofs.Recalling.{has_none}
 use Rattle.gw_policy.specs.Batches.{PortPolicies, policy_at}
 use Rattle.gw_policy.proofs.in_force.PolicySet.put.Goals as goal
 use Rattle.gw_policy.proofs.in_force.PolicySet.put.Goals.{Joined-self-index, in-Some-1, in-None-1}
@@ -27,12 +28,14 @@ pub invariant_of-self : goal.invariant_of-self
 invariant_of-self c = (
   length-set c.self.inside.policies c.from-index.result (Some c.args.policy) ∙ c.self.invariant.0,
   c.each_alone-self-inside.ensures _ _ c.below-self-inside.ensures,
+  λ port has. absurd (has_none c.new-self-inside.result c.new-self-inside.ensures port has),
 )
 
 pub invariant_of-self-then-index-lt-MAX_PORTS-2 : goal.invariant_of-self-then-index-lt-MAX_PORTS-2
 invariant_of-self-then-index-lt-MAX_PORTS-2 c = (
   length-set c.self.inside.policies c.from-index.result (Some c.args.policy) ∙ c.self.invariant.0,
   c.each_alone-self-inside.ensures _ _ c.below-self-inside.ensures,
+  λ port has. absurd (has_none c.new-self-inside.result c.new-self-inside.ensures port has),
 )
 
 pub returns-then-index-lt-MAX_PORTS-clause-policies : goal.returns-then-index-lt-MAX_PORTS-clause-policies

@@ -1,6 +1,7 @@
 use Rattle.std.proofs.Common.{◌∙◌, ap, rules, sym, subst, List, Option}
 use Rattle.gw_policy.specs.Filter.{Filter}
 use Rattle.gw_policy.specs.Batches.{AreGroups, PortPolicies}
+use Rattle.gw_policy.specs.Cached.{AreByWord}
 use Rattle.gw_policy.proofs.PolicySets.{policies_copied}
 use Rattle.gw_policy.proofs.in_force.PolicySetClone.clone.Goals as goal
 
@@ -11,7 +12,12 @@ invariant_of-result c =
     c.self.inside.leaders in
     let copied = policies_copied _ c.self.inside.policies c.in_ok-clone.field-0 (λ x y same. search rules)
     c.in_ok-clone.ensures.cases.whole in
-    (c.in_ok-clone.ensures.cases.long, subst grouped (sym copied) c.self.invariant.1)
+    let by_word : List (Option Filter) → Type 0 =
+    λ policies. AreByWord (record { policies = policies; front = c.self.inside.front }) c.self.inside.tables in (
+      c.in_ok-clone.ensures.cases.long,
+      subst grouped (sym copied) c.self.invariant.1,
+      subst by_word (sym copied) c.self.invariant.2,
+    )
 
 pub returns : goal.returns
 returns c =

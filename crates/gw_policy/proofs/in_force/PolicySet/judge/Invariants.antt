@@ -1,6 +1,6 @@
 use Rattle.gw_policy.specs.Batches.{passes, policy_at}
 use Rattle.gw_policy.proofs.EgressPorts.{Gathered}
-use Rattle.gw_policy.proofs.in_force.PolicySet.egress_ports.Given as goal
+use Rattle.gw_policy.proofs.in_force.PolicySet.judge.Given as goal
 
 abbrev pub invariant-loop-leader : goal.invariant-loop-leader
 invariant-loop-leader l =
