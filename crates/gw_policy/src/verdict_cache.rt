@@ -25,12 +25,12 @@ pub(crate) struct Verdicts {
 
 impl Verdicts {
     // No port was judged.
-    fn none(word: u32, from: u8) -> Verdicts
+    fn none() -> Verdicts
         ensures { (set : PortPolicies) (frame : List ℕ) (port : ℕ) → Passes set frame port result.judged result.passing }
     {
         Verdicts {
-            word,
-            from,
+            word: 0,
+            from: 0,
             judged: PortSet::new(),
             passing: PortSet::new(),
         }
@@ -50,7 +50,7 @@ impl VerdictCache {
         ensures { (set : PortPolicies) → Keeps set result }
     {
         VerdictCache {
-            places: [Verdicts::none(0, 0); PLACES],
+            places: [Verdicts::none(); PLACES],
         }
     }
 
@@ -58,7 +58,7 @@ impl VerdictCache {
     pub fn clear(&mut self)
         ensures { (set : PortPolicies) → Keeps set self.new }
     {
-        let places = [Verdicts::none(0, 0); PLACES];
+        let places = [Verdicts::none(); PLACES];
         self.places = places;
     }
 
@@ -71,7 +71,7 @@ impl VerdictCache {
         if kept.word == word && kept.from == from {
             kept
         } else {
-            Verdicts::none(word, from)
+            Verdicts::none()
         }
     }
 
