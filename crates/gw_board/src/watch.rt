@@ -147,9 +147,9 @@ impl Watch {
         Ok(f(&self.set))
     }
 
-    /// The ports below a number, except `from`, at which a frame may leave that was taken at the port `from`, by the policies that
-    /// `with` would hand over. Tables are not asked again of an identifier that they judged lately. Refused, 77, it knows what it
-    /// knew.
+    /// The ports below a number, except `from`, at which a frame may leave that was taken at the port `from`, by the policies
+    /// that `with` would hand over. Tables are not asked again of an identifier that they judged lately. Refused, 77, it knows
+    /// what it knew.
     pub fn egress_ports(&mut self, ports: u8, frame: &Frame, from: u8) -> Result<PortSet, NoReading>
         requires { ports ≤ 16 }
         ensures board { self.new.board ≡ self.old.board }

@@ -18,14 +18,14 @@ abbrev pub AreByWord : PortPolicies → List ℕ → Type 0
 AreByWord set ports = (port : ℕ) → has_port port ports ≡ true → IsByWord (policy_at port set)
 
 -- of the ports that were judged just these pass a frame which was taken at a port
-abbrev pub Passes : PortPolicies → List ℕ → ℕ → List ℕ → List ℕ → Type 0
-Passes set frame from judged passing =
+abbrev pub ArePassing : PortPolicies → List ℕ → ℕ → List ℕ → List ℕ → Type 0
+ArePassing set frame from judged passing =
     passing ≡ ports_below 16 (λ port. has_port port judged && passes (policy_at port set) frame from)
 
 -- just these pass each frame of the word
 abbrev pub Tells : PortPolicies → Verdicts → Type 0
 Tells set verdicts = (frame : List ℕ) → word_of frame ≡ verdicts.word
-    → Passes set frame verdicts.from verdicts.judged verdicts.passing
+    → ArePassing set frame verdicts.from verdicts.judged verdicts.passing
 
 -- all that is kept is told of these policies
 abbrev pub Keeps : PortPolicies → VerdictCache → Type 0

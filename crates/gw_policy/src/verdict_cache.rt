@@ -3,7 +3,7 @@
 ghost use Rattle.std.specs.Prelude.{◌≡◌, ◌<◌, ℕ, List};
 ghost use Rattle.gw_frame.specs.Record.{word_of};
 ghost use Rattle.gw_policy.specs.Batches.{PortPolicies};
-ghost use Rattle.gw_policy.specs.Cached.{Keeps, Passes};
+ghost use Rattle.gw_policy.specs.Cached.{Keeps, ArePassing};
 
 use gw_frame::Frame;
 use gw_ledger::PortSet;
@@ -26,7 +26,8 @@ pub(crate) struct Verdicts {
 impl Verdicts {
     // No port was judged.
     fn none() -> Verdicts
-        ensures { (set : PortPolicies) (frame : List ℕ) (port : ℕ) → Passes set frame port result.judged result.passing }
+        ensures { (set : PortPolicies) (frame : List ℕ) (port : ℕ)
+            → ArePassing set frame port result.judged result.passing }
     {
         Verdicts {
             word: 0,
@@ -64,7 +65,7 @@ impl VerdictCache {
 
     // What is kept of frames that have the identifier of this one and were taken at the port `from`.
     pub(crate) fn get(&self, frame: &Frame, from: u8) -> Verdicts
-        ensures { (set : PortPolicies) → Keeps set self.now → Passes set frame.now from result.judged result.passing }
+        ensures { (set : PortPolicies) → Keeps set self.now → ArePassing set frame.now from result.judged result.passing }
     {
         let word = frame.id().word();
         let kept = self.places[place_of(word)];
@@ -78,7 +79,7 @@ impl VerdictCache {
     // Keeps which ports passed a frame that was taken at the port `from`, of those that were judged by its identifier.
     pub(crate) fn put(&mut self, frame: &Frame, from: u8, judged: PortSet, passing: PortSet)
         ensures { (set : PortPolicies) → Keeps set self.old
-            → ((other : List ℕ) → word_of other ≡ word_of frame.now → Passes set other from judged passing)
+            → ((other : List ℕ) → word_of other ≡ word_of frame.now → ArePassing set other from judged passing)
             → Keeps set self.new }
     {
         let word = frame.id().word();
