@@ -43,12 +43,28 @@ yields_more steps s [] now item new same step =
 yields_more steps s (first ∷ items) now item new yields step =
     (yields.0, yields.1, yields_more steps yields.0 items now item new yields.2 step)
 
-pub pairwise_more : {A B : Type 0} (R : A → B → Type 0) (xs : List A) (ys : List B) (x : A) (y : B) → Pairwise R xs ys → R x y
-    → Pairwise R (xs ++ x ∷ []) (ys ++ y ∷ [])
-pairwise_more R [] [] x y pairs pair = (pair, tt)
-pairwise_more R [] (y' ∷ ys) x y pairs pair = absurd pairs
-pairwise_more R (x' ∷ xs) [] x y pairs pair = absurd pairs
-pairwise_more R (x' ∷ xs) (y' ∷ ys) x y pairs pair = (pairs.0, pairwise_more R xs ys x y pairs.1 pair)
+-- two lists behind two others
+pub pairwise_append : {A B : Type 0} (R : A → B → Type 0) (xs xs' : List A) (ys ys' : List B) → Pairwise R xs ys
+    → Pairwise R xs' ys' → Pairwise R (xs ++ xs') (ys ++ ys')
+pairwise_append R [] xs' [] ys' pairs more = more
+pairwise_append R [] xs' (y ∷ ys) ys' pairs more = absurd pairs
+pairwise_append R (x ∷ xs) xs' [] ys' pairs more = absurd pairs
+pairwise_append R (x ∷ xs) xs' (y ∷ ys) ys' pairs more = (pairs.0, pairwise_append R xs xs' ys ys' pairs.1 more)
+
+-- elements that are related to themselves
+pub pairwise_same : {A : Type 0} (R : A → A → Type 0) → ((x : A) → R x x) → (xs : List A) → Pairwise R xs xs
+pairwise_same R same [] = tt
+pairwise_same R same (x ∷ xs) = (same x, pairwise_same R same xs)
+
+-- one step after another
+pub pairwise_on : {A : Type 0} (R : A → A → Type 0) → ((x y z : A) → R x y → R y z → R x z) → (xs ys zs : List A)
+    → Pairwise R xs ys → Pairwise R ys zs → Pairwise R xs zs
+pairwise_on R on [] [] zs first next = next
+pairwise_on R on [] (y ∷ ys) zs first next = absurd first
+pairwise_on R on (x ∷ xs) [] zs first next = absurd first
+pairwise_on R on (x ∷ xs) (y ∷ ys) [] first next = absurd next
+pairwise_on R on (x ∷ xs) (y ∷ ys) (z ∷ zs) first next =
+    (on x y z first.0 next.0, pairwise_on R on xs ys zs first.1 next.1)
 
 -- one batch more was published
 pub more_batches : (start now new : Publishing) (done : List (List Pair)) (batch : List Pair) → now ≡ with_batches start done
@@ -92,7 +108,7 @@ pub pairwise_push : {A B : Type 0} (R : A → B → Type 0) (xs xs' : List A) (y
     → ys' ≡ ys ++ y ∷ [] → Pairwise R xs ys → R x y → Pairwise R xs' ys'
 pairwise_push {A} {B} R xs xs' ys ys' x y is is' pairs pair =
     subst (λ (l : List A). Pairwise R l ys') (sym is)
-    (subst (λ (m : List B). Pairwise R (xs ++ x ∷ []) m) (sym is') (pairwise_more R xs ys x y pairs pair))
+    (subst (λ (m : List B). Pairwise R (xs ++ x ∷ []) m) (sym is') (pairwise_append R xs (x ∷ []) ys (y ∷ []) pairs (pair, tt)))
 
 pub pairwise_length : {A B : Type 0} (R : A → B → Type 0) (xs : List A) (ys : List B) → Pairwise R xs ys → length ys ≡ length xs
 pairwise_length R [] [] pairs = refl

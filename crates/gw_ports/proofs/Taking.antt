@@ -8,12 +8,14 @@ use Rattle.gw_ledger.specs.declared.outcome.FrameCopy.{FrameCopy}
 use Rattle.gw_lanes.specs.Ends.{Outlet, Ring}
 use Rattle.gw_ports.specs.Ends.{CountsSent, Egress, EndOut, HasLanes, end_out, lane_at, ring_from}
 use Rattle.gw_ports.specs.Sending.{Takes, sent_many, sent_with, taken_off}
-use Rattle.gw_ports.specs.Running.{HasDrained}
+use Rattle.gw_ports.specs.Running.{HasDrained, HaveDrained, drains_of}
 use Rattle.gw_ports.specs.Sinks.{Handed}
 use Rattle.gw_ports.specs.declared.running.drain.Drain.{Drain}
+use Rattle.gw_ports.specs.declared.running.drain.Drains.{Drains}
 use Rattle.gw_ports.proofs.Counting.{one_more_sent}
 use Rattle.gw_ports.proofs.OneGateway.{rings_stay_below}
 use Rattle.gw_ports.proofs.Placing.{pops_keep_lanes}
+use Rattle.gw_ports.proofs.Runs.{pairwise_on, pairwise_same}
 use Rattle.gw_ports.proofs.Sinks.{handed_on}
 
 -- ---- what is counted
@@ -137,14 +139,33 @@ takes_on (copy ∷ copies) more old now new first takes =
 
 -- more copies left, and were handed out
 pub drained_on : {C : Type 0} (takes : C → FrameCopy → C → Type 0) (before now new : Drain C) → HasDrained takes before now
-    → end_out new.port ≡ end_out now.port
-    → (taken : List FrameCopy) × Takes now.port taken new.port × Handed takes now.out taken new.out
-    → HasDrained takes before new
-drained_on takes before now new so_far end more = record {
-  copies = so_far.copies ++ more.0;
+    → HasDrained takes now new → HasDrained takes before new
+drained_on takes before now new first next = record {
+  copies = first.copies ++ next.copies;
   took = record {
-    takes = takes_on so_far.copies more.0 before.port now.port new.port so_far.took.takes more.1;
-    same = end ∙ so_far.took.same;
+    takes = takes_on first.copies next.copies before.port now.port new.port first.took.takes next.took.takes;
+    same = next.took.same ∙ first.took.same;
   };
-  handed = handed_on takes before.out so_far.copies more.0 now.out new.out so_far.handed more.2;
+  handed = handed_on takes before.out first.copies next.copies now.out new.out first.handed next.handed;
 }
+
+-- no copy did
+pub drained_nothing : {C : Type 0} (takes : C → FrameCopy → C → Type 0) (drain : Drain C) → HasDrained takes drain drain
+drained_nothing takes drain = record { copies = []; took = record { takes = refl; same = refl }; handed = refl }
+
+-- these copies did
+pub drained_these : {C : Type 0} (takes : C → FrameCopy → C → Type 0) (before after : Drain C)
+    → end_out after.port ≡ end_out before.port
+    → (taken : List FrameCopy) × Takes before.port taken after.port × Handed takes before.out taken after.out
+    → HasDrained takes before after
+drained_these takes before after end these =
+    record { copies = these.0; took = record { takes = these.1; same = end }; handed = these.2 }
+
+-- the same of the ports of a thread
+pub drains_on : {C : Type 0} (takes : C → FrameCopy → C → Type 0) (before now new : Drains C) → HaveDrained takes before now
+    → HaveDrained takes now new → HaveDrained takes before new
+drains_on takes before now new =
+    pairwise_on (HasDrained takes) (drained_on takes) (drains_of before) (drains_of now) (drains_of new)
+
+pub drains_same : {C : Type 0} (takes : C → FrameCopy → C → Type 0) (drains : Drains C) → HaveDrained takes drains drains
+drains_same takes drains = pairwise_same (HasDrained takes) (drained_nothing takes) (drains_of drains)

@@ -1,6 +1,6 @@
 -- What the threads of a run do.
 use Rattle.std.specs.Prelude.{◌≡◌, ℕ, ◌+◌, ◌<◌, List, [], ◌∷◌, ◌++◌, length, take, slice_index, slice_index_or, Option, Some}
-use Rattle.std.specs.Prelude.{None, Bool, IsTrue, MatchOption, All, ◌≤◌, map, min, Vec, vec_capacity, vec_len}
+use Rattle.std.specs.Prelude.{None, option_to_list, Bool, IsTrue, MatchOption, All, ◌≤◌, map, min, Vec, vec_capacity, vec_len}
 use Rattle.std.specs.declared.alloc.Global.{Global}
 use Rattle.std.specs.Iterator.{Count, IsFinite, Yields, YieldsThen, size}
 use Rattle.gw_board.specs.Ends.{Publishing}
@@ -24,6 +24,7 @@ use Rattle.gw_ports.specs.declared.running.feed.Intake.{Intake}
 use Rattle.gw_ports.specs.declared.running.gathering.EgressPorts.{EgressPorts}
 use Rattle.gw_ports.specs.declared.running.gathering.IngressPorts.{IngressPorts}
 use Rattle.gw_ports.specs.declared.running.drain.Drain.{Drain}
+use Rattle.gw_ports.specs.declared.running.drain.Drains.{Drains}
 use Rattle.gw_ports.specs.declared.running.drain.Work.{Work}
 
 -- the frames were offered one after another, each where the one before left the port, and these are their outcomes; `heard` is
@@ -38,6 +39,15 @@ Offers heard old (octets ∷ frames) (outcome ∷ outcomes) new =
 -- the port has taken no frame
 abbrev pub IsReady : Ingress → Type 0
 IsReady ingress = HoldsAfter ingress.claims [] × (ingress.ledger ≡ nothing_counted)
+
+-- ---- lists by port
+
+-- a relation holds of each element and what stands at its place in the other list
+abbrev pub Pairwise : {A B : Type 0} → (A → B → Type 0) → List A → List B → Type 0
+Pairwise R [] [] = Unit {0}
+Pairwise R [] (y ∷ ys) = ⊥
+Pairwise R (x ∷ xs) [] = ⊥
+Pairwise R (x ∷ xs) (y ∷ ys) = R x y × Pairwise R xs ys
 
 -- ---- an ingress port
 
@@ -137,6 +147,14 @@ pub record HasDrained {C : Type 0} (takes : C → FrameCopy → C → Type 0) (b
   pub took : HasTaken before.port (record { port = after.port; copies = copies })
   pub handed : Handed takes before.out copies after.out
 
+-- the ports of a thread, in order
+abbrev pub drains_of : {C : Type 0} → Drains C → List (Drain C)
+drains_of drains = option_to_list drains.before ++ drains.last ∷ []
+
+-- each of them took copies out
+abbrev pub HaveDrained : {C : Type 0} → (C → FrameCopy → C → Type 0) → Drains C → Drains C → Type 0
+HaveDrained takes before after = Pairwise (HasDrained takes) (drains_of before) (drains_of after)
+
 -- ---- what the threads did, by port
 
 -- an empty list with room for so many items
@@ -165,12 +183,3 @@ pub record Publishes (old : Publishing) (batches : List (List Pair)) (fronts : L
       ((length fronts ≡ length batches) × (new ≡ with_batches old batches))
       (λ why. (length fronts < length batches)
       × Refuses (with_batches old (take (length fronts) batches)) (slice_index_or batches (length fronts) []) why new)
-
--- ---- lists by port
-
--- a relation holds of each element and what stands at its place in the other list
-abbrev pub Pairwise : {A B : Type 0} → (A → B → Type 0) → List A → List B → Type 0
-Pairwise R [] [] = Unit {0}
-Pairwise R [] (y ∷ ys) = ⊥
-Pairwise R (x ∷ xs) [] = ⊥
-Pairwise R (x ∷ xs) (y ∷ ys) = R x y × Pairwise R xs ys

@@ -186,8 +186,8 @@ fn iterators(
 }
 
 /// Runs a gateway: publishes the first batch and tells each port; then a thread for each port offers the frames of its input,
-/// a thread for each port takes copies out, and this one publishes the batches. `sizes` has how many frames an input gives at
-/// most: the room for what is reported is made before a thread starts. It may wait.
+/// a thread for every two ports takes copies out, and this one publishes the batches. `sizes` has how many frames an input
+/// gives at most: the room for what is reported is made before a thread starts. It may wait.
 pub fn run_from<R: Threads + Wait + Sync, G: Gate, I: Iterator<Item = Frame> + Send>(
     rt: &R,
     alloc: Global,

@@ -1,7 +1,7 @@
-//! The egress threads: one a port takes copies out.
+//! The egress threads: one for every two ports takes copies out.
 
 ghost use Rattle.std.specs.Prelude.{◌≡◌, ◌≤◌, List, IfSome, length, vec_capacity};
-ghost use Rattle.gw_ports.specs.Running.{CanRun, HasDrained, HasFed, Pairwise, Publishes};
+ghost use Rattle.gw_ports.specs.Running.{CanRun, HasDrained, HasFed, HaveDrained, Pairwise, Publishes};
 ghost use Rattle.gw_ports.specs.Ends.{end_out};
 ghost use Rattle.gw_ports.specs.Sending.{Takes};
 ghost use Rattle.gw_ports.specs.Sinks.{Handed, HasRoomFor};
@@ -29,26 +29,58 @@ pub(super) struct Drain<C> {
     pub out: C,
 }
 
-impl<C: Sink<FrameCopy>> Drain<C> {
-    ghost use Rattle.gw_ports.specs.Running.{HasDrained};
+/// The egress ports of a thread: two, or the one that is left. So half as many threads as ports look for copies.
+#[derive(Drop)]
+struct Drains<C> {
+    before: Option<Drain<C>>,
+    last: Drain<C>,
+}
+
+impl<C: Sink<FrameCopy>> Drains<C> {
+    ghost use Rattle.std.specs.Prelude.{◌≡◌, ◌≤◌, ◌+◌, ◌++◌, length, vec_capacity, vec_len};
+    ghost use Rattle.gw_ports.specs.Running.{HaveDrained, drains_of};
 
     // Takes copies until a round over the lanes that began after the last offer gave none.
-    fn empty_lanes<R: Wait>(self, rt: &R, is_over: &AtomicBool, lane: u32) -> Drain<C>
-        ensures { HasDrained C.takes self result }
+    fn empty_lanes<R: Wait>(self, rt: &R, is_over: &AtomicBool, lane: u32) -> Drains<C>
+        ensures { HaveDrained C.takes self result }
     {
-        let Drain { mut port, mut out } = self;
+        let mut drains = self;
         let mut copies = [blank(); BATCH];
         let mut yields: u32 = 1;
         for _ in rt.forever() {
             let is_last = is_over.load(Ordering::SeqCst);
-            let most = take_round(&mut port, &mut out, &mut copies);
+            let most = drains.take_rounds(&mut copies);
             if most == 0 && is_last {
                 break;
             }
             yields = next_yields(most, lane, yields);
             gather(yields);
         }
-        Drain { port, out }
+        drains
+    }
+
+    // Takes the copies that wait at each of the ports, and tells how many the lane gave that gave most.
+    fn take_rounds(&mut self, copies: &mut [FrameCopy]) -> usize
+        ensures { HaveDrained C.takes self.old self.new }
+    {
+        let most = take_round(&mut self.last.port, &mut self.last.out, copies);
+        match &mut self.before {
+            Some(drain) => most.max(take_round(&mut drain.port, &mut drain.out, copies)),
+            None => most,
+        }
+    }
+
+    // Puts the ports behind others.
+    fn push_to(self, drained: &mut Vec<Drain<C>>)
+        requires { vec_len drained.old + length (drains_of self) ≤ vec_capacity drained.old }
+        ensures items { drained.new.items ≡ drained.old.items ++ drains_of self }
+        ensures capacity { vec_capacity drained.new ≡ vec_capacity drained.old }
+    {
+        let Drains { before, last } = self;
+        if let Some(drain) = before {
+            drained.push_reserved(drain);
+        }
+        drained.push_reserved(last);
     }
 }
 
@@ -142,14 +174,14 @@ fn hand_out<C: Sink<FrameCopy>>(out: &mut C, copies: &[FrameCopy])
     }
 }
 
-// What is known of an egress port that has taken copies out.
+// What is known of egress ports that have taken copies out.
 #[derive(Drop)]
-struct DrainPromise<C>(Snapshot<Drain<C>>);
+struct DrainPromise<C>(Snapshot<Drains<C>>);
 
-impl<C: Sink<FrameCopy>> Promise<Drain<C>> for DrainPromise<C> {
-    ghost use Rattle.gw_ports.specs.Running.{HasDrained};
+impl<C: Sink<FrameCopy>> Promise<Drains<C>> for DrainPromise<C> {
+    ghost use Rattle.gw_ports.specs.Running.{HaveDrained};
 
-    ghost kept_by = { λ p drained. HasDrained C.takes p.0.value drained };
+    ghost kept_by = { λ p drained. HaveDrained C.takes p.0.value drained };
 }
 
 /// What the threads of a run begin with.
@@ -161,8 +193,8 @@ pub(super) struct Work<I, O, C> {
     pub intake: Intake<I, O>,
 }
 
-// Starts a thread for each of the ports, from the last one down, feeds the gateway, and joins them. None where no thread could
-// be made.
+// Starts a thread for every two of the ports, from the last one down, feeds the gateway, and joins them. None where no thread
+// could be made.
 fn drain_all<'s, E, R, G, I, O, C>(
     threads: &'s Scope<'s, E>,
     rt: &'s R,
@@ -191,18 +223,22 @@ where
             let (done, published) = fed?;
             Some((work.drained, done, published))
         }
-        Some(drain) => {
-            let promise = DrainPromise(Snapshot::of(&drain));
-            let Ok(thread) = threads.spawn_with(promise, move || -> Drain<C> {
-                drain.empty_lanes(rt, is_over, lane)
+        Some(last) => {
+            let drains = Drains {
+                before: work.drains.pop(),
+                last,
+            };
+            let promise = DrainPromise(Snapshot::of(&drains));
+            let Ok(thread) = threads.spawn_with(promise, move || -> Drains<C> {
+                drains.empty_lanes(rt, is_over, lane)
             }) else {
                 is_over.store(true, Ordering::SeqCst);
                 return None;
             };
             let others = drain_all(threads, rt, gate, is_over, lane, work);
-            let one = thread.join(rt);
+            let own = thread.join(rt);
             let (mut drained, done, published) = others?;
-            drained.push_reserved(one);
+            own.push_to(&mut drained);
             Some((drained, done, published))
         }
     }
