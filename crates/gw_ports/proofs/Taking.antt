@@ -8,8 +8,7 @@ use Rattle.gw_ledger.specs.declared.outcome.FrameCopy.{FrameCopy}
 use Rattle.gw_lanes.specs.Ends.{Outlet, Ring}
 use Rattle.gw_ports.specs.Ends.{CountsSent, Egress, EndOut, HasLanes, end_out, lane_at, ring_from}
 use Rattle.gw_ports.specs.Sending.{Takes, sent_many, sent_with, taken_off}
-use Rattle.gw_ports.specs.Running.{HasDrained, HaveDrained, drains_of}
-use Rattle.gw_ports.specs.Sinks.{Handed}
+use Rattle.gw_ports.specs.Running.{HasDrained, AllHaveDrained, drains_of}
 use Rattle.gw_ports.specs.declared.running.drain.Drain.{Drain}
 use Rattle.gw_ports.specs.declared.running.drain.Drains.{Drains}
 use Rattle.gw_ports.proofs.Counting.{one_more_sent}
@@ -153,19 +152,11 @@ drained_on takes before now new first next = record {
 pub drained_nothing : {C : Type 0} (takes : C → FrameCopy → C → Type 0) (drain : Drain C) → HasDrained takes drain drain
 drained_nothing takes drain = record { copies = []; took = record { takes = refl; same = refl }; handed = refl }
 
--- these copies did
-pub drained_these : {C : Type 0} (takes : C → FrameCopy → C → Type 0) (before after : Drain C)
-    → end_out after.port ≡ end_out before.port
-    → (taken : List FrameCopy) × Takes before.port taken after.port × Handed takes before.out taken after.out
-    → HasDrained takes before after
-drained_these takes before after end these =
-    record { copies = these.0; took = record { takes = these.1; same = end }; handed = these.2 }
-
 -- the same of the ports of a thread
-pub drains_on : {C : Type 0} (takes : C → FrameCopy → C → Type 0) (before now new : Drains C) → HaveDrained takes before now
-    → HaveDrained takes now new → HaveDrained takes before new
+pub drains_on : {C : Type 0} (takes : C → FrameCopy → C → Type 0) (before now new : Drains C) → AllHaveDrained takes before now
+    → AllHaveDrained takes now new → AllHaveDrained takes before new
 drains_on takes before now new =
     pairwise_on (HasDrained takes) (drained_on takes) (drains_of before) (drains_of now) (drains_of new)
 
-pub drains_same : {C : Type 0} (takes : C → FrameCopy → C → Type 0) (drains : Drains C) → HaveDrained takes drains drains
+pub drains_same : {C : Type 0} (takes : C → FrameCopy → C → Type 0) (drains : Drains C) → AllHaveDrained takes drains drains
 drains_same takes drains = pairwise_same (HasDrained takes) (drained_nothing takes) (drains_of drains)

@@ -152,8 +152,8 @@ abbrev pub drains_of : {C : Type 0} → Drains C → List (Drain C)
 drains_of drains = option_to_list drains.before ++ drains.last ∷ []
 
 -- each of them took copies out
-abbrev pub HaveDrained : {C : Type 0} → (C → FrameCopy → C → Type 0) → Drains C → Drains C → Type 0
-HaveDrained takes before after = Pairwise (HasDrained takes) (drains_of before) (drains_of after)
+abbrev pub AllHaveDrained : {C : Type 0} → (C → FrameCopy → C → Type 0) → Drains C → Drains C → Type 0
+AllHaveDrained takes before after = Pairwise (HasDrained takes) (drains_of before) (drains_of after)
 
 -- ---- what the threads did, by port
 

@@ -1,7 +1,7 @@
 //! The egress threads: one for every two ports takes copies out.
 
 ghost use Rattle.std.specs.Prelude.{◌≡◌, ◌≤◌, List, IfSome, length, vec_capacity};
-ghost use Rattle.gw_ports.specs.Running.{CanRun, HasDrained, HasFed, HaveDrained, Pairwise, Publishes};
+ghost use Rattle.gw_ports.specs.Running.{CanRun, HasDrained, HasFed, AllHaveDrained, Pairwise, Publishes};
 ghost use Rattle.gw_ports.specs.Ends.{end_out};
 ghost use Rattle.gw_ports.specs.Sending.{Takes};
 ghost use Rattle.gw_ports.specs.Sinks.{Handed, HasRoomFor};
@@ -38,11 +38,11 @@ struct Drains<C> {
 
 impl<C: Sink<FrameCopy>> Drains<C> {
     ghost use Rattle.std.specs.Prelude.{◌≡◌, ◌≤◌, ◌+◌, ◌++◌, length, vec_capacity, vec_len};
-    ghost use Rattle.gw_ports.specs.Running.{HaveDrained, drains_of};
+    ghost use Rattle.gw_ports.specs.Running.{AllHaveDrained, drains_of};
 
     // Takes copies until a round over the lanes that began after the last offer gave none.
     fn empty_lanes<R: Wait>(self, rt: &R, is_over: &AtomicBool, lane: u32) -> Drains<C>
-        ensures { HaveDrained C.takes self result }
+        ensures { AllHaveDrained C.takes self result }
     {
         let mut drains = self;
         let mut copies = [blank(); BATCH];
@@ -61,7 +61,7 @@ impl<C: Sink<FrameCopy>> Drains<C> {
 
     // Takes the copies that wait at each of the ports, and tells how many the lane gave that gave most.
     fn take_rounds(&mut self, copies: &mut [FrameCopy]) -> usize
-        ensures { HaveDrained C.takes self.old self.new }
+        ensures { AllHaveDrained C.takes self.old self.new }
     {
         let most = take_round(&mut self.last.port, &mut self.last.out, copies);
         match &mut self.before {
@@ -179,9 +179,9 @@ fn hand_out<C: Sink<FrameCopy>>(out: &mut C, copies: &[FrameCopy])
 struct DrainPromise<C>(Snapshot<Drains<C>>);
 
 impl<C: Sink<FrameCopy>> Promise<Drains<C>> for DrainPromise<C> {
-    ghost use Rattle.gw_ports.specs.Running.{HaveDrained};
+    ghost use Rattle.gw_ports.specs.Running.{AllHaveDrained};
 
-    ghost kept_by = { λ p drained. HaveDrained C.takes p.0.value drained };
+    ghost kept_by = { λ p drained. AllHaveDrained C.takes p.0.value drained };
 }
 
 /// What the threads of a run begin with.

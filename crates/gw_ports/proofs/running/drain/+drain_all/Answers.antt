@@ -1,5 +1,5 @@
 use Rattle.std.proofs.Common.{◌∙◌, ◌++◌, ◌∷◌, [], List, append_assoc, arith, ap, length-append, option_to_list, subst, sym}
-use Rattle.gw_ports.specs.Running.{HasDrained, HaveDrained, Pairwise, drains_of}
+use Rattle.gw_ports.specs.Running.{HasDrained, AllHaveDrained, Pairwise, drains_of}
 use Rattle.gw_ports.specs.declared.running.drain.Drain.{Drain}
 use Rattle.gw_ports.specs.declared.running.drain.Drains.{Drains}
 use Rattle.gw_ports.proofs.Runs.{pairwise_append, pairwise_length}
@@ -18,8 +18,8 @@ push_to-requires g t c =
     let R : Drain g.row.C.Denot → Drain g.row.C.Denot → Type 0 = HasDrained g.C.Sink.takes in
     let drains : Drains g.row.C.Denot = record { before = c.pop-in-Some.result; last = c.in-Some.last } in
     let value = ap (λ p. p.0.value) c.in-Ok.ensures.ok ∙ c.of.ensures in
-    let own : HaveDrained g.C.Sink.takes drains c.join-own.result =
-    subst (λ (o : Drains g.row.C.Denot). HaveDrained g.C.Sink.takes o c.join-own.result) value c.join-own.ensures in
+    let own : AllHaveDrained g.C.Sink.takes drains c.join-own.result =
+    subst (λ (o : Drains g.row.C.Denot). AllHaveDrained g.C.Sink.takes o c.join-own.result) value c.join-own.ensures in
     let others = c.in_ok-drained-in-Some.ensures.taken in
     let many = pairwise_length R c.pop-in-Some.new.self.items c.in_ok-drained-in-Some.drained.items others.0 in
     let these = pairwise_length R (drains_of drains) (drains_of c.join-own.result) own in
@@ -37,8 +37,8 @@ returns-in_ok-drained-in-Some-clause-taken g t c =
     let R : Drain g.row.C.Denot → Drain g.row.C.Denot → Type 0 = HasDrained g.C.Sink.takes in
     let drains : Drains g.row.C.Denot = record { before = c.pop-in-Some.result; last = c.in-Some.last } in
     let value = ap (λ p. p.0.value) c.in-Ok.ensures.ok ∙ c.of.ensures in
-    let own : HaveDrained g.C.Sink.takes drains c.join-own.result =
-    subst (λ (o : Drains g.row.C.Denot). HaveDrained g.C.Sink.takes o c.join-own.result) value c.join-own.ensures in
+    let own : AllHaveDrained g.C.Sink.takes drains c.join-own.result =
+    subst (λ (o : Drains g.row.C.Denot). AllHaveDrained g.C.Sink.takes o c.join-own.result) value c.join-own.ensures in
     let others = c.in_ok-drained-in-Some.ensures.taken in
     let rest = c.pop-in-Some.new.self.items in
     let all =
