@@ -204,17 +204,28 @@ static void try_tables(void)
     check("the old one is again", !crosses(0, 0x18FEF200));
 }
 
-/* Copies that no one took yet leave before the relay ends. */
+/* How many frames the relay has taken at port 0. */
+static uint64_t taken(void)
+{
+    signal_and_listen(0);
+    const char *found = strstr(heard, " taken ");
+    return found != NULL ? strtoull(found + strlen(" taken "), NULL, 10) : 0;
+}
+
+/* Copies that no one took yet leave before the relay ends. It takes no frame once it is to end, so it is told to when it has
+ * taken all: where others have the processor, frames still wait for it behind the signal of the counters. */
 static void try_end(void)
 {
     struct can_frame found;
     unsigned came = 0;
     int status;
+    uint64_t before = taken();
     for (unsigned i = 0; i < 500; i++) {
         struct can_frame frame = frame_of(0x18FEF100, i);
         put(0, &frame);
     }
-    signal_and_listen(0);
+    for (int waited = 0; waited < PATIENCE && taken() < before + 500; waited++)
+        usleep(1000);
     kill(child, SIGTERM);
     while (came < 500 && get(1, PATIENCE, &found))
         came++;
