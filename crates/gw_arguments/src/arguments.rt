@@ -2,7 +2,7 @@
 
 use crate::ask_arguments::asked_question;
 use crate::form::{command, wrong};
-use crate::forms::{ASK, ASM, CHECK, CLAIMS, DIFF, JUDGE, LIST, REPLAY, RUN, TABLE, VERDICT};
+use crate::forms::{RUN, forms};
 use clap::{ArgMatches, Command, Error};
 use gw_answers::{FrameWord, Query};
 use std::alloc::{AllocError, Global};
@@ -44,15 +44,18 @@ fn bare_program<'a>(alloc: Global) -> Command<'a> {
         .subcommand_required(true)
 }
 
-/// The program with its commands, as `clap` reads them and shows their help.
-fn program<'a>(alloc: Global) -> Result<Command<'a>, AllocError> {
-    let mut program = bare_program(alloc);
-    for form in [
-        &VERDICT, &CHECK, &ASM, &LIST, &CLAIMS, &REPLAY, &TABLE, &ASK, &DIFF, &JUDGE, &RUN,
-    ] {
-        program = program.subcommand(command(alloc, form)?)?;
+/// The commands of the program, as `clap` reads them and shows their help.
+fn commands<'a>(alloc: Global) -> Result<Vec<Command<'a>>, AllocError> {
+    let mut commands = Vec::new(alloc);
+    for form in &forms() {
+        commands.push(command(alloc, form)?)?;
     }
-    Ok(program)
+    Ok(commands)
+}
+
+/// The program with its commands.
+fn program<'a>(alloc: Global) -> Result<Command<'a>, AllocError> {
+    bare_program(alloc).subcommands(commands(alloc)?)
 }
 
 /// What `clap` finds in the arguments, or its answer to them: help, or what is wrong.
@@ -79,9 +82,10 @@ fn asked<'a>(alloc: Global, name: &str, found: &ArgMatches<'a>) -> Result<Reques
         "replay" => Ok(Request::Replay {
             strict: found.get_flag("strict"),
         }),
-        "run" => Err(wrong(alloc, &RUN, "`run` must be the first argument")),
-        "judge" => Err(wrong(alloc, &RUN, "`judge` must be the first argument")),
-        "diff" => Err(wrong(alloc, &RUN, "`diff` must be the first argument")),
+        "run" | "judge" | "diff" => {
+            let text = format!(in alloc; "`{name}` must be the first argument")?;
+            Err(wrong(alloc, &RUN, &text))
+        }
         "claims" if found.get_flag("log") => Ok(claims_log(found)),
         "ask" => {
             let question = asked_question(alloc, found)?;

@@ -2,10 +2,10 @@
 
 use crate::form::wrong;
 use crate::forms::JUDGE;
-use crate::source_arguments::name_files;
+use crate::source_arguments::name_sources;
 use crate::taking_arguments::asked_interfaces;
 use clap::{ArgMatches, Error};
-use gw_answers::{PolicyKind, PolicySource};
+use gw_answers::PolicySource;
 use gw_judge::NamedInterface;
 use gw_ledger::MAX_PORTS;
 use std::alloc::{AllocError, Global};
@@ -28,25 +28,10 @@ pub(crate) fn asked_egress<'a>(
         Some(ports) => MAX_PORTS.min(ports as usize),
         None => MAX_PORTS,
     };
-    let tables = found.get_strs("table").unwrap_or(&[]);
-    let listings = found.get_strs("listing").unwrap_or(&[]);
     let interfaces = asked_interfaces(alloc, found, ports, &JUDGE)?;
     written_names(alloc, interfaces.as_slice())?;
     let mut sources = [PolicySource::Opening; MAX_PORTS];
-    name_files(
-        alloc,
-        tables,
-        PolicyKind::Table,
-        &mut sources[..ports],
-        &JUDGE,
-    )?;
-    name_files(
-        alloc,
-        listings,
-        PolicyKind::Listing,
-        &mut sources[..ports],
-        &JUDGE,
-    )?;
+    name_sources(alloc, found, &mut sources[..ports], &JUDGE)?;
     Ok(EgressRequest {
         sources,
         interfaces,

@@ -91,53 +91,50 @@ pub(crate) const FLAG: Opt<'static> = Opt {
 
 /// The command of a form, as `clap` reads it and shows its help.
 pub(crate) fn command<'a>(alloc: Global, form: &Form<'a>) -> Result<Command<'a>, AllocError> {
-    let bare = Command::new(alloc, form.name)
+    let groups = groups(alloc, form.groups)?;
+    let args = args(alloc, form.options)?;
+    bare(alloc, form).groups(groups)?.args(args)
+}
+
+/// The command without its groups and options.
+fn bare<'a>(alloc: Global, form: &Form<'a>) -> Command<'a> {
+    Command::new(alloc, form.name)
         .about(form.about)
         .override_usage(form.usage)
-        .after_help(form.example);
-    with_options(alloc, with_groups(alloc, bare, form.groups)?, form.options)
+        .after_help(form.example)
 }
 
 /// `clap`'s error with this text, and the usage of a command.
 pub(crate) fn wrong(alloc: Global, form: &Form, text: &str) -> Error {
-    match wrong_in(command(alloc, form), text) {
+    match wrong_in(alloc, form, text) {
         Ok(error) => error,
         Err(AllocError) => Error::from(AllocError),
     }
 }
 
-fn wrong_in(command: Result<Command, AllocError>, text: &str) -> Result<Error, AllocError> {
-    let mut command = command?;
-    command.error(ErrorKind::ValueValidation, text)
+fn wrong_in(alloc: Global, form: &Form, text: &str) -> Result<Error, AllocError> {
+    command(alloc, form)?.error(ErrorKind::ValueValidation, text)
 }
 
-fn with_groups<'a>(
-    alloc: Global,
-    command: Command<'a>,
-    groups: &[Group<'a>],
-) -> Result<Command<'a>, AllocError> {
-    let mut command = command;
+fn groups<'a>(alloc: Global, groups: &[Group<'a>]) -> Result<Vec<ArgGroup<'a>>, AllocError> {
+    let mut made = Vec::new(alloc);
     for group in groups {
-        let members = ArgGroup::new(alloc, group.name).args(group.members)?;
-        command = command.group(
-            members
+        made.push(
+            ArgGroup::new(alloc, group.name)
+                .args(group.members)?
                 .required(group.is_required)
                 .multiple(group.is_multiple),
         )?;
     }
-    Ok(command)
+    Ok(made)
 }
 
-fn with_options<'a>(
-    alloc: Global,
-    command: Command<'a>,
-    options: &[Opt<'a>],
-) -> Result<Command<'a>, AllocError> {
-    let mut command = command;
+fn args<'a>(alloc: Global, options: &[Opt<'a>]) -> Result<Vec<Arg<'a>>, AllocError> {
+    let mut made = Vec::new(alloc);
     for option in options {
-        command = command.arg(arg(alloc, option)?)?;
+        made.push(arg(alloc, option)?)?;
     }
-    Ok(command)
+    Ok(made)
 }
 
 /// The option, as `clap` reads it and shows its help.

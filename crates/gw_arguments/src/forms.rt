@@ -50,6 +50,13 @@ const INTERFACE: Opt<'static> = Opt {
     ..FLAG
 };
 
+/// The commands, in the order in which help shows them.
+pub(crate) fn forms() -> [&'static Form<'static>; 11] {
+    [
+        &VERDICT, &CHECK, &ASM, &LIST, &CLAIMS, &REPLAY, &TABLE, &ASK, &DIFF, &JUDGE, &RUN,
+    ]
+}
+
 pub(crate) static VERDICT: Form<'static> = Form {
     name: "verdict",
     about: "Runs a program's listing on a record: `pass <answer>` or `block`",

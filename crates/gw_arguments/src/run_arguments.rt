@@ -6,10 +6,10 @@ use crate::arguments::matched;
 use crate::form::wrong;
 use crate::forms::RUN;
 use crate::input_arguments::asked_inputs;
-use crate::source_arguments::name_files;
+use crate::source_arguments::{name_sources, names_no_source};
 use crate::taking_arguments::asked_interfaces;
 use clap::{ArgMatches, Error};
-use gw_answers::{PolicyKind, PolicySource};
+use gw_answers::PolicySource;
 use gw_judge::NamedInterface;
 use gw_ledger::Limits;
 use std::alloc::Global;
@@ -99,9 +99,7 @@ fn asked_sources<'a>(
     ensures { IfOk result (λ sources. vec_len sources ≡ ports) }
 {
     let program = run.get_str("program");
-    let tables = run.get_strs("table").unwrap_or(&[]);
-    let listings = run.get_strs("listing").unwrap_or(&[]);
-    if program.is_none() && tables.is_empty() && listings.is_empty() {
+    if program.is_none() && names_no_source(run) {
         return Err(wrong(
             alloc,
             &RUN,
@@ -110,7 +108,6 @@ fn asked_sources<'a>(
     }
     let others = program.map_or(PolicySource::Opening, PolicySource::Program);
     let mut sources = vec![in alloc; others; ports]?;
-    name_files(alloc, tables, PolicyKind::Table, &mut sources, &RUN)?;
-    name_files(alloc, listings, PolicyKind::Listing, &mut sources, &RUN)?;
+    name_sources(alloc, run, &mut sources, &RUN)?;
     Ok(sources)
 }

@@ -4,12 +4,32 @@ ghost use Rattle.std.specs.Prelude.{◌≡◌, length};
 
 use crate::form::{Form, wrong};
 use crate::port_files::{ValueFault, port_file, told};
-use clap::Error;
+use clap::{ArgMatches, Error};
 use gw_answers::{PolicyKind, PolicySource};
 use std::alloc::Global;
 
-/// Names files of a kind for their ports. The usage of a command stands behind what is wrong.
-pub(crate) fn name_files<'a>(
+/// Whether the arguments name no file of a port's policy.
+pub(crate) fn names_no_source(found: &ArgMatches) -> bool {
+    found.get_strs("table").is_none() && found.get_strs("listing").is_none()
+}
+
+/// Names the files of the ports' policies. The usage of a command stands behind what is wrong.
+pub(crate) fn name_sources<'a>(
+    alloc: Global,
+    found: &ArgMatches<'a>,
+    sources: &mut [PolicySource<'a>],
+    form: &Form,
+) -> Result<(), Error>
+    ensures { length sources.new ≡ length sources.old }
+{
+    let tables = found.get_strs("table").unwrap_or(&[]);
+    let listings = found.get_strs("listing").unwrap_or(&[]);
+    name_files(alloc, tables, PolicyKind::Table, sources, form)?;
+    name_files(alloc, listings, PolicyKind::Listing, sources, form)
+}
+
+/// Names files of a kind for their ports.
+fn name_files<'a>(
     alloc: Global,
     values: &[&'a str],
     kind: PolicyKind,
