@@ -14,7 +14,7 @@
 #include <sys/wait.h>
 #include <unistd.h>
 
-enum { FRAMES = 4000000, RUN_REPEATS = 5 };
+enum { FRAMES = 4000000, RUN_REPEATS = 11 };
 
 static const char *const trace_name = "out/trace.pcap";
 
@@ -110,26 +110,49 @@ static const char *const large_pages = "GLIBC_TUNABLES=glibc.malloc.hugetlb=1";
 static const char *const dealt = "<";
 static const char *const own = "--in 0=";
 
-/* Both in turn; the least clock time of each counts, with the processor time of that run. */
+static int by_clock(const void *one, const void *other)
+{
+    double difference = ((const struct cost *)one)->clock - ((const struct cost *)other)->clock;
+    return (difference > 0) - (difference < 0);
+}
+
+static int by_size(const void *one, const void *other)
+{
+    double difference = *(const double *)one - *(const double *)other;
+    return (difference > 0) - (difference < 0);
+}
+
+/* Prints a row: of each side's repeats the one in the middle and the least, and of the pairs' ratios the one in the middle. */
+static void print_row(const char *name, int ports, struct cost *ours, struct cost *theirs)
+{
+    double ratios[RUN_REPEATS], memory = 0;
+    for (int repeat = 0; repeat < RUN_REPEATS; repeat++) {
+        ratios[repeat] = ours[repeat].clock / theirs[repeat].clock;
+        memory = ours[repeat].memory > memory ? ours[repeat].memory : memory;
+    }
+    qsort(ratios, RUN_REPEATS, sizeof *ratios, by_size);
+    qsort(ours, RUN_REPEATS, sizeof *ours, by_clock);
+    qsort(theirs, RUN_REPEATS, sizeof *theirs, by_clock);
+    int middle = RUN_REPEATS / 2;
+    printf("| %s | %d | %.1f | %.1f | %.1f | %.0f | %.1f | %.2f | %.1f, %.1f | %.2f |\n", name, ports,
+           ours[middle].clock / FRAMES, ours[middle].processors / FRAMES, ours[middle].clock / FRAMES / (ports - 1), memory / 1e6,
+           theirs[middle].clock / FRAMES, ratios[middle], ours[0].clock / FRAMES, theirs[0].clock / FRAMES,
+           ours[0].clock / theirs[0].clock);
+    fflush(stdout);
+}
+
+/* Both in turn, so that the two of a pair find the machine in one state: others may have a part of its processors at times. */
 static bool time_pair(const char *settings, const char *input, int ports, const char *policies, const struct bpf_insn *code,
                       const char *name)
 {
     char command[600];
-    struct cost ours = {1e30, 0, 0}, theirs = {1e30, 0, 0}, cost;
+    struct cost ours[RUN_REPEATS], theirs[RUN_REPEATS];
     snprintf(command, sizeof command, "exec env %s ../crates/gw/out/gw run --ports %d %s %s%s > out/counts 2> out/notes",
              settings, ports, policies, input, trace_name);
-    for (int repeat = 0; repeat < RUN_REPEATS; repeat++) {
-        if (!run_command(command, &cost) || taken() != FRAMES)
+    for (int repeat = 0; repeat < RUN_REPEATS; repeat++)
+        if (!run_command(command, &ours[repeat]) || taken() != FRAMES || !run_libpcap_on(code, &theirs[repeat]))
             return false;
-        ours = cost.clock < ours.clock ? cost : ours;
-        if (!run_libpcap_on(code, &cost))
-            return false;
-        theirs = cost.clock < theirs.clock ? cost : theirs;
-    }
-    printf("| %s | %d | %.1f | %.1f | %.1f | %.0f | %.1f | %.1f | %.2f |\n", name, ports, ours.clock / FRAMES,
-           ours.processors / FRAMES, ours.clock / FRAMES / (ports - 1), ours.memory / 1e6, theirs.clock / FRAMES,
-           theirs.processors / FRAMES, ours.clock / theirs.clock);
-    fflush(stdout);
+    print_row(name, ports, ours, theirs);
     return true;
 }
 
@@ -151,7 +174,8 @@ bool time_runs(const char *name, const char *text, size_t length, const uint8_t 
         return false;
     }
     printf("\n| policy | ports | `gw run`, ns a frame | its processors | ns a frame and other port | its memory, MB "
-           "| libpcap, ns a frame | its processor | `gw run` / libpcap |\n|---|---|---|---|---|---|---|---|---|\n");
+           "| libpcap, ns a frame | `gw run` / libpcap | the least of each, ns a frame | their ratio |\n"
+           "|---|---|---|---|---|---|---|---|---|---|\n");
     const char *all = "--program '1,6 0 0 1,'";
     bool is_done = time_pair(plain, dealt, 2, all, pass, "`ret #1`")
         && time_pair(large_pages, dealt, 2, all, pass, "`ret #1`, large pages")
