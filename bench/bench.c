@@ -27,6 +27,12 @@ double now(void)
     return (double)t.tv_sec * 1e9 + (double)t.tv_nsec;
 }
 
+int by_size(const void *one, const void *other)
+{
+    double a = *(const double *)one, b = *(const double *)other;
+    return (a > b) - (a < b);
+}
+
 static double least(double a, double b)
 {
     return a < b ? a : b;

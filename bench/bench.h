@@ -43,6 +43,9 @@ bool gw_bench_feed(const uint8_t *octets, size_t length, size_t piece, struct ta
 /* The time by the clock, in nanoseconds. */
 double now(void);
 
+/* For `qsort`: compares two numbers, or two costs by their clock, which stands first in them. */
+int by_size(const void *one, const void *other);
+
 struct program {
     const char *name;
     size_t length;
@@ -66,7 +69,7 @@ bool time_scripts(const char *text, size_t length, const uint8_t (*records)[16])
 
 /* What a process took: on the clock, and of all its threads' processors. */
 struct cost {
-    double clock;
+    double clock; /* the first, for `by_size` */
     double processors;
     double memory; /* the most octets that it had in memory */
 };

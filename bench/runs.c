@@ -110,18 +110,6 @@ static const char *const large_pages = "GLIBC_TUNABLES=glibc.malloc.hugetlb=1";
 static const char *const dealt = "<";
 static const char *const own = "--in 0=";
 
-static int by_clock(const void *one, const void *other)
-{
-    double difference = ((const struct cost *)one)->clock - ((const struct cost *)other)->clock;
-    return (difference > 0) - (difference < 0);
-}
-
-static int by_size(const void *one, const void *other)
-{
-    double difference = *(const double *)one - *(const double *)other;
-    return (difference > 0) - (difference < 0);
-}
-
 /* Prints a row: of each side's repeats the one in the middle and the least, and of the pairs' ratios the one in the middle. */
 static void print_row(const char *name, int ports, struct cost *ours, struct cost *theirs)
 {
@@ -131,8 +119,8 @@ static void print_row(const char *name, int ports, struct cost *ours, struct cos
         memory = ours[repeat].memory > memory ? ours[repeat].memory : memory;
     }
     qsort(ratios, RUN_REPEATS, sizeof *ratios, by_size);
-    qsort(ours, RUN_REPEATS, sizeof *ours, by_clock);
-    qsort(theirs, RUN_REPEATS, sizeof *theirs, by_clock);
+    qsort(ours, RUN_REPEATS, sizeof *ours, by_size);
+    qsort(theirs, RUN_REPEATS, sizeof *theirs, by_size);
     int middle = RUN_REPEATS / 2;
     printf("| %s | %d | %.1f | %.1f | %.1f | %.0f | %.1f | %.2f | %.1f, %.1f | %.2f |\n", name, ports,
            ours[middle].clock / FRAMES, ours[middle].processors / FRAMES, ours[middle].clock / FRAMES / (ports - 1), memory / 1e6,

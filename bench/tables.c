@@ -127,15 +127,9 @@ static uint64_t walked(void)
 static double found[COLD_ROUNDS];
 static int rounds_found;
 
-static int compare(const void *a, const void *b)
-{
-    double x = *(const double *)a, y = *(const double *)b;
-    return (x > y) - (x < y);
-}
-
 static double median_found(void)
 {
-    qsort(found, (size_t)rounds_found, sizeof found[0], compare);
+    qsort(found, (size_t)rounds_found, sizeof found[0], by_size);
     return found[rounds_found / 2] / COPIES;
 }
 
