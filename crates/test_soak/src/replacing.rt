@@ -10,13 +10,19 @@ use gw_policy::Policy;
 use gw_ports::{Parts, PortIn, PortOut};
 use std::alloc::Global;
 use std::marker::Sync;
-use std::sync::atomic::{AtomicBool, Ordering};
+use std::sync::atomic::{AtomicBool, AtomicU32, Ordering};
 use std::sync::{Arc, Wait};
 use std::thread::{Threads, join, sleep};
 use std::time::{Clock, Duration, Instant};
 
-/// How many rounds of offers there are.
-const ROUNDS: u32 = 5000;
+/// How many stretches of offers there are.
+const STRETCHES: u32 = 50;
+
+/// How many rounds a stretch has: some 10 milliseconds.
+const ROUNDS: u32 = 100;
+
+/// How many replacements come in a stretch that counts, at least.
+const REPLACEMENTS: u32 = 5;
 
 /// What a long run of offers took, in nanoseconds.
 #[derive(Clone, Copy)]
@@ -25,6 +31,8 @@ pub struct Offers {
     pub all: u64,
     /// The longest.
     pub slowest: u64,
+    /// The longest of the stretch whose longest is least.
+    pub calmest: u64,
     /// How many replacements came meanwhile.
     pub replacements: u32,
 }
@@ -34,6 +42,15 @@ impl Offers {
     pub const MOST: Offers = Offers {
         all: u64::MAX,
         slowest: u64::MAX,
+        calmest: u64::MAX,
+        replacements: 0,
+    };
+
+    /// Of no offers.
+    const NONE: Offers = Offers {
+        all: 0,
+        slowest: 0,
+        calmest: u64::MAX,
         replacements: 0,
     };
 
@@ -42,9 +59,32 @@ impl Offers {
         Offers {
             all: self.all.min(other.all),
             slowest: self.slowest.min(other.slowest),
+            calmest: self.calmest.min(other.calmest),
             replacements: self.replacements.max(other.replacements),
         }
     }
+
+    /// These and a stretch behind them, with the time of all its offers and the longest of them. It counts as calm, or does not.
+    fn and(self, (all, slowest): (u64, u64), replacements: u32, counts: bool) -> Offers {
+        Offers {
+            all: self.all.saturating_add(all),
+            slowest: self.slowest.max(slowest),
+            calmest: if counts {
+                self.calmest.min(slowest)
+            } else {
+                self.calmest
+            },
+            replacements: self.replacements.saturating_add(replacements),
+        }
+    }
+}
+
+/// What the thread that offers and the one that replaces tell each other.
+#[derive(Drop)]
+struct Signals {
+    is_over: AtomicBool,
+    /// How many replacements there were.
+    replacements: AtomicU32,
 }
 
 /// Offers frames at one of two ports in a thread of its own, while this one replaces policies each millisecond, or only sleeps.
@@ -86,31 +126,45 @@ fn time_ends<R: Threads + Wait + Clock + Sync>(
     let (Some(port), Some(out)) = (ins.first_mut(), outs.last_mut()) else {
         return Err(Fault::Unprepared);
     };
-    let is_over = AtomicBool::new(false);
-    let over = &is_over;
-    let (offers, replacements) = join(
+    let signals = Signals {
+        is_over: AtomicBool::new(false),
+        replacements: AtomicU32::new(0),
+    };
+    let shared = &signals;
+    let least = if is_replacing { REPLACEMENTS } else { 0 };
+    let (offers, ended) = join(
         rt,
-        move || offer_until_over(rt, port, out, frames, over),
-        move || replace_until_over(rt, operator, policy, is_replacing, over),
+        move || {
+            let offers = offer_stretches(rt, port, out, frames, least, shared);
+            shared.is_over.store(true, Ordering::SeqCst);
+            offers
+        },
+        move || replace_until_over(rt, operator, policy, is_replacing, shared),
     );
-    let (all, slowest) = offers?;
-    Ok(Offers {
-        all,
-        slowest,
-        replacements: replacements?,
-    })
+    ended?;
+    offers
 }
 
-fn offer_until_over<R: Clock>(
+/// Offers stretch by stretch. Those count as calm in which so many replacements came.
+fn offer_stretches<R: Clock>(
     rt: &R,
     port: &mut PortIn,
     out: &mut PortOut,
     frames: &[Frame],
-    is_over: &AtomicBool,
-) -> Result<(u64, u64), Fault> {
-    let times = offer_rounds(rt, port, out, frames);
-    is_over.store(true, Ordering::SeqCst);
-    times
+    least: u32,
+    signals: &Signals,
+) -> Result<Offers, Fault> {
+    let mut offers = Offers::NONE;
+    for _ in 0..STRETCHES {
+        let before = signals.replacements.load(Ordering::SeqCst);
+        let times = offer_rounds(rt, port, out, frames)?;
+        let came = signals
+            .replacements
+            .load(Ordering::SeqCst)
+            .saturating_sub(before);
+        offers = offers.and(times, came, came >= least);
+    }
+    Ok(offers)
 }
 
 /// Offers each frame in each round, and takes the copies out behind it.
@@ -150,26 +204,25 @@ fn offer_all<R: Clock>(
     Ok((all, slowest))
 }
 
-/// Replaces the policies each millisecond, and answers how often.
+/// Replaces the policies each millisecond.
 fn replace_until_over<R: Wait + Clock>(
     rt: &R,
     operator: &mut Operator,
     policy: &Arc<Policy>,
     is_replacing: bool,
-    is_over: &AtomicBool,
-) -> Result<u32, Fault> {
-    let mut replacements: u32 = 0;
+    signals: &Signals,
+) -> Result<(), Fault> {
     for _ in 0..60_000 {
-        if is_over.load(Ordering::SeqCst) {
+        if signals.is_over.load(Ordering::SeqCst) {
             break;
         }
         sleep(rt, Duration::from_millis(1));
         if is_replacing {
             publish(rt, operator, for_ports(2, policy)?)?;
-            replacements = replacements.saturating_add(1);
+            signals.replacements.fetch_add(1, Ordering::SeqCst);
         }
     }
-    Ok(replacements)
+    Ok(())
 }
 
 /// The time in nanoseconds of an offer at the first port, which took a frame before so many replacements. Each has a policy of

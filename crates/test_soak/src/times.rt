@@ -17,7 +17,10 @@ use std::thread::Threads;
 use std::time::Clock;
 
 /// How often the run of offers is repeated, with and without replacements.
-const REPEATS: u32 = 5;
+const REPEATS: u32 = 20;
+
+/// How often a port's first offer is timed, each behind thousands of replacements.
+const FIRST_OFFERS: u32 = 5;
 
 /// Tenths, as a number with one place behind the point.
 #[derive(Clone, Copy)]
@@ -139,7 +142,7 @@ fn tell_replacing<R: Threads + Wait + Clock + Sync, W: Write>(
     }
     writeln!(
         output,
-        "\n| offers at one port | replacements | milliseconds | slowest, microseconds |\n|---|---|---|---|"
+        "\n| offers at one port | replacements | milliseconds | slowest, us | in the calmest stretch, us |\n|---|---|---|---|---|"
     )?;
     tell_long("alone", alone, output)?;
     tell_long("with a replacement each millisecond", beside, output)
@@ -148,7 +151,12 @@ fn tell_replacing<R: Threads + Wait + Clock + Sync, W: Write>(
 fn tell_long<W: Write>(name: &str, offers: Offers, output: &mut W) -> Result<(), Fault> {
     let replacements = offers.replacements;
     write!(output, "| {name} | {replacements} ")?;
-    tell_tenths(&[offers.all / 100_000, offers.slowest / 100], output)
+    let cells = [
+        offers.all / 100_000,
+        offers.slowest / 100,
+        offers.calmest / 100,
+    ];
+    tell_tenths(&cells, output)
 }
 
 /// Writes what an offer takes at a port that took no frame for many replacements.
@@ -165,7 +173,7 @@ fn tell_first_offer<R: Wait + Clock, W: Write>(
     )?;
     for replacements in [0, 1, 10_000] {
         let mut least = u64::MAX;
-        for _ in 0..REPEATS {
+        for _ in 0..FIRST_OFFERS {
             least = least.min(time_first_offer(rt, alloc, text, frames, replacements)?);
         }
         let tenths = Tenths(least / 100);
