@@ -21,8 +21,8 @@ const STRETCHES: u32 = 50;
 /// How many rounds a stretch has: some 10 milliseconds.
 const ROUNDS: u32 = 100;
 
-/// How many replacements come in a stretch that counts, at least.
-const REPLACEMENTS: u32 = 5;
+/// A stretch with replacements counts where one came in so many nanoseconds, in the mean: two milliseconds.
+const PACE: u64 = 2_000_000;
 
 /// What a long run of offers took, in nanoseconds.
 #[derive(Clone, Copy)]
@@ -64,17 +64,13 @@ impl Offers {
         }
     }
 
-    /// These and a stretch behind them, with the time of all its offers and the longest of them. It counts as calm, or does not.
-    fn and(self, (all, slowest): (u64, u64), replacements: u32, counts: bool) -> Offers {
+    /// These, and others behind them.
+    fn and(self, other: Offers) -> Offers {
         Offers {
-            all: self.all.saturating_add(all),
-            slowest: self.slowest.max(slowest),
-            calmest: if counts {
-                self.calmest.min(slowest)
-            } else {
-                self.calmest
-            },
-            replacements: self.replacements.saturating_add(replacements),
+            all: self.all.saturating_add(other.all),
+            slowest: self.slowest.max(other.slowest),
+            calmest: self.calmest.min(other.calmest),
+            replacements: self.replacements.saturating_add(other.replacements),
         }
     }
 }
@@ -131,11 +127,10 @@ fn time_ends<R: Threads + Wait + Clock + Sync>(
         replacements: AtomicU32::new(0),
     };
     let shared = &signals;
-    let least = if is_replacing { REPLACEMENTS } else { 0 };
     let (offers, ended) = join(
         rt,
         move || {
-            let offers = offer_stretches(rt, port, out, frames, least, shared);
+            let offers = offer_stretches(rt, port, out, frames, is_replacing, shared);
             shared.is_over.store(true, Ordering::SeqCst);
             offers
         },
@@ -145,24 +140,28 @@ fn time_ends<R: Threads + Wait + Clock + Sync>(
     offers
 }
 
-/// Offers stretch by stretch. Those count as calm in which so many replacements came.
+/// Offers stretch by stretch. Where policies are replaced, a stretch with too few replacements is not the calmest.
 fn offer_stretches<R: Clock>(
     rt: &R,
     port: &mut PortIn,
     out: &mut PortOut,
     frames: &[Frame],
-    least: u32,
+    is_replacing: bool,
     signals: &Signals,
 ) -> Result<Offers, Fault> {
     let mut offers = Offers::NONE;
     for _ in 0..STRETCHES {
         let before = signals.replacements.load(Ordering::SeqCst);
-        let times = offer_rounds(rt, port, out, frames)?;
-        let came = signals
-            .replacements
-            .load(Ordering::SeqCst)
-            .saturating_sub(before);
-        offers = offers.and(times, came, came >= least);
+        let (all, slowest) = offer_rounds(rt, port, out, frames)?;
+        let now = signals.replacements.load(Ordering::SeqCst);
+        let replacements = now.saturating_sub(before);
+        let counts = !is_replacing || u64::from(replacements).saturating_mul(PACE) >= all;
+        offers = offers.and(Offers {
+            all,
+            slowest,
+            calmest: if counts { slowest } else { u64::MAX },
+            replacements,
+        });
     }
     Ok(offers)
 }
