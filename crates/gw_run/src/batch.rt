@@ -63,6 +63,7 @@ impl Batch {
     }
 
     /// Gives the oldest, or the next of a ring where all were given. It waits for it then, and takes what waits there.
+    #[inline(always)]
     pub fn next_of<R: Wait>(&mut self, rt: &R, ring: &mut Consumer<Dealt, Global, Bounded>) -> Dealt
         ensures ring { SameConsumer ring.old ring.new }
         ensures next { (first : List (Option (List ℕ))) → received ring.old ≡ first ++ self.old
@@ -76,6 +77,8 @@ impl Batch {
     }
 
     /// Takes what waits in a ring, in place of what is here, and waits for it where there is none.
+    // Not inlined: with it `next_of` would be too long for a port's loop over its frames.
+    #[inline(never)]
     fn refill<R: Wait>(&mut self, rt: &R, ring: &mut Consumer<Dealt, Global, Bounded>)
         ensures ring { SameConsumer ring.old ring.new }
         ensures received { received ring.new ≡ received ring.old ++ self.new }

@@ -194,6 +194,7 @@ impl<R: Wait> Iterator for DealtOut<'_, R> {
 
     ghost remaining = { λ d. at_most (2 ^ 64 - length d.items) };
 
+    #[inline(always)]
     fn next(&mut self) -> Option<Frame> {
         if self.is_over {
             return None;

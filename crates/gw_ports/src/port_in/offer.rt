@@ -91,6 +91,8 @@ impl PortIn {
 }
 
 // The ports to which a frame is allowed by the batches that are known afterwards.
+// Inlined, as `offer_one` is.
+#[inline(always)]
 fn judge(
     watch: &mut Watch,
     ports: u8,
