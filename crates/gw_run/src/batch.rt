@@ -77,7 +77,7 @@ impl Batch {
     }
 
     /// Takes what waits in a ring, in place of what is here, and waits for it where there is none.
-    // Not inlined: with it `next_of` would be too long for a port's loop over its frames.
+    // Not inlined: 64 items share it, and a port's loop would be longer by it.
     #[inline(never)]
     fn refill<R: Wait>(&mut self, rt: &R, ring: &mut Consumer<Dealt, Global, Bounded>)
         ensures ring { SameConsumer ring.old ring.new }

@@ -194,6 +194,7 @@ impl<R: Wait> Iterator for DealtOut<'_, R> {
 
     ghost remaining = { λ d. at_most (2 ^ 64 - length d.items) };
 
+    // Inlined, so that a frame does not go through memory once more on its way into the port's loop.
     #[inline(always)]
     fn next(&mut self) -> Option<Frame> {
         if self.is_over {

@@ -91,7 +91,7 @@ impl PortIn {
 }
 
 // The ports to which a frame is allowed by the batches that are known afterwards.
-// Inlined, as `offer_one` is.
+// Inlined into each offer, which calls `egress_ports` then.
 #[inline(always)]
 fn judge(
     watch: &mut Watch,

@@ -112,7 +112,7 @@ fn offer_frames<R: Wait, I: Iterator<Item = Frame>, O: Sink<Outcome>, G: Gate>(
 }
 
 // Offers a frame at a port. Where it waits, no copy of it is lost.
-// Inlined, as `judge` and `next` of `gw run`'s inputs are: a frame's path has no calls then that only hand the frame on.
+// Inlined into the loop, which calls `offer` then.
 #[inline(always)]
 fn offer_one<R: Wait>(
     rt: &R,
