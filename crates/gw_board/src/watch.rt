@@ -59,7 +59,7 @@ pub struct Watch {
     shelf: Arc<Shelf, Global>,
     // The policies in force after the batches of `read`.
     set: PolicySet,
-    // What the tables of `set` said of the last frames.
+    // What those of `set` said of the last frames that judge by identifiers alone.
     verdicts: VerdictCache,
     read: Prefix,
     known: Prefix,
@@ -148,8 +148,8 @@ impl Watch {
     }
 
     /// The ports below a number, except `from`, at which a frame may leave that was taken at the port `from`, by the policies
-    /// that `with` would hand over. Tables are not asked again of an identifier that they judged lately. Refused, 77, it knows
-    /// what it knew.
+    /// that `with` would hand over. Those that judge by identifiers alone are not asked again of one that they judged lately.
+    /// Refused, 77, it knows what it knew.
     pub fn egress_ports(&mut self, ports: u8, frame: &Frame, from: u8) -> Result<PortSet, NoReading>
         requires { ports ≤ 16 }
         ensures board { self.new.board ≡ self.old.board }

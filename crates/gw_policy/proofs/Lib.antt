@@ -1,4 +1,5 @@
 pub mod Callers
+mod ByWord
 mod EgressPorts
 mod Judged
 mod PairLists

@@ -1,43 +1,23 @@
 -- Verdicts that are kept by the words of frames.
-use Rattle.std.proofs.Common.{◌≡◌, ℕ, ◌<◌, ◌==◌, nat_lt, Bool, true, false, ◌&&◌, ◌||◌, not, if◌then◌else◌, List, []}
-use Rattle.std.proofs.Common.{Option, Some, ◌≢◌, refl, sym, ap, ◌∙◌, subst, inl, inr}
-use Rattle.std.specs.Prelude.{option_map, unwrap_or}
-use Rattle.std.specs.List.{find}
+use Rattle.std.proofs.Common.{◌≡◌, ℕ, ◌<◌, ◌==◌, nat_lt, Bool, true, false, ◌&&◌, ◌||◌, not, List, []}
+use Rattle.std.proofs.Common.{◌≢◌, refl, sym, ap, ◌∙◌, subst, inl, inr}
 use Rattle.std.proofs.lemmas.Bool.{and_parts, cases_eq, false≢true, lt-ltb, ne_eqb}
-use Rattle.gw_ident.specs.Identifier.{is_extended_data, parameter_group, destination_address, source_address}
-use Rattle.gw_frame.specs.Record.{word_of}
+use Rattle.gw_frame.specs.Record.{IsRecord, word_of}
 use Rattle.gw_ledger.specs.Ports.{has_port, ports_below}
 use Rattle.gw_ledger.proofs.Callers.{has_port-ports_below, same_ports}
-use Rattle.gw_table.specs.Table.{Meaning, is_pass, lies_in, table_passes}
-use Rattle.gw_policy.specs.Filter.{Filter}
 use Rattle.gw_policy.specs.Batches.{PortPolicies, passes, policy_at}
 use Rattle.gw_policy.specs.Cached.{AreByWord, IsByWord}
 
--- ---- tables judge by the word
-
-table_by_word : (table : Meaning) (one other : List ℕ) (port : ℕ) → word_of one ≡ word_of other
-    → table_passes table one port ≡ table_passes table other port
-table_by_word table one other port same =
-    ap (λ word. is_pass (if is_extended_data word
-    then unwrap_or (option_map (λ rule. rule.action) (find (λ rule. lies_in (parameter_group word) rule.pgn
-    && lies_in (source_address word) rule.source && lies_in (destination_address word) rule.destination
-    && lies_in port rule.from) table.rules)) table.otherwise
-    else table.other)) same
-
-pub by_word : (filter : Filter) (table : Meaning) → filter.table ≡ Some table → IsByWord (Some filter)
-by_word filter table is one other port same = judged one ∙ table_by_word table one other port same ∙ sym (judged other)
-  where
-    judged : (frame : List ℕ) → passes (Some filter) frame port ≡ table_passes table frame port
-    judged frame = ap (λ (has : Option Meaning). passes (Some (record { code = filter.code; table = has })) frame port) is
+-- ---- ports whose policies judge by the word
 
 pub has_none : (ports : List ℕ) → ports ≡ [] → (port : ℕ) → has_port port ports ≢ true
 has_none ports none port has = false≢true (sym (ap (has_port port) none) ∙ has)
 
-pub one_more_table : (set : PortPolicies) (n : ℕ) (tables more : List ℕ) → AreByWord set tables → IsByWord (policy_at n set)
-    → ((port : ℕ) → has_port port more ≡ ((n == port) || has_port port tables)) → AreByWord set more
-one_more_table set n tables more before this members port has = elim (cases_eq n port) [
+pub one_more_by_word : (set : PortPolicies) (n : ℕ) (ports more : List ℕ) → AreByWord set ports → IsByWord (policy_at n set)
+    → ((port : ℕ) → has_port port more ≡ ((n == port) || has_port port ports)) → AreByWord set more
+one_more_by_word set n ports more before this members port has = elim (cases_eq n port) [
   | inl same ↦ subst (λ k. IsByWord (policy_at k set)) same this
-  | inr apart ↦ before port (sym (members port ∙ ap (λ b. b || has_port port tables) (ne_eqb n port apart)) ∙ has)
+  | inr apart ↦ before port (sym (members port ∙ ap (λ b. b || has_port port ports) (ne_eqb n port apart)) ∙ has)
 ]
 
 -- ---- what is kept, and what is judged anew
@@ -63,13 +43,13 @@ known_or_judged true false false = refl
 known_or_judged false passes true = refl
 known_or_judged false passes false = refl
 
-table_alone : (asked passes tables other : Bool) → (tables ≡ true → passes ≡ other)
-    → ((asked && passes) && tables) ≡ ((asked && tables) && other)
-table_alone true true true other same = same refl
-table_alone true false true other same = same refl
-table_alone true true false other same = refl
-table_alone true false false other same = refl
-table_alone false passes tables other same = refl
+by_word_alone : (asked passes by_word other : Bool) → (by_word ≡ true → passes ≡ other)
+    → ((asked && passes) && by_word) ≡ ((asked && by_word) && other)
+by_word_alone true true true other same = same refl
+by_word_alone true false true other same = same refl
+by_word_alone true true false other same = refl
+by_word_alone true false false other same = refl
+by_word_alone false passes by_word other same = refl
 
 -- a port of which nothing is known is one that is asked for
 pub unknown_within : (asked judged unknown : List ℕ)
@@ -112,20 +92,21 @@ module _ (asked judged passing kept unknown : List ℕ) (test : ℕ → Bool)
       ∙ ap (λ b. b && test port) (in_unknown port low))
       ∙ known_or_judged (has_port port judged) (test port) (has_port port asked))
 
--- what the tables said of one frame they say of each that has its word
-pub told_of_the_word : (set : PortPolicies) (asked tables all judged passing frame : List ℕ) (from : ℕ) → AreByWord set tables
+-- what policies by the word said of one record they say of each that has its word
+pub told_of_the_word : (set : PortPolicies) (asked by_word all judged passing frame : List ℕ) (from : ℕ) → AreByWord set by_word
+    → IsRecord frame
     → all ≡ ports_below 16 (λ port. has_port port asked && passes (policy_at port set) frame from)
-    → judged ≡ ports_below 16 (λ port. has_port port asked && has_port port tables)
-    → passing ≡ ports_below 16 (λ port. has_port port all && has_port port tables) → (other : List ℕ)
+    → judged ≡ ports_below 16 (λ port. has_port port asked && has_port port by_word)
+    → passing ≡ ports_below 16 (λ port. has_port port all && has_port port by_word) → (other : List ℕ) → IsRecord other
     → word_of other ≡ word_of frame
     → passing ≡ ports_below 16 (λ port. has_port port judged && passes (policy_at port set) other from)
-told_of_the_word set asked tables all judged passing frame from by_words all_is judged_is passing_is other same =
-    passing_is ∙ same_ports 16 (λ port. has_port port all && has_port port tables)
+told_of_the_word set asked by_word all judged passing frame from are is_frame all_is judged_is passing_is other is_other same =
+    passing_is ∙ same_ports 16 (λ port. has_port port all && has_port port by_word)
     (λ port. has_port port judged && passes (policy_at port set) other from)
     (λ port low.
-    ap (λ b. b && has_port port tables)
+    ap (λ b. b && has_port port by_word)
     (in_set all (λ port. has_port port asked && passes (policy_at port set) frame from) port all_is low)
-    ∙ table_alone (has_port port asked) (passes (policy_at port set) frame from) (has_port port tables)
-    (passes (policy_at port set) other from) (λ has. by_words port has frame other from (sym same))
+    ∙ by_word_alone (has_port port asked) (passes (policy_at port set) frame from) (has_port port by_word)
+    (passes (policy_at port set) other from) (λ has. are port has frame other from is_frame is_other (sym same))
     ∙ ap (λ b. b && passes (policy_at port set) other from)
-    (sym (in_set judged (λ port. has_port port asked && has_port port tables) port judged_is low)))
+    (sym (in_set judged (λ port. has_port port asked && has_port port by_word) port judged_is low)))

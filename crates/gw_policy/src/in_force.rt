@@ -44,8 +44,8 @@ pub struct PolicySet {
     groups: [PortSet; MAX_PORTS],
     // The ports that lead a group.
     leaders: PortSet,
-    // The ports whose policies are tables: those judge a frame by its identifier word alone.
-    tables: PortSet,
+    // The ports whose policies judge a frame by its identifier word alone.
+    by_word: PortSet,
     front: u32,
 }
 
@@ -61,7 +61,7 @@ impl Model for PolicySet {
     ghost invariant = { λ s. (length s.policies ≡ 16)
         × AreGroups (record { policies = map (option_map (λ policy. policy.value)) s.policies; front = s.front })
         s.groups s.leaders
-        × AreByWord (record { policies = map (option_map (λ policy. policy.value)) s.policies; front = s.front }) s.tables };
+        × AreByWord (record { policies = map (option_map (λ policy. policy.value)) s.policies; front = s.front }) s.by_word };
 }
 
 // One owner more of each policy. The copy of an `Arc` can be refused.
@@ -75,7 +75,7 @@ impl Clone for PolicySet {
             policies: self.policies.clone()?,
             groups: self.groups,
             leaders: self.leaders,
-            tables: self.tables,
+            by_word: self.by_word,
             front: self.front,
         })
     }
@@ -96,7 +96,7 @@ impl PolicySet {
             policies: Default::default(),
             groups: each_alone(),
             leaders: PortSet::below(MAX_PORTS as u8),
-            tables: PortSet::new(),
+            by_word: PortSet::new(),
             front: 0,
         }
     }
@@ -118,7 +118,7 @@ impl PolicySet {
     {
         self.put_all(batch)?;
         self.note_groups();
-        self.note_tables();
+        self.note_by_word();
         Ok(())
     }
 
@@ -150,27 +150,27 @@ impl PolicySet {
         self.leaders = leaders;
     }
 
-    // Notes which ports have tables, so that a frame's path need not judge each frame by them.
-    fn note_tables(&mut self)
+    // Notes which ports judge by identifiers alone, so that a frame's path need not judge each frame by their policies.
+    fn note_by_word(&mut self)
         ensures { self.new ≡ self.old }
     {
-        let mut tables = PortSet::new();
+        let mut by_word = PortSet::new();
         for port in 0..MAX_PORTS as u8 {
-            if self.has_table(port) {
-                tables.add(port);
+            if self.is_by_word(port) {
+                by_word.add(port);
             }
         }
-        self.tables = tables;
+        self.by_word = by_word;
     }
 
-    // Whether the policy of a port is a table.
-    fn has_table(&self, port: u8) -> bool
+    // Whether the policy of a port judges by identifiers alone.
+    fn is_by_word(&self, port: u8) -> bool
         ensures { IsTrue result → IsByWord (policy_at port self.now) }
     {
         let Some(policy) = self.get(port) else {
             return false;
         };
-        policy.is_table()
+        policy.is_by_word()
     }
 
     // The first port whose policy has the program of this one's: the port itself, where none before it has.
@@ -222,7 +222,8 @@ impl PolicySet {
         self.judge(ports, others(ports, from), frame, from)
     }
 
-    /// The same, where tables are not asked again of an identifier whose verdicts the cache keeps. What they say now is kept.
+    /// The same, where a policy that judges by identifiers alone is not asked again of one whose verdict the cache keeps. What it
+    /// says now is kept.
     pub fn cached_egress_ports(
         &self,
         cache: &mut VerdictCache,
@@ -236,7 +237,7 @@ impl PolicySet {
             ≡ ports_below ports (λ port. not (port == from) && passes (policy_at port self.now) frame.now from) }
         ensures cache { Keeps self.now cache.new }
     {
-        if self.tables.is_empty() {
+        if self.by_word.is_empty() {
             return self.egress_ports(ports, frame, from);
         }
         self.recall(cache, ports, others(ports, from), frame, from)
@@ -257,6 +258,8 @@ impl PolicySet {
         ensures ports { result ≡ ports_below 16 (λ port. has_port port asked && passes (policy_at port self.now) frame.now from) }
         ensures cache { Keeps self.now cache.new }
     {
+        // Policies that judge by the word are alike on records.
+        let _octets = frame.bytes();
         let known = cache.get(frame, from);
         let kept = known.passing.intersection(asked);
         let unknown = asked.difference(known.judged);
@@ -264,8 +267,8 @@ impl PolicySet {
             return kept;
         }
         let passing = kept.union(self.judge(ports, unknown, frame, from));
-        let judged = asked.intersection(self.tables);
-        cache.put(frame, from, judged, passing.intersection(self.tables));
+        let judged = asked.intersection(self.by_word);
+        cache.put(frame, from, judged, passing.intersection(self.by_word));
         passing
     }
 
@@ -297,7 +300,7 @@ impl PolicySet {
         if index < MAX_PORTS {
             self.groups = each_alone();
             self.leaders = PortSet::below(MAX_PORTS as u8);
-            self.tables = PortSet::new();
+            self.by_word = PortSet::new();
             self.policies[index] = Some(policy);
         }
     }

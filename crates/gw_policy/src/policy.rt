@@ -1,10 +1,12 @@
 //! A policy: a program, or a table with the program that it was compiled to.
 
 ghost use Rattle.std.specs.Prelude.{◌≡◌, Some, None, IfOk, IfErr, IsTrue, option_copied};
+ghost use Rattle.gw_insn.specs.Form.{form};
 ghost use Rattle.gw_table.specs.Emission.{emission};
+ghost use Rattle.gw_policy.specs.Cached.{TakesWordAlone, takes_word_alone};
 
 use gw_frame::Frame;
-use gw_insn::Insn;
+use gw_insn::{INTERFACE, Insn};
 use gw_machine::run;
 use gw_table::{FrameFields, IndexedTable, Table, compile};
 use gw_verify::Program;
@@ -74,13 +76,13 @@ impl Policy {
         self.table.as_ref()
     }
 
-    // Whether it is a table. Then it judges a frame by its identifier word alone.
-    pub(crate) fn is_table(&self) -> bool
+    // Whether it judges a frame by its identifier word alone: a table does, and a program that loads nothing else of a frame.
+    pub(crate) fn is_by_word(&self) -> bool
         ensures { IsTrue result → IsByWord (Some self.now) }
     {
         match &self.table {
             Some(_) => true,
-            None => false,
+            None => take_word_alone(self.program.code()),
         }
     }
 
@@ -113,6 +115,36 @@ impl Policy {
             Some(table) => table.passes(fields, from),
             None => run(&self.program, fields.frame(), from) != 0,
         }
+    }
+}
+
+// Whether instructions load nothing of a frame but its identifier word.
+fn take_word_alone(code: &[Insn]) -> bool
+    ensures { IsTrue result → TakesWordAlone code.now }
+{
+    for insn in code {
+        if !takes_word_alone(*insn) {
+            return false;
+        }
+    }
+    true
+}
+
+// Whether an instruction loads nothing of a frame but its identifier word, which is its first four octets.
+fn takes_word_alone(insn: Insn) -> bool
+    ensures { result ≡ takes_word_alone (form insn) }
+{
+    match insn {
+        Insn::LoadWord(k) => k == 0 || k == INTERFACE,
+        Insn::LoadHalf(k) => k <= 2,
+        Insn::LoadByte(k) => k <= 3,
+        Insn::LoadWordIndexed(_) => false,
+        Insn::LoadHalfIndexed(_) => false,
+        Insn::LoadByteIndexed(_) => false,
+        Insn::LoadLengthA => false,
+        Insn::LoadLengthX => false,
+        Insn::LoadNibble(_) => false,
+        _ => true,
     }
 }
 

@@ -1,7 +1,7 @@
-//! The verdicts of tables, kept by the identifiers of the last frames.
+//! The verdicts of policies that judge by identifiers alone, kept by the identifiers of the last frames.
 
 ghost use Rattle.std.specs.Prelude.{◌≡◌, ◌<◌, ℕ, List};
-ghost use Rattle.gw_frame.specs.Record.{word_of};
+ghost use Rattle.gw_frame.specs.Record.{IsRecord, word_of};
 ghost use Rattle.gw_policy.specs.Batches.{PortPolicies};
 ghost use Rattle.gw_policy.specs.Cached.{Keeps, ArePassing};
 
@@ -38,8 +38,8 @@ impl Verdicts {
     }
 }
 
-/// Which ports the tables of a set of policies allow to the last frames, by identifier and ingress port. A table judges by
-/// these alone, so a frame with the identifier of an earlier one need not be judged again.
+/// Which ports the policies of a set allow to the last frames, by identifier and ingress port. A table judges by these alone, and
+/// so does a program that loads nothing else. A frame with the identifier of an earlier one need not be judged again by them.
 #[derive(Drop)]
 pub struct VerdictCache {
     places: [Verdicts; PLACES],
@@ -67,6 +67,8 @@ impl VerdictCache {
     pub(crate) fn get(&self, frame: &Frame, from: u8) -> Verdicts
         ensures { (set : PortPolicies) → Keeps set self.now → ArePassing set frame.now from result.judged result.passing }
     {
+        // What is kept is told of records.
+        let _octets = frame.bytes();
         let word = frame.id().word();
         let kept = self.places[place_of(word)];
         if kept.word == word && kept.from == from {
@@ -79,7 +81,7 @@ impl VerdictCache {
     // Keeps which ports passed a frame that was taken at the port `from`, of those that were judged by its identifier.
     pub(crate) fn put(&mut self, frame: &Frame, from: u8, judged: PortSet, passing: PortSet)
         ensures { (set : PortPolicies) → Keeps set self.old
-            → ((other : List ℕ) → word_of other ≡ word_of frame.now → ArePassing set other from judged passing)
+            → ((other : List ℕ) → IsRecord other → word_of other ≡ word_of frame.now → ArePassing set other from judged passing)
             → Keeps set self.new }
     {
         let word = frame.id().word();

@@ -1,4 +1,5 @@
 use Rattle.std.proofs.Common.{refl, subst}
+use Rattle.gw_frame.specs.Record.{IsRecord}
 use Rattle.gw_policy.specs.Batches.{passes, policy_at}
 use Rattle.gw_policy.specs.Cached.{AreByWord}
 use Rattle.gw_policy.proofs.Recalling.{all_known, rest_judged, told_of_the_word, unknown_within}
@@ -26,7 +27,8 @@ returns-clause-ports c =
 pub returns-clause-cache : goal.returns-clause-cache
 returns-clause-cache c =
     c.put.ensures c.args.self.now c.requires.cache
-    (told_of_the_word c.args.self.now c.args.asked c.self.inside.tables c.union-passing.result c.intersection-judged.result
+    (told_of_the_word c.args.self.now c.args.asked c.self.inside.by_word c.union-passing.result c.intersection-judged.result
     c.intersection.result c.args.frame.now c.args.from
-    (subst (λ set. AreByWord set c.self.inside.tables) c.self.view_is c.self.invariant.2) (returns-clause-ports c)
+    (subst (λ set. AreByWord set c.self.inside.by_word) c.self.view_is c.self.invariant.2)
+    (subst IsRecord c.bytes-octets.ensures.octets c.bytes-octets.ensures.record) (returns-clause-ports c)
     c.intersection-judged.ensures c.intersection.ensures)

@@ -13,7 +13,7 @@ invariant_of-result c =
     let copied = policies_copied _ c.self.inside.policies c.in_ok-clone.field-0 (λ x y same. search rules)
     c.in_ok-clone.ensures.cases.whole in
     let by_word : List (Option Filter) → Type 0 =
-    λ policies. AreByWord (record { policies = policies; front = c.self.inside.front }) c.self.inside.tables in (
+    λ policies. AreByWord (record { policies = policies; front = c.self.inside.front }) c.self.inside.by_word in (
       c.in_ok-clone.ensures.cases.long,
       subst grouped (sym copied) c.self.invariant.1,
       subst by_word (sym copied) c.self.invariant.2,

@@ -3,4 +3,4 @@ use Rattle.gw_policy.specs.Cached.{Tells}
 use Rattle.gw_policy.proofs.verdict_cache.VerdictCache.new.Goals as goal
 
 pub returns : goal.returns
-returns c = λ set. All-replicate (Tells set) 1024 c.none.result (λ frame same. c.none.ensures set frame c.none.result.from)
+returns c = λ set. All-replicate (Tells set) 1024 c.none.result (λ frame is same. c.none.ensures set frame c.none.result.from)
