@@ -1,12 +1,15 @@
 -- Worked examples of policies in force.
 use Rattle.std.proofs.Common.{◌≡◌, ℕ, List, [], ◌∷◌, replicate, true, false, Some, None, refl}
 use Rattle.gw_insn.specs.declared.insn.Insn.TheVariants.{ReturnConstant}
+use Rattle.gw_insn.specs.Form.{Load, LoadIndexed, LoadLength, Word, Half, Byte, A}
+use Rattle.gw_insn.specs.Form as form
 use Rattle.gw_machine.specs.Answers.{answer_of, answer_within, steps_of}
 use Rattle.gw_table.specs.declared.table.Action.TheVariants.{Pass, Block}
 use Rattle.gw_table.specs.Table.{Meaning}
 use Rattle.gw_table.specs.Emission.{emission}
 use Rattle.gw_policy.specs.Filter.{Filter, filter_passes, filter_steps}
 use Rattle.gw_policy.specs.Batches.{Pair, in_force, passes, steps}
+use Rattle.gw_policy.specs.Cached.{takes_word_alone}
 
 -- EEC1 of an engine, and a frame with a standard identifier
 abbrev pub engine_speed : List ℕ
@@ -74,3 +77,34 @@ table_blocks_a_standard_frame = refl
 steps_of_a_table : filter_steps compiled engine_speed 0 ≡ 14
 unfolding steps_of answer_within
 steps_of_a_table = refl
+
+-- the identifier word, its PDU format and specific, and its source address; the payload's length is the next octet
+the_word : takes_word_alone (Load Word 0) ≡ true
+the_word = refl
+
+format_and_specific : takes_word_alone (Load Half 1) ≡ true
+format_and_specific = refl
+
+the_source_address : takes_word_alone (Load Byte 3) ≡ true
+the_source_address = refl
+
+the_length_octet : takes_word_alone (Load Byte 4) ≡ false
+the_length_octet = refl
+
+the_next_word : takes_word_alone (Load Word 4) ≡ false
+the_next_word = refl
+
+half_beyond_the_word : takes_word_alone (Load Half 3) ≡ false
+half_beyond_the_word = refl
+
+the_ingress_port : takes_word_alone (Load Word 0xfffff008) ≡ true
+the_ingress_port = refl
+
+an_octet_by_index : takes_word_alone (LoadIndexed Byte 0) ≡ false
+an_octet_by_index = refl
+
+the_record's_length : takes_word_alone (LoadLength A) ≡ false
+the_record's_length = refl
+
+an_answer : takes_word_alone (form.ReturnConstant 1) ≡ true
+an_answer = refl

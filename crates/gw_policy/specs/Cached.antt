@@ -17,7 +17,8 @@ IsByWord policy =
     (one other : List ℕ) (port : ℕ) → IsRecord one → IsRecord other → word_of one ≡ word_of other
     → passes policy one port ≡ passes policy other port
 
--- an instruction that loads nothing of a record but its first four octets, which are the word, or the port that took it
+-- an instruction that loads nothing but a record's first four octets, which are its word, or the port where it was taken: a word
+-- load at SKF_AD_OFF + SKF_AD_IFINDEX (Linux, include/uapi/linux/filter.h)
 abbrev pub takes_word_alone : Form → Bool
 takes_word_alone (Load Word k) = (k == 0) || (k == 0xfffff008)
 takes_word_alone (Load Half k) = nat_le k 2
