@@ -83,9 +83,7 @@ fn tell_character<W: fmt::Write>(
 
 // The first character of a line that no token has.
 fn bad_character(text: &[u8], line: usize) -> Option<&[u8]> {
-    let mut parts = Parts::of(text);
-    for _part in 0..text.len() {
-        let part = parts.next_part()?;
+    for part in Parts::of(text) {
         if part.line == line && part.token.first().is_some_and(|c| !is_token(*c)) {
             return Some(part.token);
         }
@@ -103,14 +101,7 @@ fn tell_word<W: fmt::Write>(f: &mut Formatter<W>, text: &[u8], line: usize) -> O
 
 // The word of the instruction on a line.
 fn word_on(text: &[u8], line: usize) -> Option<Part> {
-    let mut parts = Parts::of(text);
-    for _part in 0..text.len() {
-        let part = parts.next_part()?;
-        if part.line == line && part.kind == Kind::Word {
-            return Some(part);
-        }
-    }
-    None
+    Parts::of(text).find(|part| part.line == line && part.kind == Kind::Word)
 }
 
 fn tell_operands<W: fmt::Write>(
@@ -153,19 +144,13 @@ fn operands_of(word: &[u8]) -> &'static str {
 
 // What is written from the first operand of a line to the last.
 fn operands_on(text: &[u8], line: usize) -> &[u8] {
-    let mut parts = Parts::of(text);
     let mut from = text.len();
     let mut to = text.len();
-    for _part in 0..text.len() {
-        let Some(part) = parts.next_part() else {
-            break;
-        };
+    for part in Parts::of(text) {
         if part.line == line && part.kind == Kind::Operand {
-            from = from.min(text.len().saturating_sub(part.left));
-            to = text
-                .len()
-                .saturating_sub(part.left)
-                .saturating_add(part.token.len());
+            let start = text.len().saturating_sub(part.left);
+            from = from.min(start);
+            to = start.saturating_add(part.token.len());
         }
     }
     text.get(from..to).unwrap_or(b"")
@@ -192,10 +177,8 @@ fn tell_number<W: fmt::Write>(f: &mut Formatter<W>, text: &[u8], line: usize) ->
 
 // The first number of a line that is malformed or out of range, and whether it stands behind a `-`.
 fn bad_number(text: &[u8], line: usize) -> Option<(&[u8], bool)> {
-    let mut parts = Parts::of(text);
     let mut is_negative = false;
-    for _part in 0..text.len() {
-        let part = parts.next_part()?;
+    for part in Parts::of(text) {
         if part.line == line && is_number(part.token) && !is_in_range(part.token, is_negative) {
             return Some((part.token, is_negative));
         }
@@ -226,9 +209,7 @@ fn tell_label<W: fmt::Write>(
 
 // The first label of a line that is defined before, and on which line.
 fn label_again(text: &[u8], line: usize) -> Option<(&[u8], usize)> {
-    let mut parts = Parts::of(text);
-    for _part in 0..text.len() {
-        let part = parts.next_part()?;
+    for part in Parts::of(text) {
         if part.line == line && part.kind == Kind::Label {
             let first = definition_of(text, part.token)?;
             if first.left > part.left {
@@ -241,14 +222,7 @@ fn label_again(text: &[u8], line: usize) -> Option<(&[u8], usize)> {
 
 // The first label of a name.
 fn definition_of<'a>(text: &'a [u8], name: &[u8]) -> Option<Part<'a>> {
-    let mut parts = Parts::of(text);
-    for _part in 0..text.len() {
-        let part = parts.next_part()?;
-        if part.kind == Kind::Label && part.token == name {
-            return Some(part);
-        }
-    }
-    None
+    Parts::of(text).find(|part| part.kind == Kind::Label && part.token == name)
 }
 
 fn tell_unknown<W: fmt::Write>(
@@ -306,9 +280,7 @@ enum Unreached {
 fn bad_target(text: &[u8], line: usize) -> Option<(&[u8], Unreached)> {
     let jump = word_on(text, line)?;
     let mut is_label_next = jump.token == b"jmp".as_slice() || jump.token == b"ja".as_slice();
-    let mut parts = Parts::of(text);
-    for _part in 0..text.len() {
-        let part = parts.next_part()?;
+    for part in Parts::of(text) {
         if part.line != line || part.kind != Kind::Operand {
             continue;
         }
@@ -340,15 +312,7 @@ fn why_unreached(text: &[u8], from: usize, name: &[u8]) -> Option<Unreached> {
 
 // How many instructions begin between two places.
 fn words_between(text: &[u8], from: usize, to: usize) -> usize {
-    let mut parts = Parts::of(text);
-    let mut count: usize = 0;
-    for _part in 0..text.len() {
-        let Some(part) = parts.next_part() else {
-            break;
-        };
-        if part.kind == Kind::Word && part.left < from && part.left > to {
-            count = count.saturating_add(1);
-        }
-    }
-    count
+    Parts::of(text)
+        .filter(|part| part.kind == Kind::Word && part.left < from && part.left > to)
+        .count()
 }

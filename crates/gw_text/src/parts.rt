@@ -2,6 +2,7 @@
 //! promised: `assemble` reads by `lines` and `tokens`.
 
 ghost use Rattle.std.specs.Prelude.{◌≤◌, ◌<◌, length};
+ghost use Rattle.std.specs.Iterator.{at_most};
 
 use crate::lines::line_end;
 use crate::tokens::{is_name, is_token, is_word, name_end};
@@ -46,8 +47,14 @@ impl<'a> Parts<'a> {
             before: Kind::Colon,
         }
     }
+}
 
-    pub fn next_part(&mut self) -> Option<Part<'a>> {
+impl<'a> Iterator for Parts<'a> {
+    type Item = Part<'a>;
+
+    ghost remaining = { λ parts. at_most (length parts.rest.now) };
+
+    fn next(&mut self) -> Option<Part<'a>> {
         let (rest, line) = past_blanks(self.rest, self.line);
         if rest.is_empty() {
             return None;
@@ -78,19 +85,20 @@ fn is_colon_next(behind: &[u8], line: usize) -> bool {
 }
 
 // What follows the blanks and comments at the front, and its line.
-fn past_blanks<'a>(text: &'a [u8], line: usize) -> (&'a [u8], usize) {
+fn past_blanks<'a>(text: &'a [u8], line: usize) -> (&'a [u8], usize)
+    ensures { length result.0.now ≤ length text.now }
+{
     let mut rest = text;
     let mut line = line;
-    for _blank in 0..text.len() {
+    'blanks: loop {
         let len = blank_len(rest);
         if len == 0 {
-            break;
+            return (rest, line);
         }
         let (blank, behind) = rest.split_at(len);
         line = line.saturating_add(line_ends(blank));
         rest = behind;
     }
-    (rest, line)
 }
 
 // How long the blank or the comment at the front is, or 0.
@@ -118,19 +126,14 @@ fn comment_len(rest: &[u8]) -> usize
 }
 
 fn line_ends(blank: &[u8]) -> usize {
-    let mut count: usize = 0;
-    for c in blank {
-        if *c == b'\n' {
-            count = count.saturating_add(1);
-        }
-    }
-    count
+    blank.iter().filter(|c| **c == b'\n').count()
 }
 
 // How long the token at the front is. A character that no token has counts as one, and so does a `/*`.
 fn token_len(rest: &[u8]) -> usize
     requires { 0 < length rest.now }
-    ensures { result ≤ length rest.now }
+    ensures some { 0 < result }
+    ensures within { result ≤ length rest.now }
 {
     match rest {
         [b'/', b'*', ..] => 2,
@@ -143,7 +146,8 @@ fn token_len(rest: &[u8]) -> usize
 // How long the character at the front is in UTF-8.
 fn character_len(rest: &[u8]) -> usize
     requires { 0 < length rest.now }
-    ensures { result ≤ length rest.now }
+    ensures some { 0 < result }
+    ensures within { result ≤ length rest.now }
 {
     for at in 1..rest.len() {
         if rest[at] < 0x80 || rest[at] >= 0xc0 {
