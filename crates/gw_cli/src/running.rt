@@ -9,7 +9,7 @@ use crate::dispatch::answer_arguments;
 use gw_arguments::{RunRequest, read_run};
 use gw_io::Tried;
 use gw_run::{
-    NamedInterface, NoObserver, Observer, ProgressOnStderr, Shown, Taking, Waiting, forward_files,
+    NamedInterface, Observer, ProgressOnStderr, Shown, Taking, Waiting, forward_files,
     forward_named,
 };
 use std::alloc::Global;
@@ -65,7 +65,8 @@ where
     }
 }
 
-/// Forwards as the arguments ask for it, and tells how far it is where they ask for that or a person watches.
+/// Forwards as the arguments ask for it. Tells how far it is where they ask for that or a person watches, and lets copies wait
+/// where they ask for that. A run that tells nothing has the same observer, or the program would have each run's code twice.
 fn run_asked<R, I, W, F>(
     rt: &R,
     alloc: Global,
@@ -90,46 +91,11 @@ where
         (has_failed input.new) (unended_reads input.old input.new)
         (W.contents (inner_of output.old)) (W.contents (inner_of output.new)) (has_failed output.new) result }
 {
-    if run.progress || rt.is_watched() {
-        let meter = ProgressOnStderr::new(rt);
-        run_held(rt, alloc, run, &meter, input, output, faults)
-    } else {
-        run_held(rt, alloc, run, &NoObserver, input, output, faults)
-    }
-}
-
-/// Forwards as the arguments ask for it, and lets copies wait where they ask for that.
-fn run_held<R, G, I, W, F>(
-    rt: &R,
-    alloc: Global,
-    run: &RunRequest,
-    observer: &G,
-    input: &mut Tried<I>,
-    output: &mut Tried<W>,
-    faults: &mut Tried<F>,
-) -> u8
-where
-    R: Threads + Wait + Sync + Files,
-    R::File: Send,
-    G: Observer,
-    I: Read,
-    W: Write,
-    F: Write,
-    requires sources { vec_len run.now.sources ≡ run.now.limits.ports }
-    requires inputs { vec_len run.now.inputs ≡ run.now.limits.ports }
-    requires unread { reads_of input.old ≡ 0 }
-    requires input { has_failed input.old ≡ false }
-    requires output { has_failed output.old ≡ false }
-    requires loses { G.waits ≡ false }
-    ensures { DoesRun run.now
-        (I.remaining (inner_of input.old)) (I.remaining (inner_of input.new))
-        (has_failed input.new) (unended_reads input.old input.new)
-        (W.contents (inner_of output.old)) (W.contents (inner_of output.new)) (has_failed output.new) result }
-{
+    let meter = ProgressOnStderr::new(rt, run.progress || rt.is_watched());
     if run.waits {
-        run_observed(rt, alloc, run, &Waiting(observer), input, output, faults)
+        run_observed(rt, alloc, run, &Waiting(&meter), input, output, faults)
     } else {
-        run_observed(rt, alloc, run, observer, input, output, faults)
+        run_observed(rt, alloc, run, &meter, input, output, faults)
     }
 }
 

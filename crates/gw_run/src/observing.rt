@@ -79,10 +79,11 @@ impl<G: Observer> Observer for Waiting<'_, G> {
     }
 }
 
-/// Tells a person on stderr, once a second, how many frames were offered, and of how many where that is known.
+/// Tells a person on stderr, once a second, how many frames were offered, and of how many where that is known; or tells nothing.
 #[derive(Drop)]
 pub struct ProgressOnStderr<'a, R> {
     rt: &'a R,
+    /// None where nothing is told.
     start: Option<Instant>,
     /// How many there are; 0 where that is not known.
     frames: AtomicUsize,
@@ -91,11 +92,15 @@ pub struct ProgressOnStderr<'a, R> {
 }
 
 impl<'a, R: Clock> ProgressOnStderr<'a, R> {
-    /// An observer that begins now.
-    pub fn new(rt: &'a R) -> ProgressOnStderr<'a, R> {
+    /// An observer that begins now, and whether it tells what it sees.
+    pub fn new(rt: &'a R, is_telling: bool) -> ProgressOnStderr<'a, R> {
         ProgressOnStderr {
             rt,
-            start: Instant::now(rt).ok(),
+            start: if is_telling {
+                Instant::now(rt).ok()
+            } else {
+                None
+            },
             frames: AtomicUsize::new(0),
             done: AtomicUsize::new(0),
             second: AtomicU64::new(0),
