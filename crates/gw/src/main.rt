@@ -8,19 +8,16 @@ use std::io::{ErrorKind, Write};
 use std::process::ExitCode;
 use std::{env, io};
 
+const NO_MEMORY: &str = "memory was refused";
+
 fn main(rt: HostRuntime) -> ExitCode {
     let mut faults = Tried::new(rt.stderr());
-    let line = match env::args(&rt) {
-        Ok(line) => line,
+    let arguments = match arguments(&rt) {
+        Ok(arguments) => arguments,
         Err(why) => {
-            let _ = writeln!(faults, "gw: {}", told(&why));
+            let _ = writeln!(faults, "gw: {why}");
             return ExitCode::from(2);
         }
-    };
-    let arguments: Result<Vec<String>, AllocError> = line.skip(1).collect(rt.alloc());
-    let Ok(arguments) = arguments else {
-        let _ = writeln!(faults, "gw: memory was refused");
-        return ExitCode::from(2);
     };
     let mut input = Tried::new(rt.stdin());
     let mut output = Tried::new(rt.stdout());
@@ -52,6 +49,18 @@ fn main(rt: HostRuntime) -> ExitCode {
     ExitCode::from(status)
 }
 
+/// The arguments without the program's name, or why they cannot be read.
+fn arguments(rt: &HostRuntime) -> Result<Vec<String>, &'static str> {
+    let line = match env::args(rt) {
+        Ok(line) => line,
+        Err(why) => return Err(told(&why)),
+    };
+    match line.skip(1).collect(rt.alloc()) {
+        Ok(arguments) => Ok(arguments),
+        Err(AllocError) => Err(NO_MEMORY),
+    }
+}
+
 /// Tells by which error a stream failed, if one did.
 fn tell_error<F: Write>(stream: &str, error: Option<io::Error>, faults: &mut Tried<F>) {
     if let Some(error) = error {
@@ -62,7 +71,7 @@ fn tell_error<F: Write>(stream: &str, error: Option<io::Error>, faults: &mut Tri
 /// Why the arguments cannot be read, as it is told.
 fn told(why: &io::Error) -> &'static str {
     match why.kind() {
-        ErrorKind::OutOfMemory => "memory was refused",
+        ErrorKind::OutOfMemory => NO_MEMORY,
         _ => "an argument is no text: it is not UTF-8",
     }
 }
