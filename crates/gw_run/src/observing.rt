@@ -92,7 +92,7 @@ pub struct ProgressOnStderr<'a, R> {
 }
 
 impl<'a, R: Clock> ProgressOnStderr<'a, R> {
-    /// An observer that begins now, and whether it tells what it sees.
+    /// An observer that begins now. Without `is_telling` it writes nothing.
     pub fn new(rt: &'a R, is_telling: bool) -> ProgressOnStderr<'a, R> {
         ProgressOnStderr {
             rt,
